@@ -1,0 +1,12 @@
+pub mod Letter
+pub mod Tree
+pub mod Refusals
+pub mod Text
+pub mod Table
+pub mod Load
+pub mod Fields
+pub mod Scans
+pub mod Cuts
+pub mod Scanning
+pub mod Parsing
+pub mod Naming

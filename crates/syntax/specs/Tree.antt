@@ -1,0 +1,17 @@
+-- The labelled tree of a pattern: 001's regular expression, each node marked with its index in the table (01: its place) and its account.
+use mathlib.Core.Bool.{Bool}
+use Prim.Native.Nat.{ℕ}
+
+-- what a node is marked with; account 0 stands for none
+pub record Label : Type 0 where
+  pub index : ℕ
+  pub account : ℕ
+
+pub data Tree : Type 0 where
+  nothing : Label → Tree
+  letter : Label → ℕ → Tree
+  range : Label → (low high : ℕ) → Tree
+  seq : Label → Tree → Tree → Tree
+  alt : Label → Tree → Tree → Tree
+  -- `again` is the bit that means another round: false, written 0, for kind `K`
+  star : Label → (again : Bool) → Tree → Tree

@@ -1,0 +1,80 @@
+// Patterns: the table of nodes, loading one from its text, and the test of the pattern rules.
+ghost use mathlib.Core.Path.{_≡_};
+ghost use Rattle.syntax.specs.Table.{no-lines};
+
+mod field; // field.rt: one field of a text and its value
+mod naming; // naming.rt: which nodes are named as parts
+mod scan; // scan.rt: one line of a text
+
+
+// A leaf of the pattern.
+pub enum Leaf {
+    Nothing,
+    Letter(u8),
+    Range(u8, u8),
+}
+
+// A node. The parts of one that is no leaf are indices into the table.
+pub enum Node {
+    Leaf(Leaf),
+    Sequence(u8, u8),
+    Alternative(u8, u8),
+    Star(u8),
+}
+
+// A line of the table: a node and its account, 0 for none.
+pub struct Line {
+    pub account: u8,
+    pub node: Node,
+}
+
+// The table of a pattern. Lines at or past the count mean nothing.
+pub struct Pattern {
+    pub count: usize,
+    pub lines: [Line; 64],
+}
+
+impl Pattern {
+    pub const MAX_LINES: usize = 64;
+    pub const MAX_LETTERS: usize = 3600;
+    pub const MAX_CODE_BYTES: usize = 65536;
+    pub const FIRST_LETTER: u8 = 33;
+    pub const LAST_LETTER: u8 = 126;
+
+    // A table of no lines, which obeys no pattern rules: what a refused load gives.
+    pub fn new() -> Pattern
+        ensures { λ r. ⌜ r ≡ no-lines ⌝ }
+    {
+        let node = Node::Leaf(Leaf::Nothing);
+        let line = Line { account: 0, node };
+        Pattern {
+            count: 0,
+            lines: [line; Pattern::MAX_LINES],
+        }
+    }
+}
+
+// Why a service refuses, with the value returned beside the cause's number.
+pub enum Refusal {
+    LineForm(u32),
+    Tree(u32),
+    TapeTooLong,
+    TapeByte(u32),
+    Unreadable,
+    WordsTooShort(u32),
+    CodeTooShort(u32),
+    NotACode,
+    TapeTooShort(u32),
+    NoSuchVisit,
+}
+
+// What loading answers: the line count, or why the text is refused.
+pub enum Outcome {
+    Lines(u32),
+    Refused(Refusal),
+}
+
+pub struct Loaded {
+    pub pattern: Pattern,
+    pub outcome: Outcome,
+}

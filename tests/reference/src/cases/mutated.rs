@@ -1,0 +1,162 @@
+//! Random cases with a fixed seed: good texts with a few bytes or lines
+//! changed, and good patterns of 1 to 64 nodes.
+
+use super::Case;
+use crate::patterns::{random, text_of, Taste, LISTING, P1, P2, P3, P4, P5};
+use crate::prng::Prng;
+use crate::table::Kind;
+
+/// Bytes that turn one field into another more often than any byte would.
+const LIKELY_BYTES: &[u8] = b"0123456789012345\t\n\t\nELRSAKe-ab +\r~!";
+
+const ANY_PATTERN: Taste = Taste {
+    leaves: &[Kind::Nothing, Kind::Letter, Kind::Letter, Kind::Range],
+    inner: &[Kind::Sequence, Kind::Sequence, Kind::Either, Kind::Rounds],
+    letters: b"!0123456789AWabz~",
+    accounts: true,
+};
+
+pub fn mutations() -> Vec<Case> {
+    let mut rng = Prng::new(0x0001_1093);
+    let mut cases = Vec::new();
+    for index in 0..160 {
+        let base = good_text(&mut rng, index);
+        let changes = 1 + rng.below(3);
+        let mut text = base;
+        for _ in 0..changes {
+            text = change(&mut rng, text);
+        }
+        cases.push(Case {
+            name: format!("mutation {index}"),
+            text,
+            expected: None,
+        });
+    }
+    cases
+}
+
+/// Good patterns of which some named places were changed. The form stays
+/// good, so these try the order among tree faults.
+pub fn changed_trees() -> Vec<Case> {
+    let mut rng = Prng::new(0x0003_0064);
+    let mut cases = Vec::new();
+    for index in 0..60 {
+        let count = 3 + rng.below(if index % 3 == 0 { 62 } else { 10 });
+        let mut table = random(&mut rng, count, &ANY_PATTERN);
+        for _ in 0..1 + rng.below(3) {
+            let node = &mut table.nodes[rng.below(count)];
+            let place = match rng.below(4) {
+                0 => rng.below(64) as u64,
+                _ => rng.below(count) as u64,
+            };
+            match (node.kind, rng.below(2)) {
+                (Kind::Sequence | Kind::Either, 0) => node.y = place,
+                (Kind::Sequence | Kind::Either | Kind::Rounds, _) => node.x = place,
+                // A leaf becomes a `K`: its line now names a place.
+                (Kind::Nothing | Kind::Letter | Kind::Range, _) => {
+                    node.kind = Kind::Rounds;
+                    node.x = place;
+                }
+            }
+        }
+        cases.push(Case {
+            name: format!("changed tree {index}"),
+            text: text_of(&table),
+            expected: None,
+        });
+    }
+    cases
+}
+
+pub fn good_patterns() -> Vec<Case> {
+    let mut rng = Prng::new(0x0002_3600);
+    let mut cases = Vec::new();
+    for index in 0..44 {
+        let count = match index {
+            0..=3 => index + 1,
+            40..=43 => index + 21,
+            _ => 1 + rng.below(64),
+        };
+        let text = text_of(&random(&mut rng, count, &ANY_PATTERN));
+        let expected = Some((0, count as u64));
+        cases.push(Case {
+            name: format!("good pattern {index}"),
+            text,
+            expected,
+        });
+    }
+    cases
+}
+
+fn good_text(rng: &mut Prng, index: usize) -> Vec<u8> {
+    match index % 8 {
+        0 => LISTING.into(),
+        1 => (*rng.pick(&[P1, P2, P3, P4, P5])).into(),
+        2 => text_of(&random(rng, 64, &ANY_PATTERN)),
+        3 => text_of(&random(rng, 63, &ANY_PATTERN)),
+        _ => {
+            let count = 2 + rng.below(14);
+            text_of(&random(rng, count, &ANY_PATTERN))
+        }
+    }
+}
+
+fn change(rng: &mut Prng, mut text: Vec<u8>) -> Vec<u8> {
+    if text.is_empty() {
+        return vec![*rng.pick(LIKELY_BYTES)];
+    }
+    let at = rng.below(text.len());
+    match rng.below(9) {
+        // One bit of one byte.
+        0 => text[at] ^= 1 << rng.below(8),
+        1 => text[at] = *rng.pick(LIKELY_BYTES),
+        2 => {
+            text.remove(at);
+        }
+        3 => text.insert(at, *rng.pick(LIKELY_BYTES)),
+        4 => {
+            return with_lines(rng, text, |rng, lines| {
+                let (one, other) = (rng.below(lines.len()), rng.below(lines.len()));
+                lines.swap(one, other);
+            })
+        }
+        5 => {
+            return with_lines(rng, text, |rng, lines| {
+                let copied = lines[rng.below(lines.len())].clone();
+                let index = rng.below(lines.len() + 1);
+                lines.insert(index, copied);
+            })
+        }
+        6 => {
+            return with_lines(rng, text, |rng, lines| {
+                // The last lines fall away: what they named is named no more.
+                let kept = 1 + rng.below(lines.len());
+                lines.truncate(kept);
+            });
+        }
+        // A digit for a digit: the form often stays good, the tree does not.
+        _ => {
+            let digits: Vec<usize> = (0..text.len())
+                .filter(|&index| text[index].is_ascii_digit())
+                .collect();
+            if !digits.is_empty() {
+                let index = *rng.pick(&digits);
+                text[index] = b'0' + rng.below(10) as u8;
+            }
+        }
+    }
+    text
+}
+
+fn with_lines(
+    rng: &mut Prng,
+    text: Vec<u8>,
+    change: impl Fn(&mut Prng, &mut Vec<Vec<u8>>),
+) -> Vec<u8> {
+    let mut lines: Vec<Vec<u8>> = text
+        .split_inclusive(|&byte| byte == 10)
+        .map(<[u8]>::to_vec)
+        .collect();
+    change(rng, &mut lines);
+    lines.concat()
+}

@@ -1,0 +1,20 @@
+//! An outside reader of meter tapes, written from the documents alone, that
+//! the verified reader is compared with. It favours the plain definition
+//! over speed; see README.md for what was decided where room was left.
+
+pub mod automaton;
+pub mod brute;
+pub mod cases;
+pub mod code;
+pub mod hex;
+pub mod listing;
+pub mod load;
+pub mod memo;
+pub mod patterns;
+pub mod positions;
+pub mod prng;
+pub mod services;
+pub mod table;
+pub mod two_pass;
+pub mod value;
+pub mod walk;

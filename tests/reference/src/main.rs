@@ -1,0 +1,75 @@
+//! The subcommands; everything they print is made in the library.
+
+use std::io::{self, BufWriter, Write};
+use std::path::Path;
+use std::process::ExitCode;
+use wumbyra_reference::{cases, hex, listing, load};
+
+fn main() -> ExitCode {
+    let arguments: Vec<String> = std::env::args().skip(1).collect();
+    let words: Vec<&str> = arguments.iter().map(String::as_str).collect();
+    let mut out = BufWriter::new(io::stdout().lock());
+    let done = match words.as_slice() {
+        ["load-cases"] => load_cases(&mut out),
+        ["load-names"] => load_names(&mut out),
+        ["load-expected"] => load_expected(&mut out),
+        ["listing", folder] => print_listing(Path::new(folder), &mut out),
+        _ => {
+            eprintln!("usage: reference load-cases | load-names | load-expected | listing FOLDER");
+            return ExitCode::from(2);
+        }
+    };
+    match done.and_then(|()| out.flush()) {
+        Ok(()) => ExitCode::SUCCESS,
+        Err(error) => {
+            eprintln!("reference: {error}");
+            ExitCode::FAILURE
+        }
+    }
+}
+
+/// One line a case: the text's bytes in lower-case hexadecimal.
+fn load_cases(out: &mut impl Write) -> io::Result<()> {
+    for case in cases::all() {
+        writeln!(out, "{}", hex::of_bytes(&case.text))?;
+    }
+    Ok(())
+}
+
+/// The names of the same cases in the same order, for a person to look up.
+fn load_names(out: &mut impl Write) -> io::Result<()> {
+    for case in cases::all() {
+        writeln!(out, "{}", case.name)?;
+    }
+    Ok(())
+}
+
+/// Number and value for each case, and after a success its nodes.
+fn load_expected(out: &mut impl Write) -> io::Result<()> {
+    for case in cases::all() {
+        match load::load(&case.text) {
+            Err(refusal) => writeln!(out, "{}\t{}", refusal.number, refusal.value)?,
+            Ok(table) => {
+                writeln!(out, "0\t{}", table.count)?;
+                for node in table.lines() {
+                    let kind = node.kind.letter();
+                    writeln!(out, "{kind}\t{}\t{}\t{}", node.account, node.x, node.y)?;
+                }
+            }
+        }
+    }
+    Ok(())
+}
+
+/// Both files are read before anything is printed: without one of them
+/// nothing goes to standard output.
+fn print_listing(folder: &Path, out: &mut impl Write) -> io::Result<()> {
+    let pattern = content(&folder.join("pattern.tsv"))?;
+    let tape = content(&folder.join("tape.txt"))?;
+    out.write_all(listing::listing(&pattern, &tape).as_bytes())
+}
+
+fn content(path: &Path) -> io::Result<Vec<u8>> {
+    std::fs::read(path)
+        .map_err(|error| io::Error::new(error.kind(), format!("{}: {error}", path.display())))
+}

@@ -1,0 +1,103 @@
+//! Good patterns: those of 01 and random ones, and their texts.
+
+use crate::prng::Prng;
+use crate::table::{Kind, Node, Table};
+
+/// The text that loads as this table.
+pub fn text_of(table: &Table) -> Vec<u8> {
+    let mut text = Vec::new();
+    for (line, node) in table.lines().iter().enumerate() {
+        let account = match node.account {
+            0 => "-".to_string(),
+            digit => digit.to_string(),
+        };
+        let start = format!("{line}\t{}\t{account}", node.kind.letter());
+        text.extend_from_slice(start.as_bytes());
+        match node.kind {
+            Kind::Nothing => {}
+            Kind::Letter => text.extend_from_slice(&[9, node.x as u8]),
+            Kind::Range => text.extend_from_slice(&[9, node.x as u8, 9, node.y as u8]),
+            Kind::Sequence | Kind::Either | Kind::Rounds => {
+                for part in node.parts() {
+                    text.extend_from_slice(format!("\t{part}").as_bytes());
+                }
+            }
+        }
+        text.push(10);
+    }
+    text
+}
+
+/// The pattern of the listing in 01.
+pub const LISTING: &str =
+    "0\tR\t-\t0\t9\n1\tL\t-\tW\n2\tS\t9\t1\t0\n3\tR\t1\t0\t9\n4\tA\t-\t2\t3\n5\tK\t-\t4\n";
+/// P1: (a|e)*
+pub const P1: &str = "0\tL\t-\ta\n1\tE\t-\n2\tA\t-\t0\t1\n3\tK\t-\t2\n";
+/// P2: (e|a)*
+pub const P2: &str = "0\tE\t-\n1\tL\t-\ta\n2\tA\t-\t0\t1\n3\tK\t-\t2\n";
+/// P3: (a*b*)*
+pub const P3: &str = "0\tL\t-\ta\n1\tK\t-\t0\n2\tL\t-\tb\n3\tK\t-\t2\n4\tS\t-\t1\t3\n5\tK\t-\t4\n";
+/// P4: (a|ab)(b|e)
+pub const P4: &str = "0\tL\t-\ta\n1\tL\t-\ta\n2\tL\t-\tb\n3\tS\t-\t1\t2\n4\tA\t-\t0\t3\n\
+5\tL\t-\tb\n6\tE\t-\n7\tA\t-\t5\t6\n8\tS\t-\t4\t7\n";
+/// P5: a*a
+pub const P5: &str = "0\tL\t-\ta\n1\tK\t-\t0\n2\tL\t-\ta\n3\tS\t-\t1\t2\n";
+
+/// What random nodes are made of; a kind or letter that stands more often
+/// in its list comes up more often.
+pub struct Taste<'a> {
+    pub leaves: &'a [Kind],
+    pub inner: &'a [Kind],
+    pub letters: &'a [u8],
+    /// Whether nodes get accounts at all.
+    pub accounts: bool,
+}
+
+/// A random good table of exactly `count` lines. Places not yet named are
+/// kept in a list; a line is a leaf only while the lines after it can still
+/// bring that list down to the root alone. Parts are drawn from anywhere in
+/// the list, so the places of a part need not be next to its line.
+pub fn random(rng: &mut Prng, count: usize, taste: &Taste) -> Table {
+    let mut nodes: Vec<Node> = Vec::new();
+    let mut unnamed: Vec<u64> = Vec::new();
+    for line in 0..count {
+        let left = count - line;
+        let mut kinds: Vec<Kind> = Vec::new();
+        if unnamed.len() < left {
+            kinds.extend_from_slice(taste.leaves);
+        }
+        for &kind in taste.inner {
+            let fits = match kind {
+                Kind::Rounds => !unnamed.is_empty() && unnamed.len() <= left,
+                _ => unnamed.len() >= 2,
+            };
+            if fits {
+                kinds.push(kind);
+            }
+        }
+        let kind = *rng.pick(&kinds);
+        let account = match taste.accounts && rng.below(2) == 0 {
+            true => 1 + rng.below(9) as u64,
+            false => 0,
+        };
+        let (x, y) = match kind {
+            Kind::Nothing => (0, 0),
+            Kind::Letter => (u64::from(*rng.pick(taste.letters)), 0),
+            Kind::Range => {
+                let one = u64::from(*rng.pick(taste.letters));
+                let other = u64::from(*rng.pick(taste.letters));
+                (one.min(other), one.max(other))
+            }
+            Kind::Sequence | Kind::Either => (take(rng, &mut unnamed), take(rng, &mut unnamed)),
+            Kind::Rounds => (take(rng, &mut unnamed), 0),
+        };
+        nodes.push(Node::new(kind, account, x, y));
+        unnamed.push(line as u64);
+    }
+    Table::of_nodes(&nodes)
+}
+
+fn take(rng: &mut Prng, unnamed: &mut Vec<u64>) -> u64 {
+    let index = rng.below(unnamed.len());
+    unnamed.remove(index)
+}

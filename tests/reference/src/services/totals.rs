@@ -1,0 +1,38 @@
+//! Totalling litres.
+
+use super::judge_length;
+use crate::table::{judge, Refusal, Table};
+use crate::walk::{walk, NotWhole, Step};
+
+/// Totalling litres: 2, 8, 3. Gives the totals of accounts 0 to 9; a caller
+/// that needs totals beside a refusal takes ten times 0.
+pub fn totals(table: &Table, code: &[u8], bits: u64) -> Result<[u64; 10], Refusal> {
+    judge(table)?;
+    let mut totals = [0; 10];
+    let mut letters = 0;
+    // The accounts of the nodes around the present one, the innermost last.
+    let mut accounts: Vec<u64> = Vec::new();
+    walk(table, code, bits, &mut |step| match step {
+        Step::Enter(place) => {
+            // "the account of the innermost node, the leaf included, that
+            // has one; without one, to account 0"
+            let around = accounts.last().copied().unwrap_or(0);
+            let own = table.node(place).account;
+            accounts.push(if own == 0 { around } else { own });
+        }
+        Step::Leave(_) => {
+            accounts.pop();
+        }
+        Step::Letter(letter) => {
+            letters += 1;
+            // "Letters `0` to `9` count 0 to 9 litres, others none."
+            if letter.is_ascii_digit() {
+                let account = accounts.last().copied().unwrap_or(0);
+                totals[account as usize] += u64::from(letter - b'0');
+            }
+        }
+    })
+    .map_err(|NotWhole| Refusal::new(8, 0))?;
+    judge_length(letters)?;
+    Ok(totals)
+}

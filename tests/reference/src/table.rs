@@ -1,0 +1,184 @@
+//! The loaded table, the pattern rules that bind it, and refusals.
+
+/// "There are 1 to 64 lines."
+pub const MOST_LINES: usize = 64;
+/// "A letter is one byte, 33 to 126."
+pub const FIRST_LETTER: u64 = 33;
+pub const LAST_LETTER: u64 = 126;
+/// "Account is `-` or a digit 1 to 9"; `-` is kept as 0.
+pub const MOST_ACCOUNT: u64 = 9;
+
+/// A refusal: the cause's number and what is returned beside it.
+#[derive(Clone, Copy, PartialEq, Eq, Debug)]
+pub struct Refusal {
+    pub number: u64,
+    pub value: u64,
+}
+
+impl Refusal {
+    pub fn new(number: u64, value: u64) -> Refusal {
+        Refusal { number, value }
+    }
+}
+
+/// Number and returned number of any answer; success has number 0.
+pub fn number_and_value(answer: &Result<u64, Refusal>) -> (u64, u64) {
+    match answer {
+        Ok(value) => (0, *value),
+        Err(refusal) => (refusal.number, refusal.value),
+    }
+}
+
+#[derive(Clone, Copy, PartialEq, Eq, Debug)]
+pub enum Kind {
+    /// `E`: nothing
+    Nothing,
+    /// `L`: one letter
+    Letter,
+    /// `R`: any letter of a range
+    Range,
+    /// `S`: two places, one after the other
+    Sequence,
+    /// `A`: two places, the left preferred
+    Either,
+    /// `K`: one place, any number of rounds
+    Rounds,
+}
+
+impl Kind {
+    pub fn letter(self) -> char {
+        match self {
+            Kind::Nothing => 'E',
+            Kind::Letter => 'L',
+            Kind::Range => 'R',
+            Kind::Sequence => 'S',
+            Kind::Either => 'A',
+            Kind::Rounds => 'K',
+        }
+    }
+}
+
+/// One node. The numbers are wide so that a test can hand in a table that
+/// no text gives. `x` and `y` hold what the kind needs; a number that the
+/// kind does not need is not looked at.
+#[derive(Clone, Copy, PartialEq, Eq, Debug)]
+pub struct Node {
+    pub kind: Kind,
+    pub account: u64,
+    pub x: u64,
+    pub y: u64,
+}
+
+impl Node {
+    pub fn new(kind: Kind, account: u64, x: u64, y: u64) -> Node {
+        Node {
+            kind,
+            account,
+            x,
+            y,
+        }
+    }
+
+    pub fn unused() -> Node {
+        Node::new(Kind::Nothing, 0, 0, 0)
+    }
+
+    /// The places this node names, in the order of its line.
+    pub fn parts(&self) -> Vec<u64> {
+        match self.kind {
+            Kind::Nothing | Kind::Letter | Kind::Range => vec![],
+            Kind::Sequence | Kind::Either => vec![self.x, self.y],
+            Kind::Rounds => vec![self.x],
+        }
+    }
+}
+
+/// The table of a text: its line count and 64 cells, of which those below
+/// the count are the nodes. The count is wide so that a bad one can be made.
+#[derive(Clone, PartialEq, Eq, Debug)]
+pub struct Table {
+    pub count: u64,
+    pub nodes: [Node; MOST_LINES],
+}
+
+impl Table {
+    /// "A refused load gives a table of no lines, itself a departure from
+    /// the tree rules."
+    pub fn of_no_lines() -> Table {
+        Table {
+            count: 0,
+            nodes: [Node::unused(); MOST_LINES],
+        }
+    }
+
+    /// A table of these nodes; for more than 64 the count alone says so.
+    pub fn of_nodes(nodes: &[Node]) -> Table {
+        let mut table = Table::of_no_lines();
+        table.count = nodes.len() as u64;
+        for (cell, node) in table.nodes.iter_mut().zip(nodes) {
+            *cell = *node;
+        }
+        table
+    }
+
+    /// The nodes below the count. Only for a table that keeps the rules.
+    pub fn lines(&self) -> &[Node] {
+        &self.nodes[..self.count as usize]
+    }
+
+    pub fn node(&self, place: usize) -> Node {
+        self.nodes[place]
+    }
+
+    /// "The last line is the root." Only for a table that keeps the rules.
+    pub fn root(&self) -> usize {
+        self.count as usize - 1
+    }
+}
+
+/// The first tree fault among these lines: "a wrongly named part comes
+/// first, by its naming line, then the lowest place that no line names".
+pub fn tree_fault(lines: &[Node]) -> Option<usize> {
+    let mut named = vec![false; lines.len()];
+    for (line, node) in lines.iter().enumerate() {
+        for part in node.parts() {
+            // "A place not below its naming line, or named before, is
+            // wrongly named."
+            if part >= line as u64 || named[part as usize] {
+                return Some(line);
+            }
+            named[part as usize] = true;
+        }
+    }
+    // "Every place but the last is named exactly once."
+    (0..lines.len().saturating_sub(1)).find(|&place| !named[place])
+}
+
+fn is_letter(number: u64) -> bool {
+    (FIRST_LETTER..=LAST_LETTER).contains(&number)
+}
+
+fn numbers_are_good(node: &Node) -> bool {
+    let kind_is_good = match node.kind {
+        Kind::Letter => is_letter(node.x),
+        Kind::Range => is_letter(node.x) && is_letter(node.y) && node.x <= node.y,
+        // Places are judged with the tree.
+        Kind::Nothing | Kind::Sequence | Kind::Either | Kind::Rounds => true,
+    };
+    kind_is_good && node.account <= MOST_ACCOUNT
+}
+
+/// "Each service tests the loaded table it is given; any departure from the
+/// pattern rules, in its line count (1 to 64) or in a node below that count,
+/// is 2", with 0 beside it.
+pub fn judge(table: &Table) -> Result<(), Refusal> {
+    let count_is_good = table.count >= 1 && table.count <= MOST_LINES as u64;
+    if !count_is_good {
+        return Err(Refusal::new(2, 0));
+    }
+    let lines = table.lines();
+    if !lines.iter().all(numbers_are_good) || tree_fault(lines).is_some() {
+        return Err(Refusal::new(2, 0));
+    }
+    Ok(())
+}
