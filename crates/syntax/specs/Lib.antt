@@ -9,4 +9,8 @@ pub mod Scans
 pub mod Cuts
 pub mod Scanning
 pub mod Parsing
+pub mod Lowest
 pub mod Naming
+pub mod Names
+pub mod Reading
+pub mod Lines

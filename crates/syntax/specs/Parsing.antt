@@ -28,6 +28,13 @@ letter-small c = go (leb 33 c)
         bad : _≡_ {A = Bool} false true → ⊥
         bad e = let n : _≡_ {A = ℕ} 0 1 = ap (λ x. cond x 1 0) e in omega arith
 
+pub big-no-letter : (c : ℕ) → 255 < c → is-letter c ≡ false
+big-no-letter c h = go (is-letter c) refl
+  where
+    go : (b : Bool) → is-letter c ≡ b → b ≡ false
+    go true e = absurd (omega (arith, letter-small c e))
+    go false e = refl
+
 module _ (k : ℕ) (x : List ℕ) where
   module _ (c : ℕ) (h : k ≡ 76) (e : c ≡ single x) where
     pub one-letter : is-letter c ≡ true → Parsed-node (Leaf-node (Letter c)) ≡ parsed (node-of-one k x)

@@ -42,6 +42,9 @@ node-good (Star p) = true
 unfoldable pub line-good : Line → Bool
 line-good x = leb (x .account) 9 && node-good (x .node)
 
+abbrev pub badly-formed : Pattern → (line : ℕ) → Bool
+badly-formed p i = not (line-good (line-at p i))
+
 -- ── tree: the parts that nodes name ──
 abbrev pub parts : Node → List ℕ
 parts (Leaf-node x) = []
@@ -91,4 +94,4 @@ is-none (some l) = false
 unfoldable pub obeys : Pattern → Bool
 obeys p =
     (leb 1 (p .count) && leb (p .count) 64)
-    && (is-none (lowest (λ i. not (line-good (line-at p i))) 0 (p .count)) && is-none (tree-fault p))
+    && (is-none (lowest (badly-formed p) 0 (p .count)) && is-none (tree-fault p))

@@ -1,10 +1,13 @@
 // Patterns: the table of nodes, loading one from its text, and the test of the pattern rules.
 ghost use mathlib.Core.Path.{_≡_};
+ghost use Rattle.syntax.specs.Letter.{is-letter};
 ghost use Rattle.syntax.specs.Table.{no-lines};
 
 mod field; // field.rt: one field of a text and its value
 mod naming; // naming.rt: which nodes are named as parts
+mod reading; // reading.rt: the lines of a text
 mod scan; // scan.rt: one line of a text
+mod table; // table.rt: the form of a table's lines
 
 
 // A leaf of the pattern.
@@ -77,4 +80,14 @@ pub enum Outcome {
 pub struct Loaded {
     pub pattern: Pattern,
     pub outcome: Outcome,
+}
+
+// Whether a byte is a letter.
+pub fn is_letter(c: u8) -> bool
+    ensures { λ r. ⌜ r ≡ is-letter c ⌝ }
+{
+    if c < Pattern::FIRST_LETTER {
+        return false;
+    }
+    c <= Pattern::LAST_LETTER
 }

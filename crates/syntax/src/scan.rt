@@ -8,7 +8,7 @@ ghost use Rattle.syntax.specs.Fields.{word};
 ghost use Rattle.syntax.specs.Scans.{parsed, finished, parts-scanned, account-scanned, scanned};
 
 use super::field::{account_of, field_from, place_of, single_of, Field};
-use super::{Leaf, Line, Node, Pattern};
+use super::{is_letter, Leaf, Line, Node};
 
 // What a kind and the fields after the account say.
 pub enum Parsed {
@@ -22,14 +22,14 @@ pub enum Scanned {
     Fault,
 }
 
-// Whether a field's byte is a letter.
-fn is_letter(b: u16) -> bool
+// Whether what a field holds is a letter.
+fn is_field_letter(b: u16) -> bool
     ensures { λ r. ⌜ r ≡ is-letter b ⌝ }
 {
-    if b < Pattern::FIRST_LETTER as u16 {
+    if 255 < b {
         return false;
     }
-    b <= Pattern::LAST_LETTER as u16
+    is_letter(b as u8)
 }
 
 fn parse_none(kind: u16) -> Parsed
@@ -46,7 +46,7 @@ fn parse_one(kind: u16, x: Field) -> Parsed
 {
     if kind == 76 {
         let c = single_of(x);
-        if is_letter(c) {
+        if is_field_letter(c) {
             return Parsed::Node(Node::Leaf(Leaf::Letter(c as u8)));
         }
         return Parsed::Fault;
@@ -63,10 +63,10 @@ fn parse_one(kind: u16, x: Field) -> Parsed
 fn parse_range(a: u16, b: u16) -> Parsed
     ensures { λ r. ⌜ r ≡ parsed (range-of a b) ⌝ }
 {
-    if !is_letter(a) {
+    if !is_field_letter(a) {
         return Parsed::Fault;
     }
-    if !is_letter(b) {
+    if !is_field_letter(b) {
         return Parsed::Fault;
     }
     if a <= b {

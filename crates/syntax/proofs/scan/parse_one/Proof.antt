@@ -7,27 +7,27 @@ use Rattle.syntax.proofs.scan.parse_one.Reads as reads
 use Rattle.syntax.proofs.scan.parse_one.Lts as lts
 use Rattle.syntax.proofs.field.place_of.Reads as place-of-reads
 use Rattle.syntax.proofs.field.single_of.Reads as single-of-reads
-use Rattle.syntax.proofs.scan.is_letter.Reads as is-letter-reads
+use Rattle.syntax.proofs.scan.is_field_letter.Reads as is-field-letter-reads
 
 -- src/scan.rt:48:13
 single-of-requires : tie.Need-single-of-requires
 single-of-requires c κs = search needs
 
 -- src/scan.rt:49:12
-is-letter-requires : tie.Need-is-letter-requires
-is-letter-requires c κs = search needs
+is-field-letter-requires : tie.Need-is-field-letter-requires
+is-field-letter-requires c κs = search needs
 
 -- src/scan.rt:50:57
 cast-t7 : tie.Need-cast-t7
-cast-t7 c = record { fits = letter-small _ (sym (c .before .is-letter .ensures) ∙ c .if2 .taken) }
+cast-t7 c = record { fits = letter-small _ (sym (c .before .is-field-letter .ensures) ∙ c .if2 .taken) }
 
 -- src/scan.rt:50:13
 returns : tie.Need-returns
-returns c = one-letter _ _ _ (c .before .before .before .if1 .taken) (c .before .before .single-of .ensures) (sym (c .before .is-letter .ensures) ∙ c .if2 .taken)
+returns c = one-letter _ _ _ (c .before .before .before .if1 .taken) (c .before .before .single-of .ensures) (sym (c .before .is-field-letter .ensures) ∙ c .if2 .taken)
 
 -- src/scan.rt:52:9
 returns-2 : tie.Need-returns-2
-returns-2 c = one-no-letter _ _ _ (c .before .before .before .if1 .taken) (c .before .before .single-of .ensures) (sym (c .before .is-letter .ensures) ∙ c .if2 .left)
+returns-2 c = one-no-letter _ _ _ (c .before .before .before .if1 .taken) (c .before .before .single-of .ensures) (sym (c .before .is-field-letter .ensures) ∙ c .if2 .left)
 
 -- src/scan.rt:55:13
 place-of-requires : tie.Need-place-of-requires
@@ -54,7 +54,7 @@ parse-one-spec =
     tie.close
     (tie.spec
     single-of-requires
-    is-letter-requires
+    is-field-letter-requires
     cast-t7
     returns
     returns-2
