@@ -3,6 +3,7 @@ pub mod Tree
 pub mod Refusals
 pub mod Text
 pub mod Table
+pub mod Trees
 pub mod Load
 pub mod Fields
 pub mod Scans
@@ -14,3 +15,4 @@ pub mod Naming
 pub mod Names
 pub mod Reading
 pub mod Lines
+pub mod Loading

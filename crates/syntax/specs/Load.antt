@@ -6,6 +6,7 @@ use Prim.Native.Nat.{ℕ, _-_}
 use lib.ListN.{length, replicate}
 use Rattle.syntax.specs.declared.Line.{Line}
 use Rattle.syntax.specs.declared.Pattern.{Pattern}
+use Rattle.syntax.specs.declared.Refusal.{Refusal}
 use Rattle.syntax.specs.declared.Outcome.{Outcome}
 use Rattle.syntax.specs.declared.Outcome.the-variants.{Lines, Refused}
 use Rattle.syntax.specs.declared.Loaded.{Loaded}
@@ -46,6 +47,9 @@ load-answer text = forms-answer (forms 0 (rows text))
 
 unfoldable pub load-table : (text : List ℕ) → Pattern
 load-table text = forms-table (forms 0 (rows text))
+
+abbrev pub refused-load : Refusal → Loaded
+refused-load why = record { pattern = no-lines; outcome = Refused why }
 
 -- THE PROMISE of loading, for every text
 pub record Loads (text : List ℕ) (r : Loaded) : Type 0 where
