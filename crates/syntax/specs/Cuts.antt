@@ -121,16 +121,16 @@ reads (a ∷ bs) h = one (stops a) refl
 
     rest : (cs : List ℕ) → ((k : ℕ) → getD cs k 0 < 256) → stops a ≡ false
         → Reads (a ∷ cs)
-          (cond (stops (getD cs 0 256)) (made 1 a 0 (getD cs 0 256))
-          (cond (stops (getD cs 1 256)) (made 2 a (getD cs 0 256) (getD cs 1 256)) (made 3 0 0 0)))
+        (cond (stops (getD cs 0 256)) (made 1 a 0 (getD cs 0 256))
+        (cond (stops (getD cs 1 256)) (made 2 a (getD cs 0 256) (getD cs 1 256)) (made 3 0 0 0)))
     rest [] l p = cut (cut-step a [] p cut-end)
     rest (b ∷ cs) l p = two b cs (l 0) (λ k. l (suc k)) p (stops b) refl
 
     one : (t : Bool) → stops a ≡ t
         → Reads (a ∷ bs)
-          (cond t (made 0 0 0 a)
-          (cond (stops (getD bs 0 256)) (made 1 a 0 (getD bs 0 256))
-          (cond (stops (getD bs 1 256)) (made 2 a (getD bs 0 256) (getD bs 1 256)) (made 3 0 0 0))))
+        (cond t (made 0 0 0 a)
+        (cond (stops (getD bs 0 256)) (made 1 a 0 (getD bs 0 256))
+        (cond (stops (getD bs 1 256)) (made 2 a (getD bs 0 256) (getD bs 1 256)) (made 3 0 0 0))))
     one true p = cut (cut-stop a bs (h 0) p)
     one false p = rest bs (λ k. h (suc k)) p
 

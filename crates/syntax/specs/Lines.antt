@@ -34,7 +34,7 @@ rows-first b [] = go (eqb b 10) (eqb b 9)
         (x y : Bool)
         → cond x (record { fields = [] ∷ []; closed = true } ∷ rows []) (cond y (row-front (λ fs. [] ∷ fs) (rows [])) (row-front (byte-front b) (rows [])))
         ≡ record { fields = cond x ([] ∷ []) (cond y ([] ∷ first-fields []) (byte-front b (first-fields []))); closed = cond x true (first-closed []) }
-          ∷ rows (drop (suc (cond x 0 (suc (first-size [])))) (b ∷ []))
+        ∷ rows (drop (suc (cond x 0 (suc (first-size [])))) (b ∷ []))
     go true y = refl
     go false true = refl
     go false false = refl
@@ -44,7 +44,7 @@ rows-first b (c ∷ cs) = go (eqb b 10) (eqb b 9) (c ∷ cs) (rows-first c cs)
         (x y : Bool) (w : List ℕ) → rows w ≡ first-row w ∷ rows (drop (suc (first-size w)) w)
         → cond x (record { fields = [] ∷ []; closed = true } ∷ rows w) (cond y (row-front (λ fs. [] ∷ fs) (rows w)) (row-front (byte-front b) (rows w)))
         ≡ record { fields = cond x ([] ∷ []) (cond y ([] ∷ first-fields w) (byte-front b (first-fields w))); closed = cond x true (first-closed w) }
-          ∷ rows (drop (suc (cond x 0 (suc (first-size w)))) (b ∷ w))
+        ∷ rows (drop (suc (cond x 0 (suc (first-size w)))) (b ∷ w))
     go true y w r = refl
     go false true w r = ap (row-front (λ fs. [] ∷ fs)) r
     go false false w r = ap (row-front (byte-front b)) r
@@ -124,7 +124,7 @@ module _ (text : List ℕ) (p : Pattern) (at : ℕ) (s : Read-so-far text p at) 
   module _ (l : at < length text) where
     on : forms 0 (rows text)
         ≡ lines-front (take (p .count) (p .lines))
-          (cond (ltb (p .count) 64) (line-front (p .count) (row-line (p .count) (first-row (drop at text))) (forms (suc (p .count)) (rows (drop (suc (first-size (drop at text))) (drop at text))))) (fault 64))
+        (cond (ltb (p .count) 64) (line-front (p .count) (row-line (p .count) (first-row (drop at text))) (forms (suc (p .count)) (rows (drop (suc (first-size (drop at text))) (drop at text))))) (fault 64))
     on = s .rest ∙ ap (lines-front (take (p .count) (p .lines))) (forms-first (p .count) (drop at text) (rw length-drop (omega arith)))
 
     pub read-many : 64 ≤ p .count → Reads-lines text (record { pattern = p; fault = p .count })
@@ -162,5 +162,5 @@ module _ (text : List ℕ) (p : Pattern) (at : ℕ) (s : Read-so-far text p at) 
           shorter k =
               let a : 64 - p .count ≡ suc (64 - suc (p .count)) = omega arith in
               let b : getD (p .lines) (p .count) blank ∷ drop (suc (p .count)) (p .lines) ≡ blank ∷ replicate (64 - suc (p .count)) blank =
-                  sym (drop-cons (p .lines) (p .count) blank k) ∙ s .unwritten ∙ ap (λ j. replicate j blank) a in
+              sym (drop-cons (p .lines) (p .count) blank k) ∙ s .unwritten ∙ ap (λ j. replicate j blank) a in
               ap (drop 1) b

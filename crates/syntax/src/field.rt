@@ -18,7 +18,11 @@ pub struct Field {
 fn peek(text: &[u8], at: usize) -> u16
     ensures { λ r. ⌜ r ≡ getD (now (text .entry)) at 256 ⌝ }
 {
-    if at < text.len() { text[at] as u16 } else { 256 }
+    if at < text.len() {
+        text[at] as u16
+    } else {
+        256
+    }
 }
 
 // Whether a byte ends a field.

@@ -10,10 +10,10 @@ mod reading; // reading.rt: the lines of a text
 mod scan; // scan.rt: one line of a text
 mod table; // table.rt: the form of a table's lines
 
-use naming::{tree_fault_of, TreeFault};
+use naming::TreeFault;
+use naming::tree_fault_of;
 use reading::read_lines;
 use table::good_lines;
-
 
 // A leaf of the pattern.
 pub enum Leaf {
@@ -44,9 +44,13 @@ pub struct Pattern {
 
 impl Pattern {
     pub const MAX_LINES: usize = 64;
+
     pub const MAX_LETTERS: usize = 3600;
+
     pub const MAX_CODE_BYTES: usize = 65536;
+
     pub const FIRST_LETTER: u8 = 33;
+
     pub const LAST_LETTER: u8 = 126;
 
     // A table of no lines, which obeys no pattern rules: what a refused load gives.

@@ -4,8 +4,8 @@ ghost use mathlib.Core.List.{[], _∷_};
 ghost use Prim.Native.Nat.{_≤_};
 ghost use Rattle.syntax.specs.Table.{parts, tree-fault};
 ghost use Rattle.syntax.specs.Naming.{name-one, name-all, Names-wrongly, first-unnamed, fault-of};
-
-use super::{Node, Pattern};
+use super::Node;
+use super::Pattern;
 
 // Whether parts are rightly named, and which nodes are named then.
 pub struct Naming {

@@ -1,8 +1,8 @@
 // The lines of a pattern text, read once from front to back.
 ghost use Rattle.syntax.specs.Reading.{Reads-lines};
-
-use super::scan::{scan_line, Scanned};
 use super::Pattern;
+use super::scan::Scanned;
+use super::scan::scan_line;
 
 // The table of the lines before the first form fault, and that fault's line; 65 where there is none.
 pub struct Read {

@@ -6,9 +6,15 @@ ghost use Rattle.syntax.specs.Letter.{is-letter};
 ghost use Rattle.syntax.specs.Text.{node-of-none, node-of-one, range-of, node-of-two};
 ghost use Rattle.syntax.specs.Fields.{word};
 ghost use Rattle.syntax.specs.Scans.{parsed, finished, parts-scanned, account-scanned, scanned};
-
-use super::field::{account_of, field_from, place_of, single_of, Field};
-use super::{is_letter, Leaf, Line, Node};
+use super::Leaf;
+use super::Line;
+use super::Node;
+use super::field::Field;
+use super::field::account_of;
+use super::field::field_from;
+use super::field::place_of;
+use super::field::single_of;
+use super::is_letter;
 
 // What a kind and the fields after the account say.
 pub enum Parsed {

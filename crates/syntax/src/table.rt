@@ -5,8 +5,11 @@ ghost use Prim.Native.Nat.{_≤_};
 ghost use lib.Dec.{leb};
 ghost use Rattle.syntax.specs.Letter.{is-letter};
 ghost use Rattle.syntax.specs.Table.{leaf-good, line-good, badly-formed, is-none, lowest};
-
-use super::{is_letter, Leaf, Line, Node, Pattern};
+use super::Leaf;
+use super::Line;
+use super::Node;
+use super::Pattern;
+use super::is_letter;
 
 fn good_range(a: u8, b: u8) -> bool
     ensures { λ r. ⌜ r ≡ ((is-letter a && is-letter b) && leb a b) ⌝ }

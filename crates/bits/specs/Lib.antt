@@ -1,0 +1,9 @@
+pub mod Bits
+pub mod Numbers
+pub mod Packing
+pub mod Reading
+pub mod Writing
+pub mod Handed
+pub mod Words
+pub mod Paper03
+pub mod Examples

@@ -1,0 +1,48 @@
+-- WHAT MUST BE BELIEVED, 6: the account that each letter goes to, and litres by account.
+use mathlib.Core.Bool.{_&&_, cond}
+use mathlib.Core.Logic.{inl, inr}
+use mathlib.Core.List.{_++_, _∷_, List, [], map}
+use Prim.Native.Nat.{_+_, _-_, ℕ}
+use lib.Dec.{eqb, leb}
+use Rattle.syntax.specs.Tree.{Label, Tree, nothing, letter, range, seq, alt, star}
+use Rattle.semantics.specs.Value.{Value}
+
+-- the account that a node hands down: its own, or the one from above if it has none (0)
+abbrev pub owner : Label → (above : ℕ) → ℕ
+owner m o = cond (eqb (m .account) 0) o (m .account)
+
+abbrev pub join-rounds : {A B : Type 0} → (A → List B) → List A → List B
+join-rounds g [] = []
+join-rounds g (v ∷ vs) = g v ++ join-rounds g vs
+
+-- 01: "Litres go to the account of the innermost node, the leaf included, that has one". Each letter with its account; `above` where no node here has one.
+abbrev pub entries : (t : Tree) → (above : ℕ) → Value t → List (ℕ × ℕ)
+entries (nothing m) o v = []
+entries (letter m c) o v = (c, owner m o) ∷ []
+entries (range m low high) o v = (v .0, owner m o) ∷ []
+entries (seq m t u) o v = entries t (owner m o) (v .0) ++ entries u (owner m o) (v .1)
+entries (alt m t u) o (inl v) = entries t (owner m o) v
+entries (alt m t u) o (inr v) = entries u (owner m o) v
+entries (star m again t) o vs = join-rounds (entries t (owner m o)) vs
+
+-- 01: "without one, to account 0"
+unfoldable pub accounts : (t : Tree) → Value t → List (ℕ × ℕ)
+accounts t v = entries t 0 v
+
+-- 01: "Letters `0` to `9` count 0 to 9 litres, others none."
+unfoldable pub litres : (c : ℕ) → ℕ
+litres c = cond (leb 48 c && leb c 57) (c - 48) 0
+
+-- the litres of one account
+unfoldable pub total : (account : ℕ) → List (ℕ × ℕ) → ℕ
+total a [] = 0
+total a (e ∷ es) = cond (eqb (e .1) a) (litres (e .0)) 0 + total a es
+
+-- 01: "The ten totals"
+unfoldable pub totals : List (ℕ × ℕ) → List ℕ
+totals es = map (λ a. total a es) (0 ∷ 1 ∷ 2 ∷ 3 ∷ 4 ∷ 5 ∷ 6 ∷ 7 ∷ 8 ∷ 9 ∷ [])
+
+-- 01: "the tape's digits", added up
+unfoldable pub digits : List ℕ → ℕ
+digits [] = 0
+digits (c ∷ w) = litres c + digits w

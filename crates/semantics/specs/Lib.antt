@@ -1,0 +1,35 @@
+-- Parse trees, codes and the greedy order, over the labelled tree of a pattern.
+-- Layer 1, what must be believed: definitions in the order of document 01, each beside the words that it renders. Contracts cite these.
+pub mod Value
+pub mod Order
+pub mod Code
+pub mod Automaton
+pub mod Visits
+pub mod Accounts
+-- Layer 2, how it is computed: decoding, the two sweeps, leaving out empty iterations. Programs are proved against these.
+pub mod Decode
+pub mod Sweeps
+pub mod Strip
+pub mod Positions
+-- What is promised: the statements of document 03.
+pub mod Promise
+-- The laws: that the second layer computes what the first says, and what callers need of both.
+pub mod Basics
+pub mod DecodeLaws
+pub mod BeforeLaws
+pub mod OrderLaws
+pub mod CodeLaws
+pub mod PositionLaws
+pub mod CompleteLaws
+pub mod SecondSweepLaws
+pub mod FirstSweepLaws
+pub mod StripLaws
+pub mod GreedyLaws
+pub mod AutomatonLaws
+pub mod BoundLaws
+pub mod VisitLaws
+pub mod AccountLaws
+pub mod LetterLaws
+pub mod Promised
+-- C1 to C11 and the listing.
+pub mod Examples
