@@ -16,3 +16,5 @@ pub mod Names
 pub mod Reading
 pub mod Lines
 pub mod Loading
+pub mod TreeLaws
+pub mod LoadLaws
