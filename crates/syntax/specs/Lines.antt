@@ -127,9 +127,9 @@ module _ (text : List ℕ) (p : Pattern) (at : ℕ) (s : Read-so-far text p at) 
         (cond (ltb (p .count) 64) (line-front (p .count) (row-line (p .count) (first-row (drop at text))) (forms (suc (p .count)) (rows (drop (suc (first-size (drop at text))) (drop at text))))) (fault 64))
     on = s .rest ∙ ap (lines-front (take (p .count) (p .lines))) (forms-first (p .count) (drop at text) (rw length-drop (omega arith)))
 
-    pub read-many : 64 ≤ p .count → Reads-lines text (record { pattern = p; fault = p .count })
+    pub read-many : 64 ≤ p .count → Reads-lines text (record { pattern = p; fault = 64 })
     unfolding Reads-lines
-    read-many h = rw (on, le-ltb (p .count) 64 h) (omega (arith, s .few))
+    read-many h = rw (on, le-ltb (p .count) 64 h) refl
 
     module _ (few : p .count < 64) (r : Scanned) (e : r ≡ scanned (p .count) at (drop at text)) where
       pub read-fault : r ≡ No-line → Reads-lines text (record { pattern = p; fault = p .count })

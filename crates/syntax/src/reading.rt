@@ -21,7 +21,7 @@ pub fn read_lines(text: &[u8]) -> Read
         }
         let i = p.count;
         if Pattern::MAX_LINES <= i {
-            break i;
+            break Pattern::MAX_LINES;
         }
         let scanned = scan_line(text, at, i);
         let Scanned::Line(line, next) = scanned else {

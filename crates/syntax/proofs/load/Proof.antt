@@ -1,68 +1,49 @@
+-- `syntax::load` meets its contract.
 use Rattle.syntax.specs.Loading.{fault-within, fault-found, fault-none, load-form, load-few, load-empty, load-tree, load-good}
 use native.Mathlib.Omega.{arith}
-use mathlib.Core.Path.{sym, ap, _∙_}
 use borrow.Author.Needs.{needs}
 use Rattle.syntax.proofs.load.Statement.{statement}
 use Rattle.syntax.proofs.load.Tie as tie
-use Rattle.syntax.proofs.load.Reads as reads
-use Rattle.syntax.proofs.load.Lts as lts
-use Rattle.syntax.proofs.naming.tree_fault_of.Reads as tree-fault-of-reads
-use Rattle.syntax.proofs.reading.read_lines.Reads as read-lines-reads
-use Rattle.syntax.proofs.refuse.Reads as refuse-reads
 
--- src/lib.rt:135:9
 read-lines-requires : tie.Need-read-lines-requires
 read-lines-requires c κs = search needs
 
--- src/lib.rt:138:41
 cast-t8 : tie.Need-cast-t8
 cast-t8 c = search needs
 
--- src/lib.rt:138:9
 refuse-requires : tie.Need-refuse-requires
 refuse-requires c κs = search needs
 
--- src/lib.rt:138:9
 returns : tie.Need-returns
 returns c = rw (c .refuse .ensures) (load-form _ _ (c .before .before .read-lines .ensures) (c .before .if1 .taken))
 
--- src/lib.rt:143:9
 refuse-requires-2 : tie.Need-refuse-requires-2
 refuse-requires-2 c κs = search needs
 
--- src/lib.rt:143:9
 returns-2 : tie.Need-returns-2
 returns-2 c = rw (c .refuse2 .ensures) (load-empty _ _ (c .before .before .before .before .read-lines .ensures) (c .before .before .before .if1 .left) (c .before .if2 .taken))
 
--- src/lib.rt:145:11
 tree-fault-of-requires : tie.Need-tree-fault-of-requires
 tree-fault-of-requires c κs = load-few _ _ (c .before .before .before .read-lines .ensures) (c .before .before .if1 .left)
 
--- src/lib.rt:146:25
 enum-known-line : tie.Need-enum-known-line
 enum-known-line c = search needs
 
--- src/lib.rt:146:55
 cast-t13 : tie.Need-cast-t13
 cast-t13 c = omega (arith, fault-within _ _ (fault-found _ _ _ (c .before .before .before .tree-fault-of .ensures) (c .before .line .given .1)), load-few _ _ (c .before .before .before .before .before .before .before .read-lines .ensures) (c .before .before .before .before .before .before .if1 .left))
 
--- src/lib.rt:146:34
 refuse-requires-3 : tie.Need-refuse-requires-3
 refuse-requires-3 c κs = search needs
 
--- src/lib.rt:149:37
 enum-told : tie.Need-enum-told
 enum-told c = search needs
 
--- src/lib.rt:149:37
 cast-t15 : tie.Need-cast-t15
 cast-t15 c = omega (arith, load-few _ _ (c .before .before .before .before .before .before .read-lines .ensures) (c .before .before .before .before .before .if1 .left))
 
--- src/lib.rt:132:1
 returns-3 : tie.Need-returns-3
 returns-3 c = rw (c .refuse3 .ensures) (load-tree _ _ (c .before .before .before .before .before .before .before .before .read-lines .ensures) (c .before .before .before .before .before .before .before .if1 .left) (c .before .before .before .before .before .if2 .left) _ (fault-found _ _ _ (c .before .before .before .before .tree-fault-of .ensures) (c .before .before .line .given .1)))
 
--- src/lib.rt:132:1
 returns-4 : tie.Need-returns-4
 returns-4 c = load-good _ _ (c .before .before .before .before .before .before .read-lines .ensures) (c .before .before .before .before .before .if1 .left) (c .before .before .before .if2 .left) (fault-none _ _ (c .before .before .tree-fault-of .ensures) (c .enum-told .given .1))
 

@@ -1,22 +1,17 @@
+-- `syntax::field::digit_of` meets its contract.
 use Rattle.syntax.specs.Text.{digit}
-use borrow.Author.Tests.{lt-ltb, le-ltb, le-leb, lt-leb, eq-eqb, ne-eqb}
-use borrow.Author.Needs.{needs}
+use borrow.Author.Tests.{le-leb, lt-leb}
 use Rattle.syntax.proofs.field.digit_of.Statement.{statement}
 use Rattle.syntax.proofs.field.digit_of.Tie as tie
-use Rattle.syntax.proofs.field.digit_of.Reads as reads
-use Rattle.syntax.proofs.field.digit_of.Lts as lts
 
--- src/field.rt:81:9
 returns : tie.Need-returns
 unfolding digit
 returns c = simp (lt-leb _ _ (c .if1 .taken))
 
--- src/field.rt:84:9
 returns-2 : tie.Need-returns-2
 unfolding digit
 returns-2 c = simp (le-leb _ _ (c .before .if1 .left), lt-leb _ _ (c .if2 .taken))
 
--- src/field.rt:77:1
 returns-3 : tie.Need-returns-3
 unfolding digit
 returns-3 c = simp (le-leb _ _ (c .before .if1 .left), le-leb _ _ (c .if2 .left))

@@ -1,3 +1,4 @@
+-- `syntax::field::peek` meets its contract.
 use mathlib.Core.Path.{sym}
 use lib.ListN.{List·getD-eq-default}
 use native.Mathlib.Omega.{arith}
@@ -5,22 +6,16 @@ use Rattle.syntax.specs.Fields.{getD-inside}
 use borrow.Author.Needs.{needs}
 use Rattle.syntax.proofs.field.peek.Statement.{statement}
 use Rattle.syntax.proofs.field.peek.Tie as tie
-use Rattle.syntax.proofs.field.peek.Reads as reads
-use Rattle.syntax.proofs.field.peek.Lts as lts
 
--- src/field.rt:21:26
 shared-slice-read-result : tie.Need-shared-slice-read-result
 shared-slice-read-result c = search needs
 
--- src/field.rt:21:26
 cast-result : tie.Need-cast-result
 cast-result c = omega (arith, c .shared-slice-known .given (c .before .before .args .at))
 
--- src/field.rt:18:1
 returns : tie.Need-returns
 returns c = getD-inside (c .before .before .args .text .now) (c .before .before .args .at) 0 256 (c .before .if1 .taken)
 
--- src/field.rt:18:1
 returns-2 : tie.Need-returns-2
 returns-2 c = sym (List·getD-eq-default (c .before .args .text .now) 256 (c .if1 .left))
 

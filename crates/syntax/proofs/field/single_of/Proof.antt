@@ -1,18 +1,14 @@
-use mathlib.Core.Path.{sym, ap, _∙_}
+-- `syntax::field::single_of` meets its contract.
+use mathlib.Core.Path.{sym, ap}
 use Rattle.syntax.specs.Text.{single}
 use Rattle.syntax.specs.Fields.{word-one, word-no-single}
-use borrow.Author.Needs.{needs}
 use Rattle.syntax.proofs.field.single_of.Statement.{statement}
 use Rattle.syntax.proofs.field.single_of.Tie as tie
-use Rattle.syntax.proofs.field.single_of.Reads as reads
-use Rattle.syntax.proofs.field.single_of.Lts as lts
 
--- src/field.rt:128:1
 returns : tie.Need-returns
 unfolding single
 returns c = sym (ap single (word-one _ (c .if1 .taken)))
 
--- src/field.rt:128:1
 returns-2 : tie.Need-returns-2
 returns-2 c = sym (word-no-single _ (c .if1 .left))
 

@@ -1,27 +1,21 @@
+-- `syntax::naming::name_part` meets its contract.
 use Rattle.syntax.specs.Names.{one-high, one-again, one-new}
 use borrow.Author.Needs.{needs}
 use Rattle.syntax.proofs.naming.name_part.Statement.{statement}
 use Rattle.syntax.proofs.naming.name_part.Tie as tie
-use Rattle.syntax.proofs.naming.name_part.Reads as reads
-use Rattle.syntax.proofs.naming.name_part.Lts as lts
 
--- src/naming.rt:34:9
 returns : tie.Need-returns
 returns c = one-high _ _ _ (c .if1 .taken)
 
--- src/naming.rt:36:8
 array-read-if2 : tie.Need-array-read-if2
 array-read-if2 c = search needs
 
--- src/naming.rt:37:9
 returns-2 : tie.Need-returns-2
 returns-2 c = one-again _ _ _ (c .before .if1 .left) (c .if2 .taken)
 
--- src/naming.rt:40:5
 array-write-next : tie.Need-array-write-next
 array-write-next c = search needs
 
--- src/naming.rt:28:1
 returns-3 : tie.Need-returns-3
 returns-3 c = one-new _ _ _ (c .before .if1 .left) (c .if2 .left)
 

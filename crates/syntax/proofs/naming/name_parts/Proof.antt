@@ -1,54 +1,40 @@
+-- `syntax::naming::name_parts` meets its contract.
 use Rattle.syntax.specs.Names.{one-all}
-use mathlib.Core.Path.{sym, ap, ap₂, _∙_}
+use mathlib.Core.Path.{_∙_}
 use borrow.Author.Needs.{needs}
 use Rattle.syntax.proofs.naming.name_parts.Statement.{statement}
 use Rattle.syntax.proofs.naming.name_parts.Tie as tie
-use Rattle.syntax.proofs.naming.name_parts.Reads as reads
-use Rattle.syntax.proofs.naming.name_parts.Lts as lts
-use Rattle.syntax.proofs.naming.name_part.Reads as name-part-reads
-use Rattle.syntax.proofs.naming.name_two.Reads as name-two-reads
 
--- src/naming.rt:65:26
 enum-told : tie.Need-enum-told
 enum-told c = search needs
 
--- src/naming.rt:66:24
 enum-known-node : tie.Need-enum-known-node
 enum-known-node c = search needs
 
--- src/naming.rt:66:33
 name-two-requires : tie.Need-name-two-requires
 name-two-requires c κs = search needs
 
--- src/naming.rt:67:27
 enum-known-node-2 : tie.Need-enum-known-node-2
 enum-known-node-2 c = search needs
 
--- src/naming.rt:67:36
 name-two-requires-2 : tie.Need-name-two-requires-2
 name-two-requires-2 c κs = search needs
 
--- src/naming.rt:68:20
 enum-known-node-3 : tie.Need-enum-known-node-3
 enum-known-node-3 c = search needs
 
--- src/naming.rt:68:26
 name-part-requires : tie.Need-name-part-requires
 name-part-requires c κs = search needs
 
--- src/naming.rt:60:1
 returns : tie.Need-returns
 returns c = rw (c .enum-told .given .1)
 
--- src/naming.rt:60:1
 returns-2 : tie.Need-returns-2
 returns-2 c = rw (c .before .before .node .given .1) (c .name-two .ensures)
 
--- src/naming.rt:60:1
 returns-3 : tie.Need-returns-3
 returns-3 c = rw (c .before .before .node2 .given .1) (c .name-two2 .ensures)
 
--- src/naming.rt:60:1
 returns-4 : tie.Need-returns-4
 returns-4 c = rw (c .before .before .node3 .given .1) (c .name-part .ensures ∙ one-all _ _ _)
 

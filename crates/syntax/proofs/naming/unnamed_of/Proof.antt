@@ -1,3 +1,4 @@
+-- `syntax::naming::unnamed_of` meets its contract.
 use Prim.Native.Nat.{_-_, _≤_}
 use native.Mathlib.Omega.{arith}
 use mathlib.Core.Path.{sym, ap}
@@ -6,8 +7,6 @@ use Rattle.syntax.specs.Naming.{not-flagged, fault-of}
 use borrow.Author.Needs.{needs}
 use Rattle.syntax.proofs.naming.unnamed_of.Statement.{statement}
 use Rattle.syntax.proofs.naming.unnamed_of.Tie as tie
-use Rattle.syntax.proofs.naming.unnamed_of.Reads as reads
-use Rattle.syntax.proofs.naming.unnamed_of.Lts as lts
 
 abbrev Inv-loop : tie.InvT-loop
 Inv-loop count named l₀ l = (l ≤ count) × Searched (not-flagged named) (count - 1) l
@@ -15,35 +14,27 @@ Inv-loop count named l₀ l = (l ≤ count) × Searched (not-flagged named) (cou
 abbrev μ-loop : tie.MeasureT-loop
 μ-loop count named l₀ l = count - l
 
--- src/naming.rt:100:5
 loop-holds : tie.Need-loop-holds Inv-loop μ-loop
 loop-holds c = (omega arith, searched-start _ _)
 
--- src/naming.rt:101:21
 add-if1 : tie.Need-add-if1 Inv-loop μ-loop
 add-if1 c = search needs
 
--- src/naming.rt:104:13
 array-read-if2 : tie.Need-array-read-if2 Inv-loop μ-loop
 array-read-if2 c = search needs
 
--- src/naming.rt:107:9
 add-l : tie.Need-add-l Inv-loop μ-loop
 add-l c = search needs
 
--- src/naming.rt:100:5
 loop-less : tie.Need-loop-less Inv-loop μ-loop
 loop-less c = search needs
 
--- src/naming.rt:100:5
 loop-again : tie.Need-loop-again Inv-loop μ-loop
 loop-again c = (omega arith, searched-on _ _ _ (c .before .before .loop .inv .1) (omega arith) (c .if2 .left))
 
--- src/naming.rt:95:1
 returns : tie.Need-returns Inv-loop μ-loop
 returns c = sym (ap fault-of (searched-end _ _ _ (c .before .loop .inv .1) (omega arith)))
 
--- src/naming.rt:95:1
 returns-2 : tie.Need-returns-2 Inv-loop μ-loop
 returns-2 c = sym (ap fault-of (searched-here _ _ _ (c .before .before .loop .inv .1) (omega arith) (c .if2 .taken)))
 

@@ -1,4 +1,4 @@
-use mathlib.Core.Path.{sym, ap, _∙_}
+-- `syntax::reading::read_lines` meets its contract.
 use Prim.Native.Nat.{_-_}
 use native.Mathlib.Omega.{arith}
 use lib.ListN.{length}
@@ -7,10 +7,6 @@ use Rattle.syntax.specs.Lines.{read-start, read-end, read-many, read-fau
 use borrow.Author.Needs.{needs}
 use Rattle.syntax.proofs.reading.read_lines.Statement.{statement}
 use Rattle.syntax.proofs.reading.read_lines.Tie as tie
-use Rattle.syntax.proofs.reading.read_lines.Reads as reads
-use Rattle.syntax.proofs.reading.read_lines.Lts as lts
-use Rattle.syntax.proofs.Pattern.new.Reads as new-reads
-use Rattle.syntax.proofs.scan.scan_line.Reads as scan-line-reads
 
 abbrev Inv-loop : tie.InvT-loop
 Inv-loop text p₀ at₀ p at = Read-so-far text p at
@@ -18,55 +14,42 @@ Inv-loop text p₀ at₀ p at = Read-so-far text p at
 abbrev μ-loop : tie.MeasureT-loop
 μ-loop text p₀ at₀ p at = length text - at
 
--- src/reading.rt:16:17
 new-requires : tie.Need-new-requires Inv-loop μ-loop
 new-requires c κs = search needs
 
--- src/reading.rt:18:9
 loop-holds : tie.Need-loop-holds Inv-loop μ-loop
 loop-holds c = rw (c .new .ensures) (read-start _)
 
--- src/reading.rt:26:13
 scan-line-requires : tie.Need-scan-line-requires Inv-loop μ-loop
 scan-line-requires c κs = search needs
 
--- src/reading.rt:27:27
 enum-known-scanned : tie.Need-enum-known-scanned Inv-loop μ-loop
 enum-known-scanned c = search needs
 
--- src/reading.rt:28:19
 enum-told : tie.Need-enum-told Inv-loop μ-loop
 enum-told c = search needs
 
--- src/reading.rt:30:9
 mul-line : tie.Need-mul-line Inv-loop μ-loop
 mul-line c = search needs
 
--- src/reading.rt:30:9
 element-set-from-line : tie.Need-element-set-from-line Inv-loop μ-loop
 element-set-from-line c = search needs
 
--- src/reading.rt:31:19
 add-p : tie.Need-add-p Inv-loop μ-loop
 add-p c = search needs
 
--- src/reading.rt:18:9
 loop-less : tie.Need-loop-less Inv-loop μ-loop
 loop-less c = omega (arith, read-less _ _ _ (c .before .before .before .before .before .before .loop .inv) (c .before .before .before .before .before .if1 .left) (c .before .before .before .before .if2 .left) _ (c .before .before .before .scan-line .ensures) _ _ (c .before .scanned .given .1))
 
--- src/reading.rt:18:9
 loop-again : tie.Need-loop-again Inv-loop μ-loop
 loop-again c = read-on _ _ _ (c .before .before .before .before .before .before .loop .inv) (c .before .before .before .before .before .if1 .left) (c .before .before .before .before .if2 .left) _ (c .before .before .before .scan-line .ensures) _ _ (c .before .scanned .given .1)
 
--- src/reading.rt:13:1
 returns : tie.Need-returns Inv-loop μ-loop
 returns c = read-end _ _ _ (c .before .loop .inv) (c .if1 .taken)
 
--- src/reading.rt:13:1
 returns-2 : tie.Need-returns-2 Inv-loop μ-loop
 returns-2 c = read-many _ _ _ (c .before .before .loop .inv) (c .before .if1 .left) (c .if2 .taken)
 
--- src/reading.rt:13:1
 returns-3 : tie.Need-returns-3 Inv-loop μ-loop
 returns-3 c = read-fault _ _ _ (c .before .before .before .before .before .loop .inv) (c .before .before .before .before .if1 .left) (c .before .before .before .if2 .left) _ (c .before .before .scan-line .ensures) (c .enum-told .given .1)
 

@@ -1,42 +1,32 @@
+-- `syntax::scan::parse_range` meets its contract.
 use borrow.Author.Tests.{not-true, not-false}
-use mathlib.Core.Path.{sym, ap, ap₂, _∙_}
+use mathlib.Core.Path.{sym, _∙_}
 use Rattle.syntax.specs.Parsing.{letter-small, range-no-low, range-no-high, range-good, range-reversed}
 use borrow.Author.Needs.{needs}
 use Rattle.syntax.proofs.scan.parse_range.Statement.{statement}
 use Rattle.syntax.proofs.scan.parse_range.Tie as tie
-use Rattle.syntax.proofs.scan.parse_range.Reads as reads
-use Rattle.syntax.proofs.scan.parse_range.Lts as lts
-use Rattle.syntax.proofs.scan.is_field_letter.Reads as is-field-letter-reads
 
--- src/scan.rt:66:9
 is-field-letter-requires : tie.Need-is-field-letter-requires
 is-field-letter-requires c κs = search needs
 
--- src/scan.rt:67:9
 returns : tie.Need-returns
 returns c = range-no-low _ _ (sym (c .before .is-field-letter .ensures) ∙ not-true _ (c .if1 .taken))
 
--- src/scan.rt:69:9
 is-field-letter-requires-2 : tie.Need-is-field-letter-requires-2
 is-field-letter-requires-2 c κs = search needs
 
--- src/scan.rt:70:9
 returns-2 : tie.Need-returns-2
 returns-2 c = range-no-high _ _ (sym (c .before .before .before .is-field-letter .ensures) ∙ not-false _ (c .before .before .if1 .left)) (sym (c .before .is-field-letter2 .ensures) ∙ not-true _ (c .if2 .taken))
 
--- src/scan.rt:73:52
 cast-t5 : tie.Need-cast-t5
 cast-t5 c = record { fits = letter-small _ (sym (c .before .before .before .before .is-field-letter .ensures) ∙ not-false _ (c .before .before .before .if1 .left)) }
 
--- src/scan.rt:73:61
 cast-t6 : tie.Need-cast-t6
 cast-t6 c = record { fits = letter-small _ (sym (c .before .before .is-field-letter2 .ensures) ∙ not-false _ (c .before .if2 .left)) }
 
--- src/scan.rt:73:9
 returns-3 : tie.Need-returns-3
 returns-3 c = range-good _ _ (sym (c .before .before .before .before .is-field-letter .ensures) ∙ not-false _ (c .before .before .before .if1 .left)) (sym (c .before .before .is-field-letter2 .ensures) ∙ not-false _ (c .before .if2 .left)) (c .if3 .taken)
 
--- src/scan.rt:63:1
 returns-4 : tie.Need-returns-4
 returns-4 c = range-reversed _ _ (sym (c .before .before .before .before .is-field-letter .ensures) ∙ not-false _ (c .before .before .before .if1 .left)) (sym (c .before .before .is-field-letter2 .ensures) ∙ not-false _ (c .before .if2 .left)) (c .if3 .left)
 

@@ -1,73 +1,54 @@
+-- `syntax::scan::parse_two` meets its contract.
 use Rattle.syntax.specs.Text.{range-of}
 use Rattle.syntax.specs.Scans.{parsed}
-use mathlib.Core.Path.{sym, ap, ap₂, _∙_}
+use mathlib.Core.Path.{ap, ap₂, _∙_}
 use Rattle.syntax.specs.Parsing.{two-range, two-no-first, two-no-second, two-sequence, two-alternative, two-other}
 use borrow.Author.Needs.{needs}
 use Rattle.syntax.proofs.scan.parse_two.Statement.{statement}
 use Rattle.syntax.proofs.scan.parse_two.Tie as tie
-use Rattle.syntax.proofs.scan.parse_two.Reads as reads
-use Rattle.syntax.proofs.scan.parse_two.Lts as lts
-use Rattle.syntax.proofs.field.place_of.Reads as place-of-reads
-use Rattle.syntax.proofs.field.single_of.Reads as single-of-reads
-use Rattle.syntax.proofs.scan.parse_range.Reads as parse-range-reads
 
--- src/scan.rt:82:28
 single-of-requires : tie.Need-single-of-requires
 single-of-requires c κs = search needs
 
--- src/scan.rt:82:42
 single-of-requires-2 : tie.Need-single-of-requires-2
 single-of-requires-2 c κs = search needs
 
--- src/scan.rt:82:9
 parse-range-requires : tie.Need-parse-range-requires
 parse-range-requires c κs = search needs
 
--- src/scan.rt:82:9
 returns : tie.Need-returns
 returns c = c .parse-range .ensures ∙ ap₂ (λ x y. parsed (range-of x y)) (c .before .before .single-of .ensures) (c .before .single-of2 .ensures) ∙ two-range _ _ _ (c .before .before .before .if1 .taken)
 
--- src/scan.rt:84:9
 place-of-requires : tie.Need-place-of-requires
 place-of-requires c κs = search needs
 
--- src/scan.rt:85:9
 place-of-requires-2 : tie.Need-place-of-requires-2
 place-of-requires-2 c κs = search needs
 
--- src/scan.rt:87:9
 returns-2 : tie.Need-returns-2
 returns-2 c = two-no-first _ _ _ (c .before .before .before .if1 .left) _ (c .before .before .place-of .ensures) (c .if2 .taken)
 
--- src/scan.rt:90:9
 returns-3 : tie.Need-returns-3
 returns-3 c = two-no-second _ _ _ (c .before .before .before .before .if1 .left) _ (c .before .before .place-of2 .ensures) (c .if3 .taken)
 
--- src/scan.rt:93:44
 cast-t9 : tie.Need-cast-t9
 cast-t9 c = search needs
 
--- src/scan.rt:93:53
 cast-t10 : tie.Need-cast-t10
 cast-t10 c = search needs
 
--- src/scan.rt:93:9
 returns-4 : tie.Need-returns-4
 returns-4 c = two-sequence _ _ _ (c .before .before .before .before .before .if1 .left) _ _ (c .before .before .before .before .place-of .ensures) (c .before .before .before .place-of2 .ensures) (c .before .before .if2 .left) (c .before .if3 .left) (c .if4 .taken)
 
--- src/scan.rt:96:47
 cast-t12 : tie.Need-cast-t12
 cast-t12 c = search needs
 
--- src/scan.rt:96:56
 cast-t13 : tie.Need-cast-t13
 cast-t13 c = search needs
 
--- src/scan.rt:96:9
 returns-5 : tie.Need-returns-5
 returns-5 c = two-alternative _ _ _ (c .before .before .before .before .before .before .if1 .left) _ _ (c .before .before .before .before .before .place-of .ensures) (c .before .before .before .before .place-of2 .ensures) (c .before .before .before .if2 .left) (c .before .before .if3 .left) (c .before .if4 .left) (c .if5 .taken)
 
--- src/scan.rt:78:1
 returns-6 : tie.Need-returns-6
 returns-6 c = two-other _ _ _ (c .before .before .before .before .before .before .if1 .left) (c .before .if4 .left) (c .if5 .left)
 

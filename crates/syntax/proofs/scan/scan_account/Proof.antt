@@ -1,23 +1,16 @@
+-- `syntax::scan::scan_account` meets its contract.
 use Rattle.syntax.specs.Scanning.{room, account-big, account-last, account-neither, account-on}
 use Rattle.syntax.specs.Text.{single, account}
-use mathlib.Core.Path.{_≡_, sym, ap, ap₂, _∙_}
+use mathlib.Core.Path.{_≡_, ap, ap₂, _∙_}
 use Prim.Native.Nat.{_+_, _≤_}
 use native.Mathlib.Omega.{arith}
 use lib.ListN.{drop}
 use Rattle.syntax.specs.Fields.{field-small, word}
-use Rattle.syntax.specs.Scans.{parsed, finished, parts-scanned}
+use Rattle.syntax.specs.Scans.{finished, parts-scanned}
 use Rattle.syntax.specs.Cuts.{Reads, reads-at}
 use borrow.Author.Needs.{needs}
 use Rattle.syntax.proofs.scan.scan_account.Statement.{statement}
 use Rattle.syntax.proofs.scan.scan_account.Tie as tie
-use Rattle.syntax.proofs.scan.scan_account.Reads as own-reads
-use Rattle.syntax.proofs.scan.scan_account.Lts as lts
-use Rattle.syntax.proofs.field.account_of.Reads as account-of-reads
-use Rattle.syntax.proofs.field.field_from.Reads as field-from-reads
-use Rattle.syntax.proofs.field.single_of.Reads as single-of-reads
-use Rattle.syntax.proofs.scan.finish.Reads as finish-reads
-use Rattle.syntax.proofs.scan.parse_none.Reads as parse-none-reads
-use Rattle.syntax.proofs.scan.scan_parts.Reads as scan-parts-reads
 
 -- the first field that is read, told of the text
 reads : (c : tie.After-field-from) → Reads (drop (c .before .before .args .at) (c .before .before .args .text .now)) (c .field-from .result)
@@ -29,55 +22,42 @@ small c = field-small (c .before .before .args .text .now) (c .before .before .a
 told : (c : tie.After-account-of) → c .account-of .result ≡ account (single (word (c .before .before .field-from .result)))
 told c = c .account-of .ensures ∙ ap account (c .before .single-of .ensures)
 
--- src/scan.rt:135:9
 field-from-requires : tie.Need-field-from-requires
 field-from-requires c κs = search needs
 
--- src/scan.rt:136:30
 single-of-requires : tie.Need-single-of-requires
 single-of-requires c κs = search needs
 
--- src/scan.rt:136:9
 account-of-requires : tie.Need-account-of-requires
 account-of-requires c κs = search needs
 
--- src/scan.rt:138:9
 returns : tie.Need-returns
 returns c = account-big (c .before .before .before .before .before .args .text .now) (c .before .before .before .before .before .args .at) _ (reads (c .before .before .before)) _ (omega (arith, told (c .before)))
 
--- src/scan.rt:140:15
 add-end : tie.Need-add-end
 add-end c = omega (arith, small (c .before .before .before .before))
 
--- src/scan.rt:142:32
 parse-none-requires : tie.Need-parse-none-requires
 parse-none-requires c κs = search needs
 
--- src/scan.rt:142:50
 add-finish : tie.Need-add-finish
 add-finish c = omega (arith, small (c .before .before .before .before .before .before .before))
 
--- src/scan.rt:142:9
 finish-requires : tie.Need-finish-requires
 finish-requires c κs = search needs
 
--- src/scan.rt:142:9
 returns-2 : tie.Need-returns-2
 returns-2 c = c .finish .ensures ∙ ap₂ (λ a p. finished a p (c .before .before .before .before .before .before .before .before .before .before .args .at + c .before .before .before .before .before .before .before .before .field-from .result .size + 1)) (told (c .before .before .before .before .before .before)) (c .before .parse-none .ensures) ∙ account-last (c .before .before .before .before .before .before .before .before .before .before .args .text .now) (c .before .before .before .before .before .before .before .before .before .before .args .at) _ (reads (c .before .before .before .before .before .before .before .before)) _ (omega (arith, told (c .before .before .before .before .before .before))) (c .before .before .if2 .taken)
 
--- src/scan.rt:145:9
 returns-3 : tie.Need-returns-3
 returns-3 c = account-neither (c .before .before .before .before .before .before .before .before .before .before .args .text .now) (c .before .before .before .before .before .before .before .before .before .before .args .at) _ (reads (c .before .before .before .before .before .before .before .before)) _ (c .if3 .taken) (c .before .before .if2 .left)
 
--- src/scan.rt:147:22
 add-scan-parts : tie.Need-add-scan-parts
 add-scan-parts c = omega (arith, small (c .before .before .before .before .before .before .before .before))
 
--- src/scan.rt:147:5
 scan-parts-requires : tie.Need-scan-parts-requires
 scan-parts-requires c κs = omega (arith, room (c .before .before .before .before .before .before .before .before .before .before .args .text .now) (c .before .before .before .before .before .before .before .before .before .before .args .at) _ (reads (c .before .before .before .before .before .before .before .before)) (c .if3 .left))
 
--- src/scan.rt:131:1
 returns-4 : tie.Need-returns-4
 returns-4 c = c .scan-parts .ensures ∙ ap (λ a. parts-scanned a (c .before .before .before .before .before .before .before .before .before .before .before .args .kind) (c .before .before .before .before .before .before .before .before .before .before .before .args .at + c .before .before .before .before .before .before .before .before .before .field-from .result .size + 1) (drop (c .before .before .before .before .before .before .before .before .before .before .before .args .at + c .before .before .before .before .before .before .before .before .before .field-from .result .size + 1) (c .before .before .before .before .before .before .before .before .before .before .before .args .text .now))) (told (c .before .before .before .before .before .before .before)) ∙ account-on (c .before .before .before .before .before .before .before .before .before .before .before .args .text .now) (c .before .before .before .before .before .before .before .before .before .before .before .args .at) _ (reads (c .before .before .before .before .before .before .before .before .before)) _ (c .before .if3 .left)
 

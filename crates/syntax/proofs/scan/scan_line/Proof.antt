@@ -1,20 +1,15 @@
+-- `syntax::scan::scan_line` meets its contract.
 use Rattle.syntax.specs.Scanning.{room, line-no-tab, line-misplaced, line-no-account, line-on}
-use mathlib.Core.Path.{_≡_, sym, ap, ap₂, _∙_}
+use mathlib.Core.Path.{sym, ap, _∙_}
 use Prim.Native.Nat.{_+_, _≤_}
 use native.Mathlib.Omega.{arith}
 use lib.ListN.{drop}
-use Rattle.syntax.specs.Fields.{field-small, word}
+use Rattle.syntax.specs.Fields.{field-small}
 use Rattle.syntax.specs.Scans.{account-scanned}
 use Rattle.syntax.specs.Cuts.{Reads, reads-at}
 use borrow.Author.Needs.{needs}
 use Rattle.syntax.proofs.scan.scan_line.Statement.{statement}
 use Rattle.syntax.proofs.scan.scan_line.Tie as tie
-use Rattle.syntax.proofs.scan.scan_line.Reads as own-reads
-use Rattle.syntax.proofs.scan.scan_line.Lts as lts
-use Rattle.syntax.proofs.field.field_from.Reads as field-from-reads
-use Rattle.syntax.proofs.field.place_of.Reads as place-of-reads
-use Rattle.syntax.proofs.field.single_of.Reads as single-of-reads
-use Rattle.syntax.proofs.scan.scan_account.Reads as scan-account-reads
 
 -- the first field that is read, told of the text
 reads : (c : tie.After-field-from) → Reads (drop (c .before .before .args .at) (c .before .before .args .text .now)) (c .field-from .result)
@@ -30,63 +25,48 @@ reads2 c = reads-at (c .before .before .before .before .before .before .before .
 small2 : (c : tie.After-field-from2) → c .field-from2 .result .size ≤ 3
 small2 c = field-small (c .before .before .before .before .before .before .before .before .args .text .now) (c .before .before .before .before .before .before .before .before .args .at + c .before .before .before .before .before .before .field-from .result .size + 1) _ (c .field-from2 .ensures)
 
--- src/scan.rt:155:9
 field-from-requires : tie.Need-field-from-requires
 field-from-requires c κs = search needs
 
--- src/scan.rt:157:9
 returns : tie.Need-returns
 returns c = line-no-tab (c .before .before .before .before .args .text .now) (c .before .before .before .before .args .at) _ (reads (c .before .before)) _ (c .before .before .before .before .pre .1) (c .if1 .taken)
 
--- src/scan.rt:159:8
 place-of-requires : tie.Need-place-of-requires
 place-of-requires c κs = search needs
 
--- src/scan.rt:159:8
 cast-if2 : tie.Need-cast-if2
 cast-if2 c = search needs
 
--- src/scan.rt:160:9
 returns-2 : tie.Need-returns-2
 returns-2 c = line-misplaced (c .before .before .before .before .before .before .args .text .now) (c .before .before .before .before .before .before .args .at) _ (reads (c .before .before .before .before)) _ (c .before .before .before .before .before .before .pre .1) (λ e. c .if2 .taken (c .before .place-of .ensures ∙ e))
 
--- src/scan.rt:162:15
 add-end : tie.Need-add-end
 add-end c = omega (arith, small (c .before .before .before .before .before))
 
--- src/scan.rt:163:30
 add-field-from : tie.Need-add-field-from
 add-field-from c = omega (arith, small (c .before .before .before .before .before))
 
--- src/scan.rt:163:9
 field-from-requires-2 : tie.Need-field-from-requires-2
 field-from-requires-2 c κs = omega (arith, room (c .before .before .before .before .before .before .before .args .text .now) (c .before .before .before .before .before .before .before .args .at) _ (reads (c .before .before .before .before .before)) (c .before .before .before .if1 .left))
 
--- src/scan.rt:165:9
 returns-3 : tie.Need-returns-3
 returns-3 c = line-no-account (c .before .before .before .before .before .before .before .before .before .before .args .text .now) (c .before .before .before .before .before .before .before .before .before .before .args .at) _ (reads (c .before .before .before .before .before .before .before .before)) _ (c .before .before .before .before .before .before .before .before .before .before .pre .1) (c .before .before .before .before .before .before .if1 .left) _ (reads2 (c .before .before)) (c .if3 .taken)
 
--- src/scan.rt:167:24
 add-scan-account : tie.Need-add-scan-account
 add-scan-account c = omega (arith, small (c .before .before .before .before .before .before .before .before))
 
--- src/scan.rt:167:24
 add-scan-account-2 : tie.Need-add-scan-account-2
 add-scan-account-2 c = omega (arith, small (c .before .before .before .before .before .before .before .before .before), small2 (c .before .before .before))
 
--- src/scan.rt:167:24
 add-scan-account-3 : tie.Need-add-scan-account-3
 add-scan-account-3 c = omega (arith, small (c .before .before .before .before .before .before .before .before .before), small2 (c .before .before .before))
 
--- src/scan.rt:167:46
 single-of-requires : tie.Need-single-of-requires
 single-of-requires c κs = search needs
 
--- src/scan.rt:167:5
 scan-account-requires : tie.Need-scan-account-requires
 scan-account-requires c κs = omega (arith, room (c .before .before .before .before .before .before .before .before .before .before .before .before .args .text .now) (c .before .before .before .before .before .before .before .before .before .before .before .before .args .at + c .before .before .before .before .before .before .before .before .before .before .field-from .result .size + 1) _ (reads2 (c .before .before .before .before)) (c .before .before .if3 .left))
 
--- src/scan.rt:151:1
 returns-4 : tie.Need-returns-4
 returns-4 c = c .scan-account .ensures ∙ ap (λ k. account-scanned k (c .before .before .before .before .before .before .before .before .before .before .before .before .before .args .at + c .before .before .before .before .before .before .before .before .before .before .before .field-from .result .size + 1 + c .before .before .before .before .before .field-from2 .result .size + 1) (drop (c .before .before .before .before .before .before .before .before .before .before .before .before .before .args .at + c .before .before .before .before .before .before .before .before .before .before .before .field-from .result .size + 1 + c .before .before .before .before .before .field-from2 .result .size + 1) (c .before .before .before .before .before .before .before .before .before .before .before .before .before .args .text .now))) (c .before .single-of .ensures) ∙ line-on (c .before .before .before .before .before .before .before .before .before .before .before .before .before .args .text .now) (c .before .before .before .before .before .before .before .before .before .before .before .before .before .args .at) _ (reads (c .before .before .before .before .before .before .before .before .before .before .before)) _ (c .before .before .before .before .before .before .before .before .before .before .before .before .before .pre .1) (c .before .before .before .before .before .before .before .before .before .if1 .left) _ (reads2 (c .before .before .before .before .before)) (sym (c .before .before .before .before .before .before .before .before .place-of .ensures) ∙ c .before .before .before .before .before .before .before .if2 .left) (c .before .before .before .if3 .left)
 

@@ -1,20 +1,15 @@
+-- `syntax::scan::scan_parts` meets its contract.
 use Rattle.syntax.specs.Scanning.{room, parts-one, parts-neither, parts-no-end, parts-two}
-use mathlib.Core.Path.{_≡_, sym, ap, ap₂, _∙_}
+use mathlib.Core.Path.{ap, _∙_}
 use Prim.Native.Nat.{_+_, _≤_}
 use native.Mathlib.Omega.{arith}
 use lib.ListN.{drop}
-use Rattle.syntax.specs.Fields.{field-small, word}
-use Rattle.syntax.specs.Scans.{parsed, finished}
+use Rattle.syntax.specs.Fields.{field-small}
+use Rattle.syntax.specs.Scans.{finished}
 use Rattle.syntax.specs.Cuts.{Reads, reads-at}
 use borrow.Author.Needs.{needs}
 use Rattle.syntax.proofs.scan.scan_parts.Statement.{statement}
 use Rattle.syntax.proofs.scan.scan_parts.Tie as tie
-use Rattle.syntax.proofs.scan.scan_parts.Reads as own-reads
-use Rattle.syntax.proofs.scan.scan_parts.Lts as lts
-use Rattle.syntax.proofs.field.field_from.Reads as field-from-reads
-use Rattle.syntax.proofs.scan.finish.Reads as finish-reads
-use Rattle.syntax.proofs.scan.parse_one.Reads as parse-one-reads
-use Rattle.syntax.proofs.scan.parse_two.Reads as parse-two-reads
 
 -- the first field that is read, told of the text
 reads : (c : tie.After-field-from) → Reads (drop (c .before .before .args .at) (c .before .before .args .text .now)) (c .field-from .result)
@@ -30,67 +25,51 @@ reads2 c = reads-at (c .before .before .before .before .before .before .before .
 small2 : (c : tie.After-field-from2) → c .field-from2 .result .size ≤ 3
 small2 c = field-small (c .before .before .before .before .before .before .before .before .args .text .now) (c .before .before .before .before .before .before .before .before .args .at + c .before .before .before .before .before .before .field-from .result .size + 1) _ (c .field-from2 .ensures)
 
--- src/scan.rt:115:9
 field-from-requires : tie.Need-field-from-requires
 field-from-requires c κs = search needs
 
--- src/scan.rt:116:15
 add-end : tie.Need-add-end
 add-end c = omega (arith, small (c .before))
 
--- src/scan.rt:118:32
 parse-one-requires : tie.Need-parse-one-requires
 parse-one-requires c κs = search needs
 
--- src/scan.rt:118:52
 add-finish : tie.Need-add-finish
 add-finish c = omega (arith, small (c .before .before .before .before))
 
--- src/scan.rt:118:9
 finish-requires : tie.Need-finish-requires
 finish-requires c κs = search needs
 
--- src/scan.rt:118:9
 returns : tie.Need-returns
 returns c = c .finish .ensures ∙ ap (λ p. finished (c .before .before .before .before .before .before .before .args .account) p (c .before .before .before .before .before .before .before .args .at + c .before .before .before .before .before .field-from .result .size + 1)) (c .before .parse-one .ensures) ∙ parts-one (c .before .before .before .before .before .before .before .args .text .now) (c .before .before .before .before .before .before .before .args .at) _ (reads (c .before .before .before .before .before)) _ _ (c .before .before .before .before .before .before .before .pre .1) (c .before .before .if1 .taken)
 
--- src/scan.rt:121:9
 returns-2 : tie.Need-returns-2
 returns-2 c = parts-neither (c .before .before .before .before .before .before .before .args .text .now) (c .before .before .before .before .before .before .before .args .at) _ (reads (c .before .before .before .before .before)) _ _ (c .if2 .taken) (c .before .before .if1 .left)
 
--- src/scan.rt:123:30
 add-field-from : tie.Need-add-field-from
 add-field-from c = omega (arith, small (c .before .before .before .before .before))
 
--- src/scan.rt:123:9
 field-from-requires-2 : tie.Need-field-from-requires-2
 field-from-requires-2 c κs = omega (arith, room (c .before .before .before .before .before .before .before .args .text .now) (c .before .before .before .before .before .before .before .args .at) _ (reads (c .before .before .before .before .before)) (c .if2 .left))
 
--- src/scan.rt:125:9
 returns-3 : tie.Need-returns-3
 returns-3 c = parts-no-end (c .before .before .before .before .before .before .before .before .before .before .args .text .now) (c .before .before .before .before .before .before .before .before .before .before .args .at) _ (reads (c .before .before .before .before .before .before .before .before)) _ _ (c .before .before .before .if2 .left) _ (reads2 (c .before .before)) (c .if3 .taken)
 
--- src/scan.rt:127:21
 parse-two-requires : tie.Need-parse-two-requires
 parse-two-requires c κs = search needs
 
--- src/scan.rt:127:44
 add-finish-2 : tie.Need-add-finish-2
 add-finish-2 c = omega (arith, small (c .before .before .before .before .before .before .before .before .before))
 
--- src/scan.rt:127:44
 add-finish-3 : tie.Need-add-finish-3
 add-finish-3 c = omega (arith, small (c .before .before .before .before .before .before .before .before .before .before), small2 (c .before .before .before .before))
 
--- src/scan.rt:127:44
 add-finish-4 : tie.Need-add-finish-4
 add-finish-4 c = omega (arith, small (c .before .before .before .before .before .before .before .before .before .before), small2 (c .before .before .before .before))
 
--- src/scan.rt:127:5
 finish-requires-2 : tie.Need-finish-requires-2
 finish-requires-2 c κs = search needs
 
--- src/scan.rt:111:1
 returns-4 : tie.Need-returns-4
 returns-4 c = c .finish2 .ensures ∙ ap (λ p. finished (c .before .before .before .before .before .before .before .before .before .before .before .before .before .args .account) p (c .before .before .before .before .before .before .before .before .before .before .before .before .before .args .at + c .before .before .before .before .before .before .before .before .before .before .before .field-from .result .size + 1 + c .before .before .before .before .before .field-from2 .result .size + 1)) (c .before .before .parse-two .ensures) ∙ parts-two (c .before .before .before .before .before .before .before .before .before .before .before .before .before .args .text .now) (c .before .before .before .before .before .before .before .before .before .before .before .before .before .args .at) _ (reads (c .before .before .before .before .before .before .before .before .before .before .before)) _ _ (c .before .before .before .before .before .before .if2 .left) _ (reads2 (c .before .before .before .before .before)) (c .before .before .before .before .before .before .before .before .before .before .before .before .before .pre .1) (c .before .before .before .if3 .left)
 

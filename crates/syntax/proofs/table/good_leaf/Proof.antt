@@ -1,41 +1,29 @@
-use mathlib.Core.Path.{sym, ap, _∙_}
+-- `syntax::table::good_leaf` meets its contract.
 use borrow.Author.Needs.{needs}
 use Rattle.syntax.proofs.table.good_leaf.Statement.{statement}
 use Rattle.syntax.proofs.table.good_leaf.Tie as tie
-use Rattle.syntax.proofs.table.good_leaf.Reads as reads
-use Rattle.syntax.proofs.table.good_leaf.Lts as lts
-use Rattle.syntax.proofs.is_letter.Reads as is-letter-reads
-use Rattle.syntax.proofs.table.good_range.Reads as good-range-reads
 
--- src/table.rt:27:26
 enum-told : tie.Need-enum-told
 enum-told c = search needs
 
--- src/table.rt:28:22
 enum-known-leaf : tie.Need-enum-known-leaf
 enum-known-leaf c = search needs
 
--- src/table.rt:28:28
 is-letter-requires : tie.Need-is-letter-requires
 is-letter-requires c κs = search needs
 
--- src/table.rt:29:21
 enum-known-leaf-2 : tie.Need-enum-known-leaf-2
 enum-known-leaf-2 c = search needs
 
--- src/table.rt:29:30
 good-range-requires : tie.Need-good-range-requires
 good-range-requires c κs = search needs
 
--- src/table.rt:23:1
 returns : tie.Need-returns
 returns c = search needs
 
--- src/table.rt:23:1
 returns-2 : tie.Need-returns-2
 returns-2 c = rw (c .before .before .leaf .given .1) (c .is-letter .ensures)
 
--- src/table.rt:23:1
 returns-3 : tie.Need-returns-3
 returns-3 c = rw (c .before .before .leaf2 .given .1) (c .good-range .ensures)
 

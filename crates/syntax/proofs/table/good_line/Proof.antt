@@ -1,54 +1,41 @@
+-- `syntax::table::good_line` meets its contract.
 use Rattle.syntax.specs.Table.{line-good}
-use borrow.Author.Tests.{lt-ltb, le-ltb, le-leb, lt-leb, eq-eqb, ne-eqb}
-use mathlib.Core.Path.{sym, ap, _∙_}
+use borrow.Author.Tests.{le-leb, lt-leb}
 use borrow.Author.Needs.{needs}
 use Rattle.syntax.proofs.table.good_line.Statement.{statement}
 use Rattle.syntax.proofs.table.good_line.Tie as tie
-use Rattle.syntax.proofs.table.good_line.Reads as reads
-use Rattle.syntax.proofs.table.good_line.Lts as lts
-use Rattle.syntax.proofs.table.good_leaf.Reads as good-leaf-reads
 
--- src/table.rt:37:9
 returns : tie.Need-returns
 unfolding line-good
 returns c = simp (lt-leb _ _ (c .if1 .taken))
 
--- src/table.rt:41:20
 enum-known-node : tie.Need-enum-known-node
 enum-known-node c = search needs
 
--- src/table.rt:41:29
 good-leaf-requires : tie.Need-good-leaf-requires
 good-leaf-requires c κs = search needs
 
--- src/table.rt:42:33
 enum-told : tie.Need-enum-told
 enum-told c = search needs
 
--- src/table.rt:43:36
 enum-told-2 : tie.Need-enum-told-2
 enum-told-2 c = search needs
 
--- src/table.rt:44:26
 enum-told-3 : tie.Need-enum-told-3
 enum-told-3 c = search needs
 
--- src/table.rt:33:1
 returns-2 : tie.Need-returns-2
 unfolding line-good
 returns-2 c = rw (le-leb _ _ (c .before .before .before .before .if1 .left), c .before .before .node .given .1) (c .good-leaf .ensures)
 
--- src/table.rt:33:1
 returns-3 : tie.Need-returns-3
 unfolding line-good
 returns-3 c = rw (le-leb _ _ (c .before .before .if1 .left), c .enum-told .given .1)
 
--- src/table.rt:33:1
 returns-4 : tie.Need-returns-4
 unfolding line-good
 returns-4 c = rw (le-leb _ _ (c .before .before .if1 .left), c .enum-told2 .given .1)
 
--- src/table.rt:33:1
 returns-5 : tie.Need-returns-5
 unfolding line-good
 returns-5 c = rw (le-leb _ _ (c .before .before .if1 .left), c .enum-told3 .given .1)

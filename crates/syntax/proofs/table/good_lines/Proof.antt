@@ -1,16 +1,12 @@
-use borrow.Author.Tests.{not-true, not-false}
+-- `syntax::table::good_lines` meets its contract.
 use mathlib.Core.Path.{sym, ap, _∙_}
 use mathlib.Core.Bool.{not}
 use Prim.Native.Nat.{_-_}
-use native.Mathlib.Omega.{arith}
 use Rattle.syntax.specs.Table.{badly-formed, is-none}
 use Rattle.syntax.specs.Lowest.{Searched, searched-start, searched-end, searched-here, searched-on}
 use borrow.Author.Needs.{needs}
 use Rattle.syntax.proofs.table.good_lines.Statement.{statement}
 use Rattle.syntax.proofs.table.good_lines.Tie as tie
-use Rattle.syntax.proofs.table.good_lines.Reads as reads
-use Rattle.syntax.proofs.table.good_lines.Lts as lts
-use Rattle.syntax.proofs.table.good_line.Reads as good-line-reads
 
 abbrev Inv-loop : tie.InvT-loop
 Inv-loop p i₀ i = Searched (badly-formed p) (p .count) i
@@ -18,39 +14,30 @@ Inv-loop p i₀ i = Searched (badly-formed p) (p .count) i
 abbrev μ-loop : tie.MeasureT-loop
 μ-loop p i₀ i = p .count - i
 
--- src/table.rt:53:5
 loop-holds : tie.Need-loop-holds Inv-loop μ-loop
 loop-holds c = searched-start _ _
 
--- src/table.rt:57:20
 mul-line : tie.Need-mul-line Inv-loop μ-loop
 mul-line c = search needs
 
--- src/table.rt:57:20
 element-copy-out-line : tie.Need-element-copy-out-line Inv-loop μ-loop
 element-copy-out-line c = search needs
 
--- src/table.rt:58:13
 good-line-requires : tie.Need-good-line-requires Inv-loop μ-loop
 good-line-requires c κs = search needs
 
--- src/table.rt:61:9
 add-i : tie.Need-add-i Inv-loop μ-loop
 add-i c = search needs
 
--- src/table.rt:53:5
 loop-less : tie.Need-loop-less Inv-loop μ-loop
 loop-less c = search needs
 
--- src/table.rt:53:5
 loop-again : tie.Need-loop-again Inv-loop μ-loop
 loop-again c = searched-on _ _ _ (c .before .before .before .before .loop .inv) (c .before .before .before .if1 .left) (ap not (sym (c .before .good-line .ensures)) ∙ c .if2 .left)
 
--- src/table.rt:48:1
 returns : tie.Need-returns Inv-loop μ-loop
 returns c = sym (ap is-none (searched-end _ _ _ (c .before .loop .inv) (c .if1 .taken)))
 
--- src/table.rt:48:1
 returns-2 : tie.Need-returns-2 Inv-loop μ-loop
 returns-2 c = sym (ap is-none (searched-here _ _ _ (c .before .before .before .before .loop .inv) (c .before .before .before .if1 .left) (ap not (sym (c .before .good-line .ensures)) ∙ c .if2 .taken)))
 
