@@ -22,6 +22,7 @@ pub mod CodeLaws
 pub mod PositionLaws
 pub mod CompleteLaws
 pub mod SecondSweepLaws
+pub mod PartLaws
 pub mod FirstSweepLaws
 pub mod StripLaws
 pub mod GreedyLaws

@@ -1,5 +1,6 @@
 -- `syntax::field::long_place` meets its contract.
 use Rattle.syntax.specs.Text.{two-digits}
+use native.Mathlib.Omega.{arith}
 use borrow.Author.Tests.{lt-ltb, le-ltb, le-leb, lt-leb}
 use borrow.Author.Needs.{needs}
 use Rattle.syntax.proofs.field.long_place.Statement.{statement}
@@ -7,15 +8,15 @@ use Rattle.syntax.proofs.field.long_place.Tie as tie
 
 returns : tie.Need-returns
 unfolding two-digits
-returns c = simp (lt-leb _ _ (c .if1 .taken))
+returns c = simp (lt-leb 1 (c .before .args .a) (omega arith))
 
 returns-2 : tie.Need-returns-2
 unfolding two-digits
-returns-2 c = simp (le-leb _ _ (c .before .if1 .left), lt-leb _ _ (c .if2 .taken))
+returns-2 c = simp (le-leb 1 (c .before .before .args .a) (omega arith), lt-leb _ _ (c .if2 .taken))
 
 returns-3 : tie.Need-returns-3
 unfolding two-digits
-returns-3 c = simp (le-leb _ _ (c .before .before .if1 .left), le-leb _ _ (c .before .if2 .left), lt-leb _ _ (c .if3 .taken))
+returns-3 c = simp (le-leb 1 (c .before .before .before .args .a) (omega arith), le-leb _ _ (c .before .if2 .left), lt-leb _ _ (c .if3 .taken))
 
 mul-if4 : tie.Need-mul-if4
 mul-if4 c = search needs
@@ -31,11 +32,11 @@ add-result c = search needs
 
 returns-4 : tie.Need-returns-4
 unfolding two-digits
-returns-4 c = simp (le-leb _ _ (c .before .before .before .if1 .left), le-leb _ _ (c .before .before .if2 .left), le-leb _ _ (c .before .if3 .left), lt-ltb _ _ (c .if4 .taken))
+returns-4 c = simp (le-leb 1 (c .before .before .before .before .args .a) (omega arith), le-leb _ _ (c .before .before .if2 .left), le-leb _ _ (c .before .if3 .left), lt-ltb _ _ (c .if4 .taken))
 
 returns-5 : tie.Need-returns-5
 unfolding two-digits
-returns-5 c = simp (le-leb _ _ (c .before .before .before .if1 .left), le-leb _ _ (c .before .before .if2 .left), le-leb _ _ (c .before .if3 .left), le-ltb _ _ (c .if4 .left))
+returns-5 c = simp (le-leb 1 (c .before .before .before .before .args .a) (omega arith), le-leb _ _ (c .before .before .if2 .left), le-leb _ _ (c .before .if3 .left), le-ltb _ _ (c .if4 .left))
 
 pub long-place-spec : {M : Type 1} → statement M
 long-place-spec =

@@ -1,0 +1,17 @@
+-- `codes::walk::side_at` meets its contract.
+use mathlib.Core.Path.{sym, _∙_}
+use borrow.Author.Needs.{needs}
+use Rattle.codes.proofs.walk.side_at.Statement.{statement}
+use Rattle.codes.proofs.walk.side_at.Tie as tie
+
+bit-at-requires : tie.Need-bit-at-requires
+bit-at-requires c κs = search needs
+
+returns : tie.Need-returns
+returns c = rw (sym (c .before .bit-at .ensures) ∙ c .if1 .taken)
+
+returns-2 : tie.Need-returns-2
+returns-2 c = rw (sym (c .before .bit-at .ensures) ∙ c .if1 .left)
+
+pub side-at-spec : {M : Type 1} → statement M
+side-at-spec = tie.close (tie.spec bit-at-requires returns returns-2)

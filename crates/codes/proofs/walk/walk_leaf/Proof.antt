@@ -1,0 +1,42 @@
+-- `codes::walk::walk_leaf` meets its contract.
+use Rattle.codes.specs.Walks.{walk-is}
+use Rattle.codes.specs.Words.{word-nothing, word-letter}
+use Rattle.syntax.specs.Table.{leaf-good}
+use mathlib.Core.Path.{sym, ap, _∙_}
+use native.Mathlib.Omega.{arith}
+use borrow.Author.Needs.{needs}
+use Rattle.codes.proofs.walk.walk_leaf.Statement.{statement}
+use Rattle.codes.proofs.walk.walk_leaf.Tie as tie
+
+enum-told : tie.Need-enum-told
+enum-told c = search needs
+
+enum-told-2 : tie.Need-enum-told-2
+enum-told-2 c = search needs
+
+enum-known-leaf : tie.Need-enum-known-leaf
+enum-known-leaf c = search needs
+
+walk-range-requires : tie.Need-walk-range-requires
+walk-range-requires c κs = (ap leaf-good (sym (c .before .leaf .given .1)) ∙ c .before .before .before .before .pre .0, c .before .before .before .before .pre .1)
+
+returns : tie.Need-returns
+returns c m f = rw (c .enum-told .given .1) (walk-is _ _ _ _ _ (word-nothing _ _ (omega arith) m _ (omega arith)))
+
+returns-2 : tie.Need-returns-2
+returns-2 c m f = rw (c .enum-told2 .given .1) (walk-is _ _ _ _ _ (word-letter _ _ (omega arith) m _ _ (omega arith)))
+
+returns-3 : tie.Need-returns-3
+returns-3 c m f = rw (c .before .before .leaf .given .1) (c .walk-range .ensures m f)
+
+pub walk-leaf-spec : {M : Type 1} → statement M
+walk-leaf-spec =
+    tie.close
+    (tie.spec
+    enum-told
+    enum-told-2
+    enum-known-leaf
+    walk-range-requires
+    returns
+    returns-2
+    returns-3)

@@ -1,0 +1,66 @@
+-- Spelling a code: the answer and the tape, for every input. Definitions only.
+use mathlib.Core.Path.{_≡_}
+use mathlib.Core.Bool.{Bool, _&&_, cond}
+use mathlib.Core.List.{List}
+use Prim.Native.Nat.{ℕ}
+use lib.Dec.{eqb, leb}
+use lib.ListN.{length}
+use Rattle.syntax.specs.declared.Pattern.{Pattern}
+use Rattle.syntax.specs.declared.Refusal.{Refusal}
+use Rattle.syntax.specs.declared.Refusal.the-variants.{Tree as Tree-fault, TapeTooLong, NotACode, TapeTooShort}
+use Rattle.syntax.specs.Tree.{Tree}
+use Rattle.syntax.specs.Trees.{root}
+use Rattle.syntax.specs.Table.{obeys}
+use Rattle.syntax.specs.Refusals.{Answer, answer, refused}
+use Rattle.bits.specs.Bits.{held, handed-good, in-front}
+use Rattle.semantics.specs.Decode.{is-code, spelled}
+use Rattle.codes.specs.declared.Flattened.{Flattened}
+use Rattle.codes.specs.declared.Flattened.the-variants.{Letters, Refused}
+
+-- 01: "Tapes hold at most 3,600 letters"
+abbrev pub letter-limit : ℕ
+letter-limit = 3600
+
+-- 01, cause 8: "not a whole code of the pattern, by bits, range, count or padding". What is handed in is good bytes, and its bits are a code.
+unfoldable pub whole-code : (t : Tree) → (code : List ℕ) → (count : ℕ) → Bool
+whole-code t code count = handed-good code count && is-code t (held 8 code count)
+
+-- 01: what a code "spells"
+unfoldable pub letters-of : (t : Tree) → (code : List ℕ) → (count : ℕ) → List ℕ
+letters-of t code count = spelled t (held 8 code count)
+
+-- 01: "Each service tests the loaded table it is given; any departure from the pattern rules [..] is 2", and beside it, but when loading, 0
+abbrev pub bad-table : Answer
+bad-table = refused (Tree-fault 0)
+
+abbrev pub no-code : Answer
+no-code = refused NotACode
+
+abbrev pub too-long : Answer
+too-long = refused TapeTooLong
+
+-- 01: cause 9, "tape buffer shorter than the spelling", with the "letters needed"
+abbrev pub room-answer : (letters size : ℕ) → Answer
+room-answer n size = cond (leb n size) (answer 0 n) (refused (TapeTooShort n))
+
+-- 01: "Spelling a code: 2, 8, 3, 9. Gives the letters."
+unfoldable pub flatten-answer : Pattern → (code : List ℕ) → (count : ℕ) → (size : ℕ) → Answer
+flatten-answer p code count size =
+    cond (obeys p)
+    (cond (whole-code (root p) code count)
+    (cond (leb (length (letters-of (root p) code count)) letter-limit) (room-answer (length (letters-of (root p) code count)) size) too-long)
+    no-code)
+    bad-table
+
+-- the letters in front of the buffer, or all "Left as it was"; "Buffer cells past the written ones never change."
+unfoldable pub flatten-tape : Pattern → (code : List ℕ) → (count : ℕ) → (tape : List ℕ) → List ℕ
+flatten-tape p code count tape = cond (eqb (flatten-answer p code count (length tape) .number) 0) (in-front (letters-of (root p) code count) tape) tape
+
+abbrev pub flattened-answer : Flattened → Answer
+flattened-answer (Letters n) = answer 0 n
+flattened-answer (Refused r) = refused r
+
+-- THE PROMISE of spelling, for every table, bytes, count and buffer
+pub record Flattens (p : Pattern) (code : List ℕ) (count : ℕ) (tape after : List ℕ) (r : Flattened) : Type 0 where
+  pub answers : flattened-answer r ≡ flatten-answer p code count (length tape)
+  pub leaves : after ≡ flatten-tape p code count tape

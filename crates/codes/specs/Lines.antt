@@ -1,0 +1,134 @@
+-- What is spelled at a line of the columns, in terms of its parts' lines: one equation for each way of a walk.
+use mathlib.Core.Path.{_≡_, refl, sym, ap, ap₂, subst, _∙_}
+use mathlib.Core.Bool.{Bool, true, false, cond, _&&_}
+use mathlib.Core.Option.{none, some}
+use mathlib.Core.Logic.{_⊎_, inl, inr, ⊎-elim}
+use mathlib.Core.List.{List, [], _∷_}
+use Prim.Native.Nat.{ℕ, _+_, _*_, _≤_, _<_}
+use native.Mathlib.Omega.{arith}
+use native.Mathlib.Decide.{decLt}
+use lib.Dec.{leb}
+use borrow.Author.Tests.{leb-true, le-leb, lt-leb}
+use lib.ListN.{length, getD}
+use Rattle.syntax.specs.declared.Leaf.{Leaf}
+use Rattle.syntax.specs.declared.Leaf.the-variants.{Nothing, Letter, Range}
+use Rattle.syntax.specs.declared.Node.{Node}
+use Rattle.syntax.specs.declared.Node.the-variants.{Leaf as Leaf-node, Sequence, Alternative, Star}
+use Rattle.syntax.specs.Letter.{is-letter, in-range}
+use Rattle.syntax.specs.Table.{leaf-good, node-good}
+use Rattle.syntax.specs.Tree.{Label, Tree, nothing, letter, range, seq, alt, star}
+use Rattle.syntax.specs.Trees.{made}
+use Rattle.syntax.specs.TreeLaws.{Below}
+use Rattle.bits.specs.Bits.{bit-at, number-at}
+use Rattle.columns.specs.Columns.{node-in, tree-in, Good}
+use Rattle.columns.specs.ColumnLaws.{line-tree, line-lower, line-formed}
+use Rattle.codes.specs.Words.{Word, word-at, word-then, word-seq, word-short, word-range, word-outside, word-alt-none, word-side, word-star-none, word-stop, word-round}
+
+-- names for the clauses of the source, where `Leaf` and `Range` cannot be imported beside the types
+abbrev pub leaf-node : Leaf → Node
+leaf-node x = Leaf-node x
+
+abbrev pub range-node : (low high : ℕ) → Leaf
+range-node a b = Range a b
+
+-- ── a byte in a range of letters ──
+and-fst : (a b : Bool) → (a && b) ≡ true → a ≡ true
+and-fst true b e = refl
+and-fst false b e = e
+
+and-snd : (a b : Bool) → (a && b) ≡ true → b ≡ true
+and-snd true b e = e
+and-snd false b e = refl-absurd e
+  where
+    refl-absurd : false ≡ true → b ≡ true
+    refl-absurd e = absurd (let z : _≡_ {A = ℕ} 0 1 = cc in omega arith)
+
+module _ (low high c : ℕ) (g : leaf-good (Range low high) ≡ true) where
+  -- both ends are letters, so what is between them is one
+  pub in-range-yes : low ≤ c → c ≤ high → in-range low high c ≡ true
+  unfolding in-range is-letter
+  in-range-yes a b =
+      let h = and-fst (is-letter low && is-letter high) (leb low high) g in
+      let p = leb-true 33 low (and-fst (leb 33 low) (leb low 126) (and-fst (is-letter low) (is-letter high) h)) in
+      let q = leb-true high 126 (and-snd (leb 33 high) (leb high 126) (and-snd (is-letter low) (is-letter high) h)) in
+      rw (le-leb 33 c (omega arith), le-leb c 126 (omega arith), le-leb low c a, le-leb c high b)
+
+  pub in-range-low : c < low → in-range low high c ≡ false
+  unfolding in-range
+  in-range-low a = rw (lt-leb low c a) (and-no (is-letter c))
+    where
+      and-no : (b : Bool) → (b && false) ≡ false
+      and-no true = refl
+      and-no false = refl
+
+  pub in-range-high : low ≤ c → high < c → in-range low high c ≡ false
+  unfolding in-range
+  in-range-high a b = rw (le-leb low c a, lt-leb c high b) (and-no (is-letter c))
+    where
+      and-no : (b : Bool) → (b && false) ≡ false
+      and-no true = refl
+      and-no false = refl
+
+-- ── what a walk may take from a line: its letters are letters, its parts stand below it ──
+module _ {kind first second : List ℕ} (good : Good kind first second) (l : ℕ) (s : l < 64) (n : Node) (en : n ≡ node-in kind first second l) where
+  pub leaf-formed : (x : Leaf) → n ≡ Leaf-node x → leaf-good x ≡ true
+  leaf-formed x e = ap node-good (sym e) ∙ line-formed good l s n en
+
+  lower : (k : Node) → n ≡ k → Below l k
+  lower k e = subst (Below l) e (line-lower good l s n en)
+
+  pub first-lower : (p q : ℕ) → n ≡ Sequence p q → p < l
+  first-lower p q e = lower (Sequence p q) e .0
+
+  pub second-lower : (p q : ℕ) → n ≡ Sequence p q → q < l
+  second-lower p q e = lower (Sequence p q) e .1
+
+  pub side-lower : (p q : ℕ) → n ≡ Alternative p q → (b : Bool) (r : ℕ) → r ≡ cond b q p → r < l
+  side-lower p q e b r er = let h = lower (Alternative p q) e in rw er (pick b (h .0) (h .1))
+    where
+      pick : (b : Bool) → p < l → q < l → cond b q p < l
+      pick true h k = k
+      pick false h k = h
+
+  pub star-lower : (p : ℕ) → n ≡ Star p → p < l
+  star-lower p e = lower (Star p) e
+
+-- ── at a line ──
+module _ {kind first second : List ℕ} (good : Good kind first second) (account : List ℕ) (code : List ℕ) (count : ℕ) (fit : count ≤ length code * 8)
+    (l : ℕ) (s : l < 64) (n : Node) (en : n ≡ node-in kind first second l) (at : ℕ) where
+  abbrev T : ℕ → Tree
+  T = tree-in kind first second account
+
+  abbrev m : Label
+  m = record { index = l; account = getD account l 0 }
+
+  pub line-as : (k : Node) → n ≡ k → tree-in kind first second account l ≡ made m T k
+  line-as k e = line-tree good l s n en account ∙ ap (made m T) e
+
+  word-as : (k : Node) → n ≡ k → word-at code count (T l) at ≡ word-at code count (made m T k) at
+  word-as k e = ap (λ t. word-at code count t at) (line-as k e)
+
+  pub seq-is : (p q : ℕ) → n ≡ Sequence p q → at ≤ count → word-at code count (T l) at ≡ word-then (word-at code count (T p) at) (word-at code count (T q))
+  seq-is p q e le = word-as (Sequence p q) e ∙ word-seq code count fit m (T p) (T q) at le
+
+  pub alt-none-is : (p q : ℕ) → n ≡ Alternative p q → count ≤ at → word-at code count (T l) at ≡ none
+  alt-none-is p q e h = word-as (Alternative p q) e ∙ word-alt-none code count fit m (T p) (T q) at h
+
+  pub side-is : (p q r : ℕ) → n ≡ Alternative p q → at < count → r ≡ cond (bit-at 8 code at) q p → word-at code count (T l) at ≡ word-at code count (T r) (at + 1)
+  side-is p q r e h er =
+      word-as (Alternative p q) e ∙ word-side code count fit m (T p) (T q) at h ∙ ap (λ t. word-at code count t (at + 1)) (pick (bit-at 8 code at) ∙ ap T (sym er))
+    where
+      pick : (b : Bool) → cond b (tree-in kind first second account q) (tree-in kind first second account p) ≡ tree-in kind first second account (cond b q p)
+      pick true = refl
+      pick false = refl
+
+  module _ (p : ℕ) (e : n ≡ Star p) where
+    pub star-none-is : count ≤ at → word-at code count (T l) at ≡ none
+    star-none-is h = word-as (Star p) e ∙ word-star-none code count fit m (T p) at h
+
+    pub stop-is : at < count → (b : Bool) → b ≡ bit-at 8 code at → b ≡ true → word-at code count (T l) at ≡ some ([], at + 1)
+    stop-is h b eb z = word-as (Star p) e ∙ word-stop code count fit m (T p) at h (sym eb ∙ z)
+
+    pub round-is : at < count → (b : Bool) → b ≡ bit-at 8 code at → b ≡ false → word-at code count (T l) at ≡ word-then (word-at code count (T p) (at + 1)) (word-at code count (T l))
+    round-is h b eb z =
+        word-as (Star p) e ∙ word-round code count fit m (T p) at h (sym eb ∙ z) ∙ ap (λ t. word-then (word-at code count (T p) (at + 1)) (word-at code count t)) (sym (line-as (Star p) e))

@@ -1,0 +1,56 @@
+-- Totalling litres: the answer and the ten totals, for every input. Definitions only.
+use mathlib.Core.Path.{_≡_}
+use mathlib.Core.Bool.{Bool, cond}
+use mathlib.Core.Option.{Option, none, some}
+use mathlib.Core.List.{List, []}
+use Prim.Native.Nat.{ℕ}
+use lib.Dec.{eqb, leb}
+use lib.ListN.{length, replicate}
+use Rattle.syntax.specs.declared.Pattern.{Pattern}
+use Rattle.syntax.specs.declared.Refusal.{Refusal}
+use Rattle.syntax.specs.Tree.{Tree}
+use Rattle.syntax.specs.Trees.{root}
+use Rattle.syntax.specs.Table.{obeys}
+use Rattle.syntax.specs.Refusals.{Answer, answer, refused}
+use Rattle.bits.specs.Bits.{held}
+use Rattle.semantics.specs.Value.{Value}
+use Rattle.semantics.specs.Accounts.{accounts, totals}
+use Rattle.semantics.specs.Decode.{value-of}
+use Rattle.codes.specs.declared.TotalsOutcome.{TotalsOutcome}
+use Rattle.codes.specs.declared.TotalsOutcome.the-variants.{Added, Refused}
+use Rattle.codes.specs.declared.Totalled.{Totalled}
+use Rattle.codes.specs.Flatten.{letter-limit, whole-code, letters-of, bad-table, no-code, too-long}
+
+-- each letter with its account; the totals are a fold over this list, and other folds over it may follow
+abbrev pub entries-by : (t : Tree) → Option (Value t) → List (ℕ × ℕ)
+entries-by t none = []
+entries-by t (some v) = accounts t v
+
+unfoldable pub entries-of : (t : Tree) → (code : List ℕ) → (count : ℕ) → List (ℕ × ℕ)
+entries-of t code count = entries-by t (value-of t (held 8 code count))
+
+-- 01: "Totalling litres: 2, 8, 3."
+unfoldable pub totals-answer : Pattern → (code : List ℕ) → (count : ℕ) → Answer
+totals-answer p code count =
+    cond (obeys p)
+    (cond (whole-code (root p) code count) (cond (leb (length (letters-of (root p) code count)) letter-limit) (answer 0 0) too-long) no-code)
+    bad-table
+
+abbrev pub no-litres : List ℕ
+no-litres = replicate 10 0
+
+-- 01: "The ten totals are returned, not lent [..]; refused, all are 0."
+unfoldable pub totals-litres : Pattern → (code : List ℕ) → (count : ℕ) → List ℕ
+totals-litres p code count = cond (eqb (totals-answer p code count .number) 0) (totals (entries-of (root p) code count)) no-litres
+
+abbrev pub totals-outcome : TotalsOutcome → Answer
+totals-outcome Added = answer 0 0
+totals-outcome (Refused r) = refused r
+
+abbrev pub refused-totals : Refusal → Totalled
+refused-totals r = record { outcome = Refused r; litres = no-litres }
+
+-- THE PROMISE of totalling, for every table, bytes and count
+pub record Totals (p : Pattern) (code : List ℕ) (count : ℕ) (r : Totalled) : Type 0 where
+  pub answers : totals-outcome (r .outcome) ≡ totals-answer p code count
+  pub gives : r .litres ≡ totals-litres p code count

@@ -1,0 +1,112 @@
+-- What is spelled from a position of a code on, and the position behind it: the equations of a walk for the spelling.
+use mathlib.Core.Path.{_≡_, refl, sym, ap, _∙_}
+use mathlib.Core.Bool.{Bool, true, false, cond}
+use mathlib.Core.Option.{Option, none, some, Option·none-ne-some, Option·some-injective}
+use mathlib.Core.List.{List, [], _∷_, _++_}
+use Prim.Native.Nat.{ℕ, _+_, _*_, _≤_, _<_}
+use native.Mathlib.Omega.{arith}
+use lib.ListN.{length, getD}
+use Rattle.syntax.specs.Letter.{in-range}
+use Rattle.syntax.specs.Tree.{Label, Tree, nothing, letter, range, seq, alt, star}
+use Rattle.bits.specs.Bits.{bit-at, number-at, held}
+use Rattle.semantics.specs.Value.{Value, flat}
+use Rattle.semantics.specs.Positions.{Seen, see, joined, and-then}
+use Rattle.semantics.specs.PositionLaws.{see-stays, see-nothing, see-letter, see-short, see-range, see-outside, see-seq, see-alt-none, see-left, see-right, see-star-none, see-stop, see-round}
+use Rattle.codes.specs.Handed.{held-length, held-bit, held-number}
+
+abbrev pub Word : Type 0
+Word = Seen (List ℕ)
+
+unfoldable pub word-at : (code : List ℕ) → (count : ℕ) → Tree → (at : ℕ) → Word
+word-at code count t at = see (held 8 code count) t (flat t) at
+
+abbrev pub word-join : List ℕ → Word → Word
+word-join = joined _++_
+
+abbrev pub word-then : Word → (ℕ → Word) → Word
+word-then = and-then _++_
+
+-- two walks that give the same, and what a walk followed by another tells of both
+module _ {A : Type 0} where
+  pub same-seen : {v w : List A} {i j : ℕ} → _≡_ {A = Seen (List A)} (some (v, i)) (some (w, j)) → (v ≡ w) × (i ≡ j)
+  same-seen {v} {w} {i} {j} e = let f = Option·some-injective (v, i) (w, j) e in (ap (λ z. z .0) f, ap (λ z. z .1) f)
+
+  join-some : (v : List A) (o : Seen (List A)) (w : List A) (j : ℕ) → joined _++_ v o ≡ some (w, j) → (x : List A) × (o ≡ some (x, j)) × (v ++ x ≡ w)
+  join-some v none w j e = absurd (Option·none-ne-some (w, j) e)
+  join-some v (some q) w j e = let (f, g) = same-seen e in (q .0, ap (λ z. some (q .0, z)) g, f)
+
+  pub then-some : (o : Seen (List A)) (f : ℕ → Seen (List A)) (w : List A) (j : ℕ) → and-then _++_ o f ≡ some (w, j)
+      → (v : List A) × (i : ℕ) × (x : List A) × (o ≡ some (v, i)) × (f i ≡ some (x, j)) × (v ++ x ≡ w)
+  then-some none f w j e = absurd (Option·none-ne-some (w, j) e)
+  then-some (some p) f w j e = let (x, g, h) = join-some (p .0) (f (p .1)) w j e in (p .0, p .1, x, refl, g, h)
+
+module _ (code : List ℕ) (count : ℕ) (fit : count ≤ length code * 8) where
+  bs : List Bool
+  bs = held 8 code count
+
+  many : length (held 8 code count) ≡ count
+  many = held-length code count fit
+
+  pub word-stays : (t : Tree) (at : ℕ) → at ≤ count → (w : List ℕ) (j : ℕ) → word-at code count t at ≡ some (w, j) → (at ≤ j) × (j ≤ count)
+  unfolding word-at
+  word-stays t at le w j e = let m = many in let h = see-stays (held 8 code count) t (flat t) at (omega arith) w j e in (h .0, omega arith)
+
+  pub word-nothing : (m : Label) (at : ℕ) → at ≤ count → word-at code count (nothing m) at ≡ some ([], at)
+  unfolding word-at
+  word-nothing m at le = let k = many in see-nothing (held 8 code count) m at (flat (nothing m)) (omega arith)
+
+  pub word-letter : (m : Label) (c at : ℕ) → at ≤ count → word-at code count (letter m c) at ≡ some (c ∷ [], at)
+  unfolding word-at
+  word-letter m c at le = let k = many in see-letter (held 8 code count) m at c (flat (letter m c)) (omega arith)
+
+  module _ (m : Label) (low high at : ℕ) where
+    pub word-short : count < at + 8 → word-at code count (range m low high) at ≡ none
+    unfolding word-at
+    word-short h = let k = many in see-short (held 8 code count) m low high (flat (range m low high)) at (omega arith)
+
+    pub word-range : (c : ℕ) → at + 8 ≤ count → c ≡ number-at 8 code at 8 → in-range low high c ≡ true → word-at code count (range m low high) at ≡ some (c ∷ [], at + 8)
+    unfolding word-at
+    word-range c h e q =
+        let k = many in
+        let n = held-number code count fit at h ∙ sym e in
+        see-range (held 8 code count) m low high (flat (range m low high)) at (omega arith) (ap (in-range low high) n ∙ q) ∙ ap (λ z. some (z ∷ [], at + 8)) n
+
+    pub word-outside : (c : ℕ) → at + 8 ≤ count → c ≡ number-at 8 code at 8 → in-range low high c ≡ false → word-at code count (range m low high) at ≡ none
+    unfolding word-at
+    word-outside c h e q =
+        let k = many in
+        let n = held-number code count fit at h ∙ sym e in
+        see-outside (held 8 code count) m low high (flat (range m low high)) at (omega arith) (ap (in-range low high) n ∙ q)
+
+  pub word-seq : (m : Label) (t u : Tree) (at : ℕ) → at ≤ count → word-at code count (seq m t u) at ≡ word-then (word-at code count t at) (word-at code count u)
+  unfolding word-at
+  word-seq m t u at le = let k = many in see-seq (held 8 code count) _++_ m t u (flat (seq m t u)) (flat t) (flat u) (λ v w. refl) at (omega arith)
+
+  pub word-alt-none : (m : Label) (t u : Tree) (at : ℕ) → count ≤ at → word-at code count (alt m t u) at ≡ none
+  unfolding word-at
+  word-alt-none m t u at h = let k = many in see-alt-none (held 8 code count) m t u (flat (alt m t u)) at (omega arith)
+
+  pub word-side : (m : Label) (t u : Tree) (at : ℕ) → at < count → word-at code count (alt m t u) at ≡ word-at code count (cond (bit-at 8 code at) u t) (at + 1)
+  unfolding word-at
+  word-side m t u at h = let k = many in go (omega arith) (bit-at 8 code at) (held-bit code count fit at h)
+    where
+      go : at < length (held 8 code count) → (b : Bool) → getD (held 8 code count) at false ≡ b
+          → see (held 8 code count) (alt m t u) (flat (alt m t u)) at ≡ see (held 8 code count) (cond b u t) (flat (cond b u t)) (at + 1)
+      go l true e = see-right (held 8 code count) m t u (flat (alt m t u)) at l e
+      go l false e = see-left (held 8 code count) m t u (flat (alt m t u)) at l e
+
+  module _ (m : Label) (t : Tree) (at : ℕ) where
+    pub word-star-none : count ≤ at → word-at code count (star m false t) at ≡ none
+    unfolding word-at
+    word-star-none h = let k = many in see-star-none (held 8 code count) m false t (flat (star m false t)) at (omega arith)
+
+    pub word-stop : at < count → bit-at 8 code at ≡ true → word-at code count (star m false t) at ≡ some ([], at + 1)
+    unfolding word-at
+    word-stop h z = let k = many in see-stop (held 8 code count) m false t (flat (star m false t)) at (omega arith) (held-bit code count fit at h ∙ z)
+
+    pub word-round : at < count → bit-at 8 code at ≡ false
+        → word-at code count (star m false t) at ≡ word-then (word-at code count t (at + 1)) (word-at code count (star m false t))
+    unfolding word-at
+    word-round h z =
+        let k = many in
+        see-round (held 8 code count) m false t (flat (star m false t)) at _++_ (flat t) (flat (star m false t)) (λ v vs. refl) (omega arith) (held-bit code count fit at h ∙ z)

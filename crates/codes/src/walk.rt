@@ -1,0 +1,226 @@
+// One walk over a code, into parts. Rounds are a loop, so that calls go no deeper than the tree, however many rounds there are.
+ghost use mathlib.Core.Path.{_≡_};
+ghost use mathlib.Core.Bool.{true, cond};
+ghost use mathlib.Core.List.{List};
+ghost use Prim.Native.Nat.{ℕ, _+_, _*_, _≤_, _<_};
+ghost use lib.ListN.{length};
+ghost use Rattle.syntax.specs.Table.{leaf-good};
+ghost use Rattle.syntax.specs.Tree.{Label, Tree};
+ghost use Rattle.syntax.specs.Trees.{made};
+ghost use Rattle.bits.specs.Bits.{bit-at};
+ghost use Rattle.columns.specs.Columns.{Good, tree-in};
+ghost use Rattle.codes.specs.Lines.{leaf-node, range-node};
+ghost use Rattle.codes.specs.Walks.{cap, walked, more};
+ghost use Rattle.codes.specs.Measures.{no-measure, measured};
+use bits::bit_at;
+use bits::byte_at;
+use bits::handed_good;
+use columns::node_at;
+use syntax::Leaf;
+use syntax::Node;
+
+// Where the bits of a node stop, and how many letters they spell, or that they are not all there.
+pub struct Walked {
+    pub ok: bool,
+    pub at: u32,
+    pub letters: u32,
+}
+
+// The sum, where 3,601 stands for all that is more than 3,600.
+fn plus(x: u32, y: u32) -> u32
+    requires { ⌜ (x ≤ 3601) × (y ≤ 3601) ⌝ }
+    ensures { λ r. ⌜ r ≡ cap (x + y) ⌝ }
+{
+    if x + y < 3601 { x + y } else { 3601 }
+}
+
+// So many letters more in front.
+fn after(letters: u32, walked: Walked) -> Walked
+    requires { ⌜ (letters ≤ 3601) × (walked .letters ≤ 3601) ⌝ }
+    ensures { λ r. ⌜ r ≡ more letters walked ⌝ }
+{
+    if !walked.ok {
+        return Walked {
+            ok: false,
+            at: walked.at,
+            letters: 0,
+        };
+    }
+    Walked {
+        ok: true,
+        at: walked.at,
+        letters: plus(letters, walked.letters),
+    }
+}
+
+// The part that the bit at `at` chooses: 0 for the left, 1 for the right.
+pub fn side_at(code: &[u8], at: u32, left: u8, right: u8) -> u8
+    requires { ⌜ at < 8 * length (now code) ⌝ }
+    ensures { λ r. ⌜ r ≡ cond (bit-at 8 (now (code .entry)) at) right left ⌝ }
+{
+    if bit_at(code, at) { right } else { left }
+}
+
+// A range takes eight bits, and only a letter of the range is a reading.
+fn walk_range(low: u8, high: u8, code: &[u8], count: u32, at: u32) -> Walked
+    requires { ⌜ leaf-good (range-node low high) ≡ true ⌝ }
+    requires { ⌜ (at ≤ count) × (count ≤ 8 * length (now code)) × (count ≤ 524288) ⌝ }
+    ensures { λ r. ⌜ ((m : Label) (f : ℕ → Tree) → r ≡ walked (now (code .entry)) count (made m f (leaf-node (range-node low high))) at) ⌝ }
+{
+    if count - at < 8 {
+        return Walked {
+            ok: false,
+            at: count,
+            letters: 0,
+        };
+    }
+    let c = byte_at(code, at);
+    if c < low {
+        return Walked {
+            ok: false,
+            at: count,
+            letters: 0,
+        };
+    }
+    if high < c {
+        return Walked {
+            ok: false,
+            at: count,
+            letters: 0,
+        };
+    }
+    Walked {
+        ok: true,
+        at: at + 8,
+        letters: 1,
+    }
+}
+
+fn walk_leaf(leaf: Leaf, code: &[u8], count: u32, at: u32) -> Walked
+    requires { ⌜ leaf-good leaf ≡ true ⌝ }
+    requires { ⌜ (at ≤ count) × (count ≤ 8 * length (now code)) × (count ≤ 524288) ⌝ }
+    ensures { λ r. ⌜ ((m : Label) (f : ℕ → Tree) → r ≡ walked (now (code .entry)) count (made m f (leaf-node leaf)) at) ⌝ }
+{
+    match leaf {
+        Leaf::Nothing => Walked {
+            ok: true,
+            at,
+            letters: 0,
+        },
+        Leaf::Letter(_) => Walked {
+            ok: true,
+            at,
+            letters: 1,
+        },
+        Leaf::Range(low, high) => walk_range(low, high, code, count, at),
+    }
+}
+
+// The bits of node l from `at` on.
+pub fn walk(
+    kind: &[u8; 64],
+    first: &[u8; 64],
+    second: &[u8; 64],
+    l: usize,
+    code: &[u8],
+    count: u32,
+    at: u32,
+) -> Walked
+    requires { ⌜ Good (now kind) (now first) (now second) ⌝ }
+    requires { ⌜ (l < 64) × (at ≤ count) × (count ≤ 8 * length (now code)) × (count ≤ 524288) ⌝ }
+    ensures { λ r.
+        ⌜ ((account : List ℕ) → r ≡ walked (now (code .entry)) count (tree-in (now (kind .entry)) (now (first .entry)) (now (second .entry)) account l) at) ⌝ }
+{
+    let node = node_at(kind, first, second, l);
+    match node {
+        Node::Leaf(leaf) => walk_leaf(leaf, code, count, at),
+        Node::Sequence(p, q) => {
+            let one = walk(kind, first, second, p as usize, code, count, at);
+            if !one.ok {
+                return one;
+            }
+            let two = walk(kind, first, second, q as usize, code, count, one.at);
+            after(one.letters, two)
+        }
+        Node::Alternative(p, q) => {
+            if count <= at {
+                return Walked {
+                    ok: false,
+                    at: count,
+                    letters: 0,
+                };
+            }
+            let side = side_at(code, at, p, q);
+            walk(kind, first, second, side as usize, code, count, at + 1)
+        }
+        Node::Star(p) => {
+            let mut here = at;
+            let mut letters: u32 = 0;
+            while here < count {
+                if bit_at(code, here) {
+                    return Walked {
+                        ok: true,
+                        at: here + 1,
+                        letters,
+                    };
+                }
+                let one = walk(kind, first, second, p as usize, code, count, here + 1);
+                if !one.ok {
+                    return one;
+                }
+                letters = plus(letters, one.letters);
+                here = one.at;
+            }
+            Walked {
+                ok: false,
+                at: count,
+                letters: 0,
+            }
+        }
+    }
+}
+
+// Whether what is handed in is a whole code, and how many letters it spells.
+pub struct Measured {
+    pub whole: bool,
+    pub letters: u32,
+}
+
+fn no_measure() -> Measured
+    ensures { λ r. ⌜ r ≡ no-measure ⌝ }
+{
+    Measured {
+        whole: false,
+        letters: 0,
+    }
+}
+
+// All of a code is walked, at node l, before anything is said of its letters.
+pub fn measure(
+    kind: &[u8; 64],
+    first: &[u8; 64],
+    second: &[u8; 64],
+    l: usize,
+    code: &[u8],
+    count: u32,
+) -> Measured
+    requires { ⌜ Good (now kind) (now first) (now second) ⌝ }
+    requires { ⌜ l < 64 ⌝ }
+    ensures { λ r.
+        ⌜ ((account : List ℕ) → r ≡ measured (tree-in (now (kind .entry)) (now (first .entry)) (now (second .entry)) account l) (now (code .entry)) count) ⌝ }
+{
+    if !handed_good(code, count) {
+        return no_measure();
+    }
+    let walked = walk(kind, first, second, l, code, count, 0);
+    if !walked.ok {
+        return no_measure();
+    }
+    if walked.at != count {
+        return no_measure();
+    }
+    Measured {
+        whole: true,
+        letters: walked.letters,
+    }
+}

@@ -1,0 +1,313 @@
+-- Laws of reading a tape: one for each way of the code.
+use mathlib.Core.Path.{_≡_, refl, sym, ap, ap₂, subst, _∙_}
+use mathlib.Core.Bool.{Bool, true, false, not, cond, true≢false, false≢true}
+use mathlib.Core.Logic.{_↔_}
+use mathlib.Core.List.{List, [], _∷_, _++_, append-nil}
+use Prim.Native.Nat.{ℕ, zero, suc, _+_, _*_, _-_, _/_, _≤_, _<_}
+use native.Mathlib.Nat.{add-zero}
+use native.Mathlib.Omega.{arith}
+use native.Mathlib.Decide.{decLe}
+use borrow.Author.Tests.{lt-ltb, le-ltb}
+use lib.Dec.{ltb}
+use lib.ListN.{length, getD, drop, length-append, length-drop, drop-of-length-le, List·getD-append}
+use lib.Seq.{drop-cons}
+use Rattle.syntax.specs.declared.Pattern.{Pattern}
+use Rattle.syntax.specs.declared.Line.{Line}
+use Rattle.syntax.specs.declared.Refusal.the-variants.{Tree as Tree-fault, TapeTooLong, TapeByte, Unreadable, WordsTooShort, CodeTooShort}
+use Rattle.syntax.specs.Letter.{is-letter}
+use Rattle.syntax.specs.Refusals.{Answer, answer, refused}
+use Rattle.syntax.specs.Table.{obeys, line-at}
+use Rattle.syntax.specs.Tree.{Label, Tree, nothing, letter, range, seq, alt, star}
+use Rattle.syntax.specs.Trees.{root, tree-of}
+use Rattle.syntax.specs.TreeLaws.{Rules, obeys-iff, weight, sum-to, root-weight, tree-line}
+use Rattle.bits.specs.Bits.{bit, test-bit, cell-count, pack, in-front, write}
+use Rattle.bits.specs.Writing.{write-start}
+use Rattle.columns.specs.declared.Columns.{Columns}
+use Rattle.columns.specs.Columns.{Holds, Good, tree-in}
+use Rattle.columns.specs.ColumnLaws.{holds-tree, holds-good}
+use Rattle.semantics.specs.Value.{Value, flat, nonempty}
+use Rattle.semantics.specs.Code.{Canonical, code}
+use Rattle.semantics.specs.Automaton.{Location, top, fst, snd, lft, rgt, rnd}
+use Rattle.semantics.specs.Sweeps.{can, at-end, readable, greedy}
+use Rattle.semantics.specs.AutomatonLaws.{after}
+use Rattle.semantics.specs.BoundLaws.{nodes, choices-nodes, code-fits}
+use Rattle.semantics.specs.SecondSweepLaws.{wrote}
+use Rattle.semantics.specs.GreedyLaws.{greedy-canonical, canonical-greedy, readable-iff}
+use Rattle.states.specs.Nodes.{index}
+use Rattle.states.specs.StateSets.{state-set, words}
+use Rattle.states.specs.StateLaws.{state-bit}
+use Rattle.states.specs.Fill.{Fillable}
+use Rattle.sweep.specs.declared.Swept.{Swept}
+use Rattle.sweep.specs.Parts.{Sweeps}
+use Rattle.sweep.specs.Sweeping.{Knows, Can-sweep, Ready, Wrote}
+use Rattle.sweep.specs.Ways.{index-made}
+use Rattle.parser.specs.declared.Parsed.{Parsed}
+use Rattle.parser.specs.declared.Parsed.the-variants.{Bits, Refused}
+use Rattle.parser.specs.Parse.{parsed-answer, first-bad, early, Reads-greedily, Parses-by, Parses}
+use Rattle.parser.specs.Writing.{Writable, Writes}
+
+-- ── the first byte that is no letter ──
+pub record Searched (tape : List ℕ) (i : ℕ) : Type 0 where
+  pub within : i ≤ length tape
+  pub rest : first-bad tape ≡ i + first-bad (drop i tape)
+
+pub search-start : (tape : List ℕ) → Searched tape 0
+search-start tape = record { within = omega arith; rest = omega arith }
+
+module _ (tape : List ℕ) (i : ℕ) (s : Searched tape i) where
+  pub search-end : length tape ≤ i → i ≡ first-bad tape
+  unfolding first-bad
+  search-end h = sym (s .rest ∙ ap (λ w. i + first-bad w) (drop-of-length-le tape h) ∙ add-zero i)
+
+  module _ (l : i < length tape) where
+    next : first-bad tape ≡ i + cond (is-letter (getD tape i 0)) (suc (first-bad (drop (suc i) tape))) 0
+    unfolding first-bad
+    next = s .rest ∙ ap (λ w. i + first-bad w) (drop-cons tape i 0 l)
+
+    pub search-here : is-letter (getD tape i 0) ≡ false → i ≡ first-bad tape
+    search-here e = sym (next ∙ ap (λ b. i + cond b (suc (first-bad (drop (suc i) tape))) 0) e ∙ add-zero i)
+
+    pub search-on : is-letter (getD tape i 0) ≡ true → Searched tape (i + 1)
+    search-on e =
+        let f : first-bad tape ≡ i + suc (first-bad (drop (suc i) tape)) = next ∙ ap (λ b. i + cond b (suc (first-bad (drop (suc i) tape))) 0) e in
+        let g : suc i ≡ i + 1 = omega arith in
+        record { within = omega arith; rest = f ∙ (let k : i + suc (first-bad (drop (suc i) tape)) ≡ i + 1 + first-bad (drop (suc i) tape) = omega arith in k) ∙ ap (λ j. i + 1 + first-bad (drop j tape)) g }
+
+-- a tape without such a byte is letters
+pub all-letters : (tape : List ℕ) → length tape ≤ first-bad tape → (i : ℕ) → i < length tape → is-letter (getD tape i 0) ≡ true
+unfolding first-bad
+all-letters [] h i l = absurd (omega arith)
+all-letters (c ∷ w) h i l = go (is-letter c) refl h i l (all-letters w)
+  where
+    go : (b : Bool) → is-letter c ≡ b → suc (length w) ≤ cond b (suc (first-bad w)) 0 → (i : ℕ) → i < suc (length w) → (length w ≤ first-bad w → (i : ℕ) → i < length w → is-letter (getD w i 0) ≡ true) → is-letter (getD (c ∷ w) i 0) ≡ true
+    go true e h zero l ih = e
+    go true e h (suc i) l ih = ih (omega arith) i (omega arith)
+    go false e h i l ih = absurd (omega arith)
+
+-- ── the marks of a position ──
+words-length : (p : Pattern) (tape : List ℕ) → length (words p tape) ≡ 2 * (length tape + 1)
+words-length p [] = refl
+words-length p (c ∷ w) = omega (arith, words-length p w)
+
+words-at : (p : Pattern) (tape : List ℕ) (i : ℕ) → i ≤ length tape → (b : Bool) → getD (words p tape) (2 * i + bit b) 0 ≡ state-set p b (drop i tape)
+words-at p [] zero l true = refl
+words-at p [] zero l false = refl
+words-at p [] (suc i) l b = absurd (omega arith)
+words-at p (c ∷ w) zero l true = refl
+words-at p (c ∷ w) zero l false = refl
+words-at p (c ∷ w) (suc i) l b =
+    let e : 2 * suc i + bit b ≡ suc (suc (2 * i + bit b)) = omega arith in
+    ap (λ j. getD (words p (c ∷ w)) j 0) e ∙ words-at p w i (omega arith) b
+
+pub filled-at : (p : Pattern) (tape ws : List ℕ) (i : ℕ) → i ≤ length tape → (b : Bool) → getD (in-front (words p tape) ws) (2 * i + bit b) 0 ≡ state-set p b (drop i tape)
+unfolding in-front
+filled-at p tape ws i l b = List·getD-append (words p tape) (drop (length (words p tape)) ws) 0 (2 * i + bit b) (below b) ∙ words-at p tape i l b
+  where
+    below : (b : Bool) → 2 * i + bit b < length (words p tape)
+    below true = omega (arith, words-length p tape)
+    below false = omega (arith, words-length p tape)
+
+in-front-long : (p : Pattern) (tape ws : List ℕ) → 2 * (length tape + 1) ≤ length ws → length (in-front (words p tape) ws) ≡ length ws
+unfolding in-front
+in-front-long p tape ws h = simp (length-append, length-drop) (omega (arith, words-length p tape))
+
+-- ── what the sweep needs to know ──
+module _ (p : Pattern) (tape ws : List ℕ) (h : Writable p tape ws) where
+  rules : Rules p
+  rules = obeys-iff p .0 (h .good)
+
+  own : (t : Tree) (s : Location (root p) t) (i : ℕ) → i ≤ length tape → (b : Bool) → test-bit (getD ws (2 * i + bit b) 0) (index t) ≡ can t (after s) b (drop i tape)
+  own t s i l b = ap (λ x. test-bit x (index t)) (h .filled i l b) ∙ state-bit p rules b (drop i tape) t s
+
+  pub knows : (t : Tree) (s : Location (root p) t) → Knows ws tape t (after s)
+  knows (nothing m) s = tt
+  knows (letter m c) s = tt
+  knows (range m a b) s = tt
+  knows (seq m t u) s = (knows t (fst s), knows u (snd s))
+  knows (alt m t u) s = (own t (lft s), (knows t (lft s), knows u (rgt s)))
+  knows (star m again t) s = (own t (rnd s), knows t (rnd s))
+
+  -- the greedy value spells the tape
+  pub swept : Sweeps (root p) at-end true tape tape (greedy (root p) tape)
+  unfolding readable greedy
+  swept =
+      let w = wrote (root p) at-end true tape (h .reads) in
+      record {
+        best = w .0;
+        spells = sym (w .0 .spells ∙ ap (λ r. flat (root p) (w .0 .it) ++ r) (ended true (w .0 .rest) (w .0 .goes)) ∙ append-nil (flat (root p) (w .0 .it)));
+        writes = sym (w .1 (λ b x. []) ∙ append-nil (code (root p) (w .0 .it)));
+      }
+    where
+      ended : (b : Bool) (r : List ℕ) → at-end b r ≡ true → r ≡ []
+      ended b [] e = refl
+      ended b (x ∷ r) e = absurd (false≢true e)
+
+  -- "no code of a tape within the limit passes 65,536 bytes"
+  pub few-bits : length (greedy (root p) tape) ≤ 524288
+  few-bits =
+      let c = greedy-canonical (root p) tape (h .reads) in
+      let n = code-fits (root p) (c .value) (omega (arith, choices-nodes (root p), node-count, rules .few)) (c .greedy .solid) (rw (c .greedy .spells) (h .few)) in
+      rw (c .written) at n
+    where
+      as-weight : (t : Tree) → nodes t ≡ weight (λ i. 1) t
+      as-weight (nothing m) = refl
+      as-weight (letter m c) = refl
+      as-weight (range m a b) = refl
+      as-weight (seq m t u) = omega (arith, as-weight t, as-weight u)
+      as-weight (alt m t u) = omega (arith, as-weight t, as-weight u)
+      as-weight (star m again t) = omega (arith, as-weight t)
+
+      ones : (n : ℕ) → sum-to n (λ i. 1) ≡ n
+      ones zero = refl
+      ones (suc n) = omega (arith, ones n)
+
+      node-count : nodes (root p) ≡ p .count
+      node-count = as-weight (root p) ∙ root-weight p rules (λ i. 1) ∙ ones (p .count)
+
+  module _ (c : Columns) (hc : Holds p c) where
+    abbrev pub root-ready : Ready (c .kind) (c .first) (c .second) ws tape (p .count - 1) 0 true 0
+    root-ready =
+        let e = holds-tree p c (h .good) hc in
+        record {
+          account = c .account;
+          it = record {
+            after = at-end;
+            letters = tape;
+            bits = greedy (root p) tape;
+            knows = rw e (knows (root p) top);
+            sweeps = rw e swept;
+            within = omega arith;
+            few = omega (arith, few-bits);
+          };
+          enough = h .room;
+        }
+
+    -- counted, and then written
+    module _ (none none-now : List ℕ) (one : Swept) (w : Wrote 0 0 tape (greedy (root p) tape) none none-now one) where
+      counted : one .at ≡ length (greedy (root p) tape)
+      counted = let a = w .at-is in omega arith
+
+      spelled : ((v : Value (root p)) → flat (root p) v ≡ tape → ⊥) → ⊥
+      spelled f = let q = readable-iff (root p) tape .0 (h .reads) in f (q .0) (q .1)
+
+      same : (bits : List Bool) → Canonical (root p) tape bits → length bits ≡ one .at
+      same bits k = ap length (sym (canonical-greedy (root p) tape bits k .1)) ∙ sym counted
+
+      pub write-short : (xs : List ℕ) (needed : ℕ) → needed ≡ (one .at + 7) / 8 → length xs < needed → Writes p tape xs xs (Refused (CodeTooShort needed))
+      write-short xs needed en lt = record {
+        unreadable = λ f. absurd (spelled f);
+        fits = λ bits k le. absurd (omega (arith, same bits k));
+        short = λ bits k l. (ap (λ n. refused (CodeTooShort n)) (en ∙ ap (λ n. (n + 7) / 8) (sym (same bits k))), refl);
+      }
+
+      pub write-done : (xs ys : List ℕ) (two : Swept) → (one .at + 7) / 8 ≤ length xs → Wrote 0 0 tape (greedy (root p) tape) xs ys two → Writes p tape xs ys (Bits (one .at))
+      write-done xs ys two le v = record {
+        unreadable = λ f. absurd (spelled f);
+        fits = λ bits k l. (
+          ap (λ n. answer 0 n) (sym (same bits k)),
+          v .written (omega (arith, counted)) ∙ ap (write 8 xs 0) (canonical-greedy (root p) tape bits k .1) ∙ write-start 8 (omega arith) xs bits,
+        );
+        short = λ bits k l. absurd (omega (arith, same bits k));
+      }
+
+-- ── the ways of reading ──
+module _ (p : Pattern) (tape ws xs : List ℕ) where
+  pub parse-rules : obeys p ≡ false → Parses p tape ws ws xs xs (Refused (Tree-fault 0))
+  unfolding Parses early
+  parse-rules e = rw e (refl, refl, refl)
+
+  module _ (good : obeys p ≡ true) where
+    pub parse-long : 3600 < length tape → Parses p tape ws ws xs xs (Refused TapeTooLong)
+    unfolding Parses early
+    parse-long h = rw (good, lt-ltb 3600 (length tape) h) (refl, refl, refl)
+
+    module _ (few : length tape ≤ 3600) where
+      pub parse-byte : (bad : ℕ) → bad ≡ first-bad tape → bad < length tape → Parses p tape ws ws xs xs (Refused (TapeByte bad))
+      unfolding Parses early
+      parse-byte bad e h = rw (good, le-ltb 3600 (length tape) few, ← e, lt-ltb bad (length tape) h) (refl, refl, refl)
+
+      module _ (letters : length tape ≤ first-bad tape) where
+        pub parse-words : (needed : ℕ) → needed ≡ 2 * (length tape + 1) → length ws < needed → Parses p tape ws ws xs xs (Refused (WordsTooShort needed))
+        unfolding Parses early
+        parse-words needed e h = rw (good, le-ltb 3600 (length tape) few, le-ltb (first-bad tape) (length tape) letters, ← e, lt-ltb (length ws) needed h) (refl, refl, refl)
+
+        module _ (room : 2 * (length tape + 1) ≤ length ws) where
+          pub fillable : Fillable p tape ws
+          fillable = record { rules = obeys-iff p .0 good; few = few; letters = all-letters tape letters; room = room }
+
+          on : (us ys : List ℕ) (a : Parsed) → us ≡ in-front (words p tape) ws → Reads-greedily (root p) tape xs ys (parsed-answer a) → Parses p tape ws us xs ys a
+          unfolding Parses early
+          on us ys a e r = rw (good, le-ltb 3600 (length tape) few, le-ltb (first-bad tape) (length tape) letters, le-ltb (length ws) (2 * (length tape + 1)) room) (e, r)
+
+          module _ (us : List ℕ) (filled : us ≡ in-front (words p tape) ws) (o : Bool) (eo : o ≡ test-bit (getD us (2 * 0 + bit true) 0) (p .count - 1)) where
+            -- the root's mark says whether the tape is readable
+            marked : o ≡ readable (root p) tape
+            unfolding readable
+            marked =
+                eo ∙ ap (λ l. test-bit (getD us (2 * 0 + bit true) 0) l) (sym root-index)
+                ∙ ap (λ x. test-bit x (index (root p))) (ap (λ v. getD v (2 * 0 + bit true) 0) filled ∙ filled-at p tape ws 0 (omega arith) true)
+                ∙ state-bit p (obeys-iff p .0 good) true tape (root p) top
+              where
+                root-index : index (root p) ≡ p .count - 1
+                root-index = unfold root in
+                    let r = obeys-iff p .0 good in
+                    let one = r .one in
+                    ap index (tree-line (line-at p) (p .count - 1) (r .lower (p .count - 1) (omega arith))) ∙ index-made _ (tree-of (line-at p)) (line-at p (p .count - 1) .node)
+
+            pub parse-unreadable : o ≡ false → Parses p tape ws us xs xs (Refused Unreadable)
+            parse-unreadable f = on us xs (Refused Unreadable) filled
+                (record {
+                  unreadable = λ n. (refl, refl);
+                  fits = λ bits k l. absurd (true≢false (sym (canonical-greedy (root p) tape bits k .0) ∙ sym marked ∙ f));
+                  short = λ bits k l. absurd (true≢false (sym (canonical-greedy (root p) tape bits k .0) ∙ sym marked ∙ f));
+                })
+
+            pub writable : o ≡ true → Writable p tape us
+            writable f = record {
+              good = good;
+              few = few;
+              room = rw filled (long (in-front-long p tape ws room));
+              filled = λ i l b. ap (λ v. getD v (2 * i + bit b) 0) filled ∙ filled-at p tape ws i l b;
+              reads = sym marked ∙ f;
+            }
+              where
+                long : length (in-front (words p tape) ws) ≡ length ws → 2 * length tape + 1 < length (in-front (words p tape) ws)
+                long e = omega arith
+
+            pub parse-done : (ys : List ℕ) (r : Parsed) → Writes p tape xs ys r → Parses p tape ws us xs ys r
+            parse-done ys r w = on us ys r filled w
+
+pub rules-one : (p : Pattern) (tape ws : List ℕ) → Writable p tape ws → (1 ≤ p .count) × (p .count ≤ 64)
+rules-one p tape ws h = let r = obeys-iff p .0 (h .good) in (r .one, r .few)
+
+pub obeys-few : (p : Pattern) → obeys p ≡ true → (1 ≤ p .count) × (p .count ≤ 64)
+obeys-few p h = let r = obeys-iff p .0 h in (r .one, r .few)
+
+pub filled-long : (p : Pattern) (tape ws us : List ℕ) → 2 * (length tape + 1) ≤ length ws → us ≡ in-front (words p tape) ws → length us ≡ length ws
+filled-long p tape ws us room e = ap length e ∙ in-front-long p tape ws room
+
+-- ── laws of the promise ──
+module _ (p : Pattern) (tape ws us xs ys : List ℕ) (r : Parsed) (h : Parses p tape ws us xs ys r) where
+  -- 5 is answered exactly if the checks before it pass and no value of the pattern, with or without an empty round, spells the tape
+  pub unreadable-iff : early p tape (length ws) .number ≡ 0 → (parsed-answer r ≡ refused Unreadable) ↔ ((v : Value (root p)) → flat (root p) v ≡ tape → ⊥)
+  unfolding Parses
+  unreadable-iff e = go (early p tape (length ws) .number) e h
+    where
+      go : (n : ℕ) → n ≡ 0 → Parses-by n (early p tape (length ws)) p tape ws us xs ys (parsed-answer r) → (parsed-answer r ≡ refused Unreadable) ↔ ((v : Value (root p)) → flat (root p) v ≡ tape → ⊥)
+      go zero q w = (λ a v f. other (w .1) a v f, λ n. w .1 .unreadable n .0)
+        where
+          other : Reads-greedily (root p) tape xs ys (parsed-answer r) → parsed-answer r ≡ refused Unreadable → (v : Value (root p)) → flat (root p) v ≡ tape → ⊥
+          other g a v f =
+              let k = greedy-canonical (root p) tape (readable-iff (root p) tape .1 (v, f)) in
+              fit (decLe (cell-count 8 (length (greedy (root p) tape))) (length xs))
+            where
+              fit : Dec (cell-count 8 (length (greedy (root p) tape)) ≤ length xs) → ⊥
+              fit (yes l) =
+                  let k = greedy-canonical (root p) tape (readable-iff (root p) tape .1 (v, f)) in
+                  let z = ap (λ x. x .number) (sym (g .fits (greedy (root p) tape) k l .0) ∙ a) in
+                  omega arith
+              fit (no l) =
+                  let k = greedy-canonical (root p) tape (readable-iff (root p) tape .1 (v, f)) in
+                  let z = ap (λ x. x .number) (sym (g .short (greedy (root p) tape) k (omega arith) .0) ∙ a) in
+                  omega arith
+      go (suc n) q w = absurd (omega arith)

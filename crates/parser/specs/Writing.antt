@@ -1,0 +1,24 @@
+-- The second half of reading: what is asked once the marks are filled and the tape is known to be readable.
+use mathlib.Core.Path.{_≡_}
+use mathlib.Core.Bool.{Bool, true}
+use mathlib.Core.List.{List}
+use Prim.Native.Nat.{ℕ, _+_, _*_, _≤_, _<_}
+use lib.ListN.{length, getD, drop}
+use Rattle.syntax.specs.declared.Pattern.{Pattern}
+use Rattle.syntax.specs.Table.{obeys}
+use Rattle.syntax.specs.Trees.{root}
+use Rattle.bits.specs.Bits.{bit}
+use Rattle.semantics.specs.Sweeps.{readable}
+use Rattle.states.specs.StateSets.{state-set}
+use Rattle.parser.specs.declared.Parsed.{Parsed}
+use Rattle.parser.specs.Parse.{parsed-answer, Reads-greedily}
+
+pub record Writable (p : Pattern) (tape words : List ℕ) : Type 0 where
+  pub good : obeys p ≡ true
+  pub few : length tape ≤ 3600
+  pub room : 2 * length tape + 1 < length words
+  pub filled : (i : ℕ) → i ≤ length tape → (b : Bool) → getD words (2 * i + bit b) 0 ≡ state-set p b (drop i tape)
+  pub reads : readable (root p) tape ≡ true
+
+abbrev pub Writes : Pattern → (tape code code-now : List ℕ) → Parsed → Type 0
+Writes p tape xs ys r = Reads-greedily (root p) tape xs ys (parsed-answer r)

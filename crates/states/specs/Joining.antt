@@ -1,0 +1,194 @@
+-- Joining the masks of the open leaves one after the other, the lowest leaf of those left first.
+use mathlib.Core.Path.{_≡_, refl, sym, ap, ap₂, _∙_}
+use mathlib.Core.Bool.{Bool, true, false, _&&_, _||_, not, and-false, and-true, or-false, or-assoc}
+use Prim.Native.Nat.{ℕ, zero, suc, _+_, _-_, _*_, _/_, _%_, _^_, _≤_, _<_}
+use native.Mathlib.Nat.{mod-eq-of-lt, one-mul, div-div-eq-div-mul, div-one}
+use native.Mathlib.Decide.{decLt}
+use native.Mathlib.Omega.{arith}
+use lib.Dec.{eqb}
+use lib.Pow.{pow-pos, pow-mono, pow-lt}
+use lib.Bits.{bitOr}
+use lib.Count.{trailingZeros, under}
+use Rattle.bits.specs.Bits.{bit, test-bit, word-of}
+use Rattle.bits.specs.Numbers.{test-small}
+use Rattle.bits.specs.Words.{word-self, word-bit, word-unique, word-lt, test-or}
+use Rattle.semantics.specs.Basics.{eqb-self, eqb-eq, eqb-no}
+use mathlib.Core.List.{List}
+use Rattle.states.specs.declared.Words.{Words}
+use Rattle.states.specs.Steps.{behind, entry, step-of}
+use Rattle.states.specs.Closure.{any-to, any-same}
+use Rattle.states.specs.Unions.{pick, union, pick-bit, union-bit}
+
+-- ---- the lowest bit that is set
+pub lowest-set : (k n : ℕ) → 1 ≤ n → n < 2 ^ k → (trailingZeros k n < k) × (test-bit n (trailingZeros k n) ≡ true)
+unfolding trailingZeros
+lowest-set zero n one h = absurd (omega arith)
+lowest-set (suc k) n one h = go (lowest-set k (n / 2)) (n % 2) refl
+  where
+    half : n / 2 < 2 ^ k
+    half = omega arith
+
+    go : (1 ≤ n / 2 → n / 2 < 2 ^ k → (trailingZeros k (n / 2) < k) × (test-bit (n / 2) (trailingZeros k (n / 2)) ≡ true))
+        → (d : ℕ) → n % 2 ≡ d → (under d (trailingZeros k (n / 2)) < suc k) × (test-bit n (under d (trailingZeros k (n / 2))) ≡ true)
+    go ih zero e =
+        let q = ih (omega arith) half in
+        (omega (arith, q .0), ap (λ z. eqb (z % 2) 1) (split (trailingZeros k (n / 2))) ∙ q .1)
+      where
+        split : (t : ℕ) → n / 2 ^ suc t ≡ n / 2 / 2 ^ t
+        split t = let f : 2 ^ suc t ≡ 2 * 2 ^ t = omega arith in ap (λ z. n / z) f ∙ sym (div-div-eq-div-mul n 2 (2 ^ t))
+    go ih (suc d) e = (omega arith, ap (λ z. eqb (z % 2) 1) (div-one n) ∙ ap (λ z. eqb z 1) (let f : n % 2 ≡ 1 = omega arith in f))
+
+word-same : (n : ℕ) (f g : ℕ → Bool) → ((l : ℕ) → l < n → f l ≡ g l) → word-of n f ≡ word-of n g
+word-same n f g h = word-unique n (word-of n f) g (word-lt n f) (λ l k. word-bit n f l k ∙ h l k)
+
+eqb-other : (m n : ℕ) → (m ≡ n → ⊥) → eqb m n ≡ false
+eqb-other m n h = go (eqb m n) refl
+  where
+    go : (b : Bool) → eqb m n ≡ b → b ≡ false
+    go true e = absurd (h (eqb-eq m n e))
+    go false e = refl
+
+-- without its bit x a word is less by 2 to the power x
+cleared : (x n : ℕ) (f : ℕ → Bool) → x < n → f x ≡ true → word-of n f ≡ word-of n (λ l. f l && not (eqb x l)) + 2 ^ x
+unfolding word-of
+cleared x zero f h e = absurd (omega arith)
+cleared x (suc n) f h e = go (cleared x n f) (decLt x n)
+  where
+    go : (x < n → f x ≡ true → word-of n f ≡ word-of n (λ l. f l && not (eqb x l)) + 2 ^ x) → Dec (x < n)
+        → bit (f n) * 2 ^ n + word-of n f ≡ (bit (f n && not (eqb x n)) * 2 ^ n + word-of n (λ l. f l && not (eqb x l))) + 2 ^ x
+    go ih (yes l) =
+        rw (eqb-other x n (λ q. omega arith), and-true (f n)) (omega (arith, ih l e))
+    go ih (no l) =
+        let q : x ≡ n = omega arith in
+        let a : f n ≡ true = ap f (sym q) ∙ e in
+        let b : eqb x n ≡ true = ap (λ z. eqb z n) q ∙ eqb-self n in
+        let s : word-of n f ≡ word-of n (λ l. f l && not (eqb x l)) = word-same n f (λ l. f l && not (eqb x l)) (λ l k. sym (ap (λ z. f l && not z) (eqb-other x l (λ y. omega arith)) ∙ and-true (f l))) in
+        rw (a, b, q) (omega (arith, ap (λ z. word-of n (λ l. f l && not (eqb z l))) q, s))
+
+-- taking the lowest bit out
+module _ (rest x : ℕ) (one : 1 ≤ rest) (h : rest < 2 ^ 64) (e : x ≡ trailingZeros 64 rest) where
+  pub lowest-lt : x < 64
+  lowest-lt = omega (arith, lowest-set 64 rest one h .0)
+
+  pub lowest-on : test-bit rest x ≡ true
+  lowest-on = ap (test-bit rest) e ∙ lowest-set 64 rest one h .1
+
+  rest-is : rest ≡ word-of 64 (λ l. test-bit rest l && not (eqb x l)) + 2 ^ x
+  rest-is = word-self 64 rest h ∙ cleared x 64 (test-bit rest) lowest-lt lowest-on
+
+  pub lowest-le : 2 ^ x ≤ rest
+  lowest-le = omega (arith, rest-is)
+
+  pub lowest-less : rest - 2 ^ x < rest
+  lowest-less = omega (arith, rest-is, pow-pos x)
+
+  -- the bit as code makes it
+  pub lowest-shift : 1 * 2 ^ x % 2 ^ 64 ≡ 2 ^ x
+  lowest-shift = let q : 1 * 2 ^ x < 2 ^ 64 = omega (arith, pow-lt (lowest-lt)) in mod-eq-of-lt q ∙ one-mul (2 ^ x)
+
+  pub lowest-out : (l : ℕ) → l < 64 → test-bit (rest - 2 ^ x) l ≡ (test-bit rest l && not (eqb x l))
+  lowest-out l k =
+      let q : rest - 2 ^ x ≡ word-of 64 (λ l. test-bit rest l && not (eqb x l)) = omega (arith, rest-is) in
+      ap (λ z. test-bit z l) q ∙ word-bit 64 (λ l. test-bit rest l && not (eqb x l)) l k
+
+-- numbers with the same bits are equal
+pub same-bits : (x y : ℕ) → ((l : ℕ) → test-bit x l ≡ test-bit y l) → x ≡ y
+same-bits x y h = word-unique (x + y) x (test-bit y) (large x y) (λ l k. h l) ∙ sym (word-self (x + y) y (let e : y + x ≡ x + y = omega arith in rw e at (large y x)))
+  where
+    under-power : (x : ℕ) → x < 2 ^ x
+    under-power zero = omega arith
+    under-power (suc x) = omega (arith, under-power x)
+
+    large : (x y : ℕ) → x < 2 ^ (x + y)
+    large x y = omega (arith, under-power x, pow-mono (let h : x ≤ x + y = omega arith in h))
+
+-- ---- one of many
+pull-or : (a b c : Bool) → (a || (b || c)) ≡ (b || (a || c))
+pull-or true true c = refl
+pull-or true false c = refl
+pull-or false true c = refl
+pull-or false false c = refl
+
+any-pull : (n x : ℕ) (k : ℕ → Bool) → x < n → any-to n k ≡ (k x || any-to n (λ y. not (eqb x y) && k y))
+any-pull zero x k h = absurd (omega arith)
+any-pull (suc n) x k h = go (any-pull n x k) (decLt x n)
+  where
+    go : (x < n → any-to n k ≡ (k x || any-to n (λ y. not (eqb x y) && k y))) → Dec (x < n)
+        → (k n || any-to n k) ≡ (k x || ((not (eqb x n) && k n) || any-to n (λ y. not (eqb x y) && k y)))
+    go ih (yes l) = rw (eqb-other x n (λ q. omega arith), ih l) (pull-or (k n) (k x) (any-to n (λ y. not (eqb x y) && k y)))
+    go ih (no l) =
+        let q : x ≡ n = omega arith in
+        let b : eqb x n ≡ true = ap (λ z. eqb z n) q ∙ eqb-self n in
+        rw (b) (ap₂ (λ y z. y || z) (ap k (sym q)) (any-same n k (λ y. not (eqb x y) && k y) (λ y m. sym (ap (λ z. not z && k y) (eqb-other x y (λ v. omega arith))))))
+
+-- ---- what is joined so far, and what is left: together all that is to be joined
+pub record Joining (takers : ℕ) (choice : ℕ → Bool) (masks : ℕ → ℕ) (rest joined : ℕ) : Type 0 where
+  pub together : (l : ℕ) → (test-bit joined l || any-to 64 (λ x. (test-bit rest x && choice x) && test-bit (masks x) l)) ≡ any-to 64 (λ x. (test-bit takers x && choice x) && test-bit (masks x) l)
+
+module _ (takers : ℕ) (o : ℕ → Bool) (m : ℕ → ℕ) where
+  pub joining-start : Joining takers o m takers 0
+  joining-start = record { together = λ l. ap (λ z. z || any-to 64 (λ x. (test-bit takers x && o x) && test-bit (m x) l)) (test-small 0 l (pow-pos l)) }
+
+  pub joining-next : (rest joined x : ℕ) → Joining takers o m rest joined → 1 ≤ rest → rest < 2 ^ 64 → x ≡ trailingZeros 64 rest
+      → Joining takers o m (rest - 2 ^ x) (bitOr joined (pick (o x) (m x)))
+  joining-next rest joined x j one h e = record {
+    together = λ l.
+        ap₂ (λ y z. y || z)
+        (test-or joined (pick (o x) (m x)) l ∙ ap (λ z. test-bit joined l || z) (pick-bit (o x) (m x) l))
+        (any-same 64 (λ y. (test-bit (rest - 2 ^ x) y && o y) && test-bit (m y) l) (λ y. not (eqb x y) && all l y)
+        (λ y k. ap (λ z. (z && o y) && test-bit (m y) l) (lowest-out rest x one h e y k) ∙ turn (test-bit rest y) (not (eqb x y)) (o y) (test-bit (m y) l)))
+        ∙ or-assoc (test-bit joined l) (o x && test-bit (m x) l) (any-to 64 (λ y. not (eqb x y) && all l y))
+        ∙ ap (λ z. test-bit joined l || z) (ap (λ z. (z && test-bit (m x) l) || any-to 64 (λ y. not (eqb x y) && all l y)) (sym (ap (λ z. z && o x) (lowest-on rest x one h e)))
+        ∙ sym (any-pull 64 x (all l) (lowest-lt rest x one h e)))
+        ∙ j .together l;
+  }
+    where
+      all : ℕ → ℕ → Bool
+      all l y = (test-bit rest y && o y) && test-bit (m y) l
+
+      turn : (a b c d : Bool) → (((a && b) && c) && d) ≡ (b && ((a && c) && d))
+      turn true true c d = refl
+      turn true false c d = refl
+      turn false true c d = refl
+      turn false false c d = refl
+
+  pub joining-end : (joined : ℕ) → Joining takers o m 0 joined → joined ≡ union 64 (λ x. test-bit takers x && o x) m
+  joining-end joined j =
+      same-bits joined (union 64 (λ x. test-bit takers x && o x) m)
+      (λ l. sym (or-false (test-bit joined l)) ∙ ap (λ z. test-bit joined l || z) (sym (nothing-left l)) ∙ j .together l ∙ sym (union-bit 64 (λ x. test-bit takers x && o x) m l))
+    where
+      none : (n : ℕ) (k : ℕ → Bool) → ((x : ℕ) → x < n → k x ≡ false) → any-to n k ≡ false
+      none zero k h = refl
+      none (suc n) k h = rw (h n (omega arith)) (none n k (λ x l. h x (omega arith)))
+
+      nothing-left : (l : ℕ) → any-to 64 (λ x. (test-bit 0 x && o x) && test-bit (m x) l) ≡ false
+      nothing-left l = none 64 (λ x. (test-bit 0 x && o x) && test-bit (m x) l) (λ x n. ap (λ z. (z && o x) && test-bit (m x) l) (test-small 0 x (pow-pos x)))
+
+-- ---- a step on the way: both words
+pub record Stepping (zs os fs : List ℕ) (takers next : ℕ) (last : Bool) (rest a b : ℕ) : Type 0 where
+  pub few : rest < 2 ^ 64
+  pub zeros : Joining takers (λ x. behind next last (entry fs x)) (entry zs) rest a
+  pub ones : Joining takers (λ x. behind next last (entry fs x)) (entry os) rest b
+
+module _ (zs os fs : List ℕ) (takers next : ℕ) (last : Bool) where
+  pub stepping-start : takers < 2 ^ 64 → Stepping zs os fs takers next last takers 0 0
+  stepping-start h = record {
+    few = h;
+    zeros = joining-start takers (λ x. behind next last (entry fs x)) (entry zs);
+    ones = joining-start takers (λ x. behind next last (entry fs x)) (entry os);
+  }
+
+  pub stepping-next : (rest a b x c d : ℕ) (v : Bool) → Stepping zs os fs takers next last rest a b → 1 ≤ rest → x ≡ trailingZeros 64 rest
+      → v ≡ behind next last (entry fs x) → c ≡ bitOr a (pick v (entry zs x)) → d ≡ bitOr b (pick v (entry os x))
+      → Stepping zs os fs takers next last (rest - 1 * 2 ^ x % 2 ^ 64) c d
+  stepping-next rest a b x c d v q one e f g h = rw (lowest-shift rest x one (q .few) e) (record {
+    few = omega (arith, q .few);
+    zeros = rw (g, f) (joining-next takers (λ x. behind next last (entry fs x)) (entry zs) rest a x (q .zeros) one (q .few) e);
+    ones = rw (h, f) (joining-next takers (λ x. behind next last (entry fs x)) (entry os) rest b x (q .ones) one (q .few) e);
+  })
+
+  pub stepping-end : (rest a b : ℕ) → Stepping zs os fs takers next last rest a b → rest ≡ 0 → _≡_ {A = Words} (record { zero = a; one = b }) (step-of zs os fs takers next last)
+  stepping-end rest a b q e =
+      ap₂ (λ x y. record { zero = x; one = y })
+      (joining-end takers (λ x. behind next last (entry fs x)) (entry zs) a (rw e at (q .zeros)))
+      (joining-end takers (λ x. behind next last (entry fs x)) (entry os) b (rw e at (q .ones)))

@@ -1,0 +1,13 @@
+pub mod StateSets
+pub mod Nodes
+pub mod Closure
+pub mod Unions
+pub mod StateLaws
+pub mod Steps
+pub mod Joining
+pub mod Sweep
+pub mod Fronts
+pub mod Follows
+pub mod Masks
+pub mod Fill
+pub mod Meaning

@@ -1,0 +1,261 @@
+-- THE MASKS of a pattern as they are stored, and that the fill over them is the words of the definition.
+use mathlib.Core.Path.{_≡_, refl, sym, ap, ap₂, subst, _∙_}
+use mathlib.Core.Bool.{Bool, true, false, _&&_, _||_, true≢false}
+use mathlib.Core.Logic.{_⊎_, inl, inr, ⊎-elim}
+use mathlib.Core.List.{List, [], _∷_, _++_}
+use Prim.Native.Nat.{ℕ, zero, suc, _+_, _-_, _*_, _^_, _≤_, _<_}
+use native.Mathlib.Nat.{add-comm}
+use native.Mathlib.Omega.{arith}
+use native.Mathlib.Decide.{decLt}
+use lib.Dec.{eqb}
+use lib.Bits.{bitOr}
+use lib.Pow.{pow-mono}
+use lib.ListN.{length, getD, set, length-set, replicate}
+use lib.Seq.{getD-set-same, getD-set-other}
+use Rattle.syntax.specs.declared.Leaf.{Leaf}
+use Rattle.syntax.specs.declared.Leaf.the-variants.{Nothing, Letter, Range}
+use Rattle.syntax.specs.declared.Node.{Node}
+use Rattle.syntax.specs.declared.Node.the-variants.{Leaf as Leaf-node, Sequence, Alternative, Star}
+use Rattle.syntax.specs.declared.Pattern.{Pattern}
+use Rattle.syntax.specs.Letter.{is-letter, in-range}
+use Rattle.syntax.specs.Table.{line-at, node-at}
+use Rattle.syntax.specs.Tree.{Label, Tree, nothing, letter, range, seq, alt, star}
+use Rattle.syntax.specs.Trees.{made, tree-of, root}
+use Rattle.syntax.specs.TreeLaws.{Below, Rules}
+use Rattle.bits.specs.Bits.{bit, test-bit, word-of}
+use Rattle.bits.specs.Words.{word-lt, word-bit}
+use Rattle.semantics.specs.Basics.{eqb-eq, or-cases}
+use Rattle.semantics.specs.Automaton.{Location, top, fst, snd, lft, rgt, rnd}
+use Rattle.semantics.specs.Sweeps.{at-end}
+use Rattle.states.specs.declared.fronts.Front.{Front}
+use Rattle.states.specs.declared.follows.Follow.{Follow}
+use Rattle.states.specs.declared.masks.Rows.{Rows}
+use Rattle.states.specs.declared.Words.{Words}
+use Rattle.states.specs.Nodes.{index, has, Planted, Predicate, node-word, index-lt, word-is, word-past-last}
+use Rattle.states.specs.Closure.{reach, passes, reaches, nowhere, leaf-mask, end-mask}
+use Rattle.states.specs.Unions.{pick, union}
+use Rattle.states.specs.StateSets.{state-set, words}
+use Rattle.states.specs.StateLaws.{root-planted, same-node}
+use Rattle.states.specs.Steps.{Followed, behind, takes, takers, live, entry, step-of, state-step, state-end}
+use Rattle.states.specs.Sweep.{first-one, put, sweep-of}
+use Rattle.states.specs.Fronts.{front-at, Front-of, Fronts, follow-at, Follow-of, behind-bit, nowhere-through, tree, label-of, line-tree}
+use Rattle.states.specs.Follows.{Down, down-end, tree-index, followed-of}
+
+-- ---- arrays that are filled from the front
+pub record Filled {A : Type 0} (d : A) (f : ℕ → A) (size i : ℕ) (xs : List A) : Type 0 where
+  pub long : length xs ≡ size
+  pub cells : (l : ℕ) → l < i → getD xs l d ≡ f l
+
+module _ {A : Type 0} (d : A) (f : ℕ → A) (size : ℕ) where
+  pub filled-start : (xs : List A) → length xs ≡ size → Filled d f size 0 xs
+  filled-start xs h = record { long = h; cells = λ l k. absurd (omega arith) }
+
+  pub filled-next : (i : ℕ) (xs : List A) (v : A) → i < size → Filled d f size i xs → v ≡ f i → Filled d f size (i + 1) (set xs i v)
+  filled-next i xs v h g e = record { long = simp length-set (g .long); cells = λ l k. go l k (decLt l i) }
+    where
+      go : (l : ℕ) → l < i + 1 → Dec (l < i) → getD (set xs i v) l d ≡ f l
+      go l k (yes y) = getD-set-other xs i l v d (λ x. omega arith) ∙ g .cells l y
+      go l k (no y) = let q : i ≡ l = omega arith in ap (λ x. getD (set xs i v) x d) (sym q) ∙ getD-set-same xs i v d (omega (arith, g .long)) ∙ e ∙ ap f q
+
+-- a word that is filled from bit 0 on
+pub word-next : (i : ℕ) (f : ℕ → Bool) (x v : ℕ) → x ≡ word-of i f → v ≡ bit (f i) * 2 ^ i → v + x ≡ word-of (i + 1) f
+unfolding word-of
+word-next i f x v e g = let q : i + 1 ≡ suc i = omega arith in rw (q, e, g) refl
+
+pub word-start : (f : ℕ → Bool) → 0 ≡ word-of 0 f
+unfolding word-of
+word-start f = refl
+
+pub word-fits : (i : ℕ) (f : ℕ → Bool) (x v : ℕ) → i < 64 → x ≡ word-of i f → v ≡ bit (f i) * 2 ^ i → v + x < 2 ^ 64
+word-fits i f x v h e g = omega (arith, word-next i f x v e g, word-lt (i + 1) f, pow-mono (let k : i + 1 ≤ 64 = omega arith in k))
+
+-- ---- rows: for each node the leaves that it comes to
+abbrev pub row-zero : List Front → List Follow → ℕ → ℕ
+row-zero us fs l = bitOr (front-at us l .first) (pick (front-at us l .null) (follow-at fs l .zero))
+
+abbrev pub row-one : List Front → List Follow → ℕ → ℕ
+row-one us fs l = bitOr (front-at us l .first) (pick (front-at us l .null) (follow-at fs l .one))
+
+abbrev pub row-state : List Follow → ℕ → ℕ
+row-state fs l = follow-at fs l .state
+
+abbrev pub row-end : List Front → List Follow → ℕ → Bool
+row-end us fs l = front-at us l .null && follow-at fs l .end
+
+pub record Rows-of (count : ℕ) (us : List Front) (fs : List Follow) (r : Rows) : Type 0 where
+  pub zeros : Filled 0 (row-zero us fs) 64 count (r .zero)
+  pub ones : Filled 0 (row-one us fs) 64 count (r .one)
+  pub states : Filled 0 (row-state fs) 64 count (r .followers)
+  pub ends : r .end ≡ word-of count (row-end us fs)
+
+module _ (us : List Front) (fs : List Follow) where
+  pub rows-start : Rows-of 0 us fs (record { zero = replicate 64 0; one = replicate 64 0; followers = replicate 64 0; end = 0 })
+  rows-start = record {
+    zeros = filled-start 0 (row-zero us fs) 64 (replicate 64 0) refl;
+    ones = filled-start 0 (row-one us fs) 64 (replicate 64 0) refl;
+    states = filled-start 0 (row-state fs) 64 (replicate 64 0) refl;
+    ends = word-start (row-end us fs);
+  }
+
+  pub rows-next : (i : ℕ) (r : Rows) (a b s e : ℕ) → i < 64 → Rows-of i us fs r → a ≡ row-zero us fs i → b ≡ row-one us fs i → s ≡ row-state fs i → e ≡ bit (row-end us fs i) * 2 ^ i
+      → Rows-of (i + 1) us fs (record { zero = set (r .zero) i a; one = set (r .one) i b; followers = set (r .followers) i s; end = e + r .end })
+  rows-next i r a b s e h g x y z w = record {
+    zeros = filled-next 0 (row-zero us fs) 64 i (r .zero) a h (g .zeros) x;
+    ones = filled-next 0 (row-one us fs) 64 i (r .one) b h (g .ones) y;
+    states = filled-next 0 (row-state fs) 64 i (r .followers) s h (g .states) z;
+    ends = word-next i (row-end us fs) (r .end) e (g .ends) w;
+  }
+
+-- ---- columns: for each leaf the nodes that come to it
+abbrev pub column : (count : ℕ) → (rows : List ℕ) → (leaf : ℕ) → ℕ
+column n rows x = word-of n (λ l. test-bit (entry rows l) x)
+
+-- ---- the leaves that take a letter, by the lines
+abbrev pub leaf-takes : Leaf → ℕ → Bool
+leaf-takes Nothing c = false
+leaf-takes (Letter a) c = eqb a c
+leaf-takes (Range a b) c = in-range a b c
+
+abbrev pub node-takes : Node → ℕ → Bool
+node-takes (Leaf-node x) c = leaf-takes x c
+node-takes (Sequence a b) c = false
+node-takes (Alternative a b) c = false
+node-takes (Star a) c = false
+
+abbrev pub line-takers : Pattern → (letter : ℕ) → (n : ℕ) → ℕ
+line-takers p c n = word-of n (λ l. node-takes (node-at p l) c)
+
+module _ (p : Pattern) (r : Rules p) where
+  -- each line's tree stands in the root's tree
+  locations : (k i : ℕ) → i < k → i < p .count → Location (root p) (tree p r i) → (l : ℕ) → has (tree p r i) l ≡ true → Location (root p) (tree p r l)
+  locations zero i h g s l o = absurd (omega arith)
+  locations (suc k) i h g s l o =
+      go (λ x y s o. locations k x (omega arith) (omega arith) s l o) (node-at p i) (r .lower i g) (subst (Location (root p)) (line-tree p r i g) s)
+      (ap (λ t. has t l) (sym (line-tree p r i g)) ∙ o)
+    where
+      me : Label
+      me = label-of p r i
+
+      self : eqb i l ≡ true → Location (root p) (tree p r l)
+      self q = subst (λ j. Location (root p) (tree p r j)) (eqb-eq i l q) s
+
+      go : ((x : ℕ) → x < i → Location (root p) (tree p r x) → has (tree p r x) l ≡ true → Location (root p) (tree p r l))
+          → (k : Node) → Below i k → Location (root p) (made me (tree p r) k) → has (made me (tree p r) k) l ≡ true → Location (root p) (tree p r l)
+      go rec (Leaf-node Nothing) b s o = self o
+      go rec (Leaf-node (Letter c)) b s o = self o
+      go rec (Leaf-node (Range x y)) b s o = self o
+      go rec (Sequence x y) b s o = ⊎-elim self (λ h. ⊎-elim (rec x (b .0) (fst s)) (λ g. rec y (b .1) (snd s) (g .1)) (or-cases (has (tree p r x) l) (has (tree p r y) l) (h .1)))
+          (or-cases (eqb i l) (has (tree p r x) l || has (tree p r y) l) o)
+      go rec (Alternative x y) b s o = ⊎-elim self (λ h. ⊎-elim (rec x (b .0) (lft s)) (λ g. rec y (b .1) (rgt s) (g .1)) (or-cases (has (tree p r x) l) (has (tree p r y) l) (h .1)))
+          (or-cases (eqb i l) (has (tree p r x) l || has (tree p r y) l) o)
+      go rec (Star x) b s o = ⊎-elim self (λ h. rec x b (rnd s) (h .1)) (or-cases (eqb i l) (has (tree p r x) l) o)
+
+  pub location-at : (l : ℕ) → l < p .count → Location (root p) (tree p r l)
+  unfolding root
+  location-at l h = locations (p .count) (p .count - 1) (omega (arith, r .one)) (omega (arith, r .one)) top l (root-planted p r .whole l h)
+
+  -- a word by the lines is the word of a predicate, if line by line they say the same
+  word-by-lines : (f : Predicate (root p)) (g : ℕ → Bool) → ((l : ℕ) (h : l < p .count) (s : Location (root p) (tree p r l)) → g l ≡ f (tree p r l) s) → word-of (p .count) g ≡ node-word (root p) (p .count) f
+  word-by-lines f g e =
+      word-is (root-planted p r) f (word-of (p .count) g) (word-lt (p .count) g)
+      (λ t s. word-bit (p .count) g (index t) (index-lt (root-planted p r) s) ∙ at t s (index-lt (root-planted p r) s))
+    where
+      at : (t : Tree) (s : Location (root p) t) → index t < p .count → g (index t) ≡ f t s
+      at t s h =
+          let q = location-at (index t) h in
+          e (index t) h q ∙ same-node (root-planted p r) f (tree p r (index t)) t q s (tree-index p r (index t) h)
+
+  pub line-takers-are : (c : ℕ) → line-takers p c (p .count) ≡ takers p c
+  unfolding takers
+  line-takers-are c = word-by-lines (λ t s. takes t c) (λ l. node-takes (node-at p l) c) (λ l h s. go (label-of p r l) (tree p r) (node-at p l) ∙ sym (ap (λ t. takes t c) (line-tree p r l h)))
+    where
+      go : (m : Label) (f : ℕ → Tree) (k : Node) → node-takes k c ≡ takes (made m f k) c
+      go m f (Leaf-node Nothing) = refl
+      go m f (Leaf-node (Letter a)) = refl
+      go m f (Leaf-node (Range a b)) = refl
+      go m f (Sequence a b) = refl
+      go m f (Alternative a b) = refl
+      go m f (Star a) = refl
+
+  module _ (us : List Front) (fs : List Follow) (fronts : Fronts p r (p .count) us) (down : Down p r 0 fs) where
+    -- what a node comes to, at the place where what follows it was found; so wherever it stands, since it stands once
+    row-reaches : (b : Bool) (l y k : ℕ) (h : l < p .count) → test-bit k y ≡ passes b (eqb y) false (down-end p r fs down l h .place)
+        → (s : Location (root p) (tree p r l)) → test-bit (bitOr (front-at us l .first) (pick (front-at us l .null) k)) y ≡ reaches b (eqb y) false (tree p r l) s
+    row-reaches b l y k h e s =
+        behind-bit (eqb y) (tree p r l) (front-at us l) k y (passes b (eqb y) false (down-end p r fs down l h .place)) (fronts l h .firsts y) (fronts l h .nulls) e
+        ∙ same-node (root-planted p r) (reaches b (eqb y) false) (tree p r l) (tree p r l) (down-end p r fs down l h .place) s refl
+
+    pub column-zero : (rows : List ℕ) → Filled 0 (row-zero us fs) 64 (p .count) rows → (x : ℕ) → column (p .count) rows x ≡ leaf-mask (root p) (p .count) false x
+    unfolding leaf-mask
+    column-zero rows g x = word-by-lines (reaches false (eqb x) false) (λ l. test-bit (entry rows l) x)
+        (λ l h s. ap (λ z. test-bit z x) (g .cells l h) ∙ row-reaches false l x (follow-at fs l .zero) h (down-end p r fs down l h .zeros x) s)
+
+    pub column-one : (rows : List ℕ) → Filled 0 (row-one us fs) 64 (p .count) rows → (x : ℕ) → column (p .count) rows x ≡ leaf-mask (root p) (p .count) true x
+    unfolding leaf-mask
+    column-one rows g x = word-by-lines (reaches true (eqb x) false) (λ l. test-bit (entry rows l) x)
+        (λ l h s. ap (λ z. test-bit z x) (g .cells l h) ∙ row-reaches true l x (follow-at fs l .one) h (down-end p r fs down l h .ones x) s)
+
+    pub row-ends : word-of (p .count) (row-end us fs) ≡ end-mask (root p) (p .count) true
+    unfolding end-mask
+    row-ends = word-by-lines (reaches true nowhere true) (row-end us fs) (λ l h s.
+        ap₂ (λ x z. x && z) (fronts l h .nulls) (down-end p r fs down l h .ends) ∙ sym (nowhere-through (tree p r l) (passes true nowhere true (down-end p r fs down l h .place)))
+        ∙ same-node (root-planted p r) (reaches true nowhere true) (tree p r l) (tree p r l) (down-end p r fs down l h .place) s refl)
+
+-- ---- the masks of a pattern, stored
+pub record Masks-of (p : Pattern) (zs os fs ks : List ℕ) (e : ℕ) : Type 0 where
+  pub zeros : (x : ℕ) → x < p .count → entry zs x ≡ leaf-mask (root p) (p .count) false x
+  pub ones : (x : ℕ) → x < p .count → entry os x ≡ leaf-mask (root p) (p .count) true x
+  pub follows : (x : ℕ) → x < p .count → Followed p x (entry fs x)
+  pub letters : (c : ℕ) → is-letter c ≡ true → entry ks c ≡ takers p c
+  pub ends : e ≡ end-mask (root p) (p .count) true
+
+-- every letter of a tape is one
+abbrev pub All-letters : List ℕ → Type 0
+All-letters [] = Unit {0}
+All-letters (c ∷ w) = (is-letter c ≡ true) × All-letters w
+
+pub first-word : (p : Pattern) (w : List ℕ) → first-one (words p w) ≡ state-set p true w
+first-word p [] = refl
+first-word p (c ∷ w) = refl
+
+-- masks that are not chosen do not count
+union-chosen : (n : ℕ) (g : ℕ → Bool) (m k : ℕ → ℕ) → ((x : ℕ) → x < n → g x ≡ true → m x ≡ k x) → union n g m ≡ union n g k
+union-chosen zero g m k e = refl
+union-chosen (suc n) g m k e = ap₂ bitOr (go (g n) (e n (omega arith))) (union-chosen n g m k (λ x l. e x (omega arith)))
+  where
+    go : (v : Bool) → (v ≡ true → m n ≡ k n) → pick v (m n) ≡ pick v (k n)
+    go true f = f refl
+    go false f = refl
+
+module _ (p : Pattern) (r : Rules p) (zs os fs ks : List ℕ) (e : ℕ) (good : Masks-of p zs os fs ks e) where
+  -- a leaf that is open is a line of the table
+  live-inside : (c next : ℕ) (last : Bool) (x : ℕ) → live (takers p c) next last (entry fs) x ≡ true → x < p .count
+  unfolding takers
+  live-inside c next last x h = go (decLt x (p .count))
+    where
+      go : Dec (x < p .count) → x < p .count
+      go (yes y) = y
+      go (no y) =
+          absurd (true≢false (sym h ∙ ap (λ z. z && behind next last (entry fs x)) (word-past-last (root p) (p .count) (λ t s. takes t c) x (omega arith))))
+
+  -- one position from the next, over the stored masks
+  pub step-words : (c : ℕ) (w : List ℕ) → is-letter c ≡ true
+      → step-of zs os fs (entry ks c) (state-set p true w) (at-end true w) ≡ record { zero = state-set p false (c ∷ w); one = state-set p true (c ∷ w) }
+  step-words c w h =
+      ap (λ k. step-of zs os fs k (state-set p true w) (at-end true w)) (good .letters c h)
+      ∙ ap₂ (λ x y. record { zero = x; one = y })
+      (union-chosen 64 chosen (entry zs) (leaf-mask (root p) (p .count) false) (λ x l f. good .zeros x (live-inside c (state-set p true w) (at-end true w) x f))
+      ∙ sym (state-step p r (entry fs) (good .follows) c w false))
+      (union-chosen 64 chosen (entry os) (leaf-mask (root p) (p .count) true) (λ x l f. good .ones x (live-inside c (state-set p true w) (at-end true w) x f))
+      ∙ sym (state-step p r (entry fs) (good .follows) c w true))
+    where
+      chosen : ℕ → Bool
+      chosen = live (takers p c) (state-set p true w) (at-end true w) (entry fs)
+
+  -- THE FILL over the masks of a pattern is the words of the definition
+  pub sweep-words : (w : List ℕ) → All-letters w → sweep-of zs os fs ks e w ≡ words p w
+  sweep-words [] h = ap₂ (λ x y. x ∷ y ∷ []) (sym (state-end p r false)) (good .ends ∙ sym (state-end p r true))
+  sweep-words (c ∷ w) h =
+      ap (λ ws. put (step-of zs os fs (entry ks c) (first-one ws) (at-end true w)) ws) (sweep-words w (h .1))
+      ∙ ap (λ k. put (step-of zs os fs (entry ks c) k (at-end true w)) (words p w)) (first-word p w)
+      ∙ ap (λ s. put s (words p w)) (step-words c w (h .0))

@@ -1,0 +1,114 @@
+// The first sweep: the state sets of a tape's positions (01: marks), from the tape's end to its start.
+ghost use mathlib.Core.Path.{_≡_};
+ghost use Rattle.bits.specs.Bits.{in-front};
+ghost use Rattle.states.specs.StateSets.{words as words-of};
+ghost use Rattle.states.specs.Steps.{behind, step-of};
+ghost use Rattle.states.specs.Sweep.{Sweepable, sweep-of};
+ghost use Rattle.states.specs.Fill.{Fillable};
+
+mod fronts; // fronts.rt: what each node comes to inside itself
+mod follows; // follows.rt: what each node comes to behind itself
+mod masks; // masks.rt: the masks of a pattern
+mod word; // word.rt: bits of words
+
+use follows::follows_of;
+use fronts::fronts_of;
+use masks::all_takers;
+use masks::columns_of;
+use masks::rows_of;
+use syntax::Pattern;
+use word::has_bit;
+use word::join;
+
+// The two state sets of a position: with flag 0 and with flag 1.
+pub struct Words {
+    pub zero: u64,
+    pub one: u64,
+}
+
+// Whether a state, a node or 64 for the end, is open at the next position with flag 1.
+fn open_behind(state: u8, next: u64, last: bool) -> bool
+    ensures { λ r. ⌜ r ≡ behind next last state ⌝ }
+{
+    if state < 64 {
+        has_bit(next, state)
+    } else {
+        last
+    }
+}
+
+// The two state sets of a position, from the leaves that take its letter and the flag 1 state set of the next position. `last` says
+// that the next position is the tape's end. Where words are stored does not matter here.
+pub fn step(
+    zero: &[u64; 64],
+    one: &[u64; 64],
+    followers: &[u8; 64],
+    takers: u64,
+    next: u64,
+    last: bool,
+) -> Words
+    ensures { λ r. ⌜ r ≡ step-of (now (zero .entry)) (now (one .entry)) (now (followers .entry)) takers next last ⌝ }
+{
+    let mut rest = takers;
+    let mut a: u64 = 0;
+    let mut b: u64 = 0;
+    while rest != 0 {
+        let x = u64::trailing_zeros(rest);
+        let i = x as usize;
+        rest -= 1u64 << x;
+        let chosen = open_behind(followers[i], next, last);
+        a = join(a, zero[i], chosen);
+        b = join(b, one[i], chosen);
+    }
+    Words { zero: a, one: b }
+}
+
+// The state sets of all positions, over the masks of a pattern: from the tape's end to its start.
+fn sweep(
+    zero: &[u64; 64],
+    one: &[u64; 64],
+    followers: &[u8; 64],
+    takers: &[u64; 128],
+    end: u64,
+    tape: &[u8],
+    words: &mut [u64],
+)
+    requires { ⌜ Sweepable (now tape) (now words) ⌝ }
+    ensures { λ _.
+        ⌜ now (words .exit) ≡ in-front (sweep-of (now (zero .entry)) (now (one .entry)) (now (followers .entry)) (now (takers .entry)) end (now (tape .entry))) (now (words .entry)) ⌝ }
+{
+    let n = tape.len();
+    words[2 * n] = 0;
+    words[2 * n + 1] = end;
+    let mut next = end;
+    let mut last = true;
+    let mut i = n;
+    while 0 < i {
+        i -= 1;
+        let c = tape[i] as usize;
+        let r = step(zero, one, followers, takers[c], next, last);
+        words[2 * i] = r.zero;
+        words[2 * i + 1] = r.one;
+        next = r.one;
+        last = false;
+    }
+}
+
+// THE FIRST SWEEP: fills words 2i and 2i + 1 with the state sets of position i, flag 0 and flag 1, for each position of the tape, its end
+// included. No other word changes. The parser's service makes the tests that this asks for.
+pub fn fill(p: Pattern, tape: &[u8], words: &mut [u64])
+    requires { ⌜ Fillable p (now tape) (now words) ⌝ }
+    ensures { λ _. ⌜ now (words .exit) ≡ in-front (words-of p (now (tape .entry))) (now (words .entry)) ⌝ }
+{
+    let count = p.count;
+    let fronts = fronts_of(p);
+    let follows = follows_of(p, fronts);
+    let rows = rows_of(count, fronts, follows);
+    let row_zero = rows.zero;
+    let row_one = rows.one;
+    let followers = rows.followers;
+    let zero = columns_of(&row_zero, count);
+    let one = columns_of(&row_one, count);
+    let takers = all_takers(p);
+    sweep(&zero, &one, &followers, &takers, rows.end, tape, words);
+}

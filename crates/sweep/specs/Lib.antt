@@ -1,0 +1,4 @@
+pub mod Parts
+pub mod Sweeping
+pub mod SweepLaws
+pub mod Ways
