@@ -26,7 +26,7 @@ use Rattle.columns.specs.declared.Columns.{Columns}
 use Rattle.columns.specs.Columns.{Holds, Good, tree-in}
 use Rattle.columns.specs.ColumnLaws.{holds-tree, holds-good}
 use Rattle.semantics.specs.Value.{Value, flat, nonempty}
-use Rattle.semantics.specs.Code.{Canonical, code}
+use Rattle.semantics.specs.Code.{Canonical, code, choices}
 use Rattle.semantics.specs.Automaton.{Location, top, fst, snd, lft, rgt, rnd}
 use Rattle.semantics.specs.Sweeps.{can, at-end, readable, greedy}
 use Rattle.semantics.specs.AutomatonLaws.{after}
@@ -111,6 +111,32 @@ in-front-long : (p : Pattern) (tape ws : List ℕ) → 2 * (length tape + 1) ≤
 unfolding in-front
 in-front-long p tape ws h = simp (length-append, length-drop) (omega (arith, words-length p tape))
 
+-- ── bounds of an accepted pattern ──
+-- the nodes of the root's tree are the lines of the table
+as-weight : (t : Tree) → nodes t ≡ weight (λ i. 1) t
+as-weight (nothing m) = refl
+as-weight (letter m c) = refl
+as-weight (range m a b) = refl
+as-weight (seq m t u) = omega (arith, as-weight t, as-weight u)
+as-weight (alt m t u) = omega (arith, as-weight t, as-weight u)
+as-weight (star m again t) = omega (arith, as-weight t)
+
+pub root-nodes : (p : Pattern) → Rules p → nodes (root p) ≡ p .count
+root-nodes p r = as-weight (root p) ∙ root-weight p r (λ i. 1) ∙ ones (p .count)
+  where
+    ones : (n : ℕ) → sum-to n (λ i. 1) ≡ n
+    ones zero = refl
+    ones (suc n) = omega (arith, ones n)
+
+pub root-choices : (p : Pattern) → obeys p ≡ true → choices (root p) ≤ 64
+root-choices p h = let r = obeys-iff p .0 h in omega (arith, choices-nodes (root p), root-nodes p r, r .few)
+
+-- no code of a tape within the limit passes 65,536 bytes
+pub greedy-few : (p : Pattern) → obeys p ≡ true → (tape : List ℕ) → length tape ≤ 3600 → readable (root p) tape ≡ true → length (greedy (root p) tape) ≤ 524288
+greedy-few p h tape few reads =
+    let c = greedy-canonical (root p) tape reads in
+    rw (c .written) at (code-fits (root p) (c .value) (root-choices p h) (c .greedy .solid) (rw (c .greedy .spells) few))
+
 -- ── what the sweep needs to know ──
 module _ (p : Pattern) (tape ws : List ℕ) (h : Writable p tape ws) where
   rules : Rules p
@@ -142,27 +168,8 @@ module _ (p : Pattern) (tape ws : List ℕ) (h : Writable p tape ws) where
       ended b [] e = refl
       ended b (x ∷ r) e = absurd (false≢true e)
 
-  -- "no code of a tape within the limit passes 65,536 bytes"
   pub few-bits : length (greedy (root p) tape) ≤ 524288
-  few-bits =
-      let c = greedy-canonical (root p) tape (h .reads) in
-      let n = code-fits (root p) (c .value) (omega (arith, choices-nodes (root p), node-count, rules .few)) (c .greedy .solid) (rw (c .greedy .spells) (h .few)) in
-      rw (c .written) at n
-    where
-      as-weight : (t : Tree) → nodes t ≡ weight (λ i. 1) t
-      as-weight (nothing m) = refl
-      as-weight (letter m c) = refl
-      as-weight (range m a b) = refl
-      as-weight (seq m t u) = omega (arith, as-weight t, as-weight u)
-      as-weight (alt m t u) = omega (arith, as-weight t, as-weight u)
-      as-weight (star m again t) = omega (arith, as-weight t)
-
-      ones : (n : ℕ) → sum-to n (λ i. 1) ≡ n
-      ones zero = refl
-      ones (suc n) = omega (arith, ones n)
-
-      node-count : nodes (root p) ≡ p .count
-      node-count = as-weight (root p) ∙ root-weight p rules (λ i. 1) ∙ ones (p .count)
+  few-bits = greedy-few p (h .good) tape (h .few) (h .reads)
 
   module _ (c : Columns) (hc : Holds p c) where
     abbrev pub root-ready : Ready (c .kind) (c .first) (c .second) ws tape (p .count - 1) 0 true 0

@@ -1,0 +1,154 @@
+-- The third demand is met: from the contract of `canonicalize` and the theory only.
+use mathlib.Core.Path.{_≡_, refl, sym, ap, ap₂, subst, _∙_}
+use mathlib.Core.Bool.{Bool, true, false, _&&_, cond, false≢true}
+use mathlib.Core.Logic.{_↔_, inl, inr}
+use mathlib.Core.List.{List, [], _∷_, _++_}
+use Prim.Native.Nat.{ℕ, zero, suc, _+_, _*_, _≤_, _<_}
+use native.Mathlib.Omega.{arith}
+use borrow.Author.Tests.{le-leb, le-ltb}
+use lib.Dec.{leb, ltb}
+use lib.ListN.{length, take, drop}
+use Rattle.syntax.specs.declared.Pattern.{Pattern}
+use Rattle.syntax.specs.Refusals.{Answer, answer}
+use Rattle.syntax.specs.Table.{obeys}
+use Rattle.syntax.specs.Tree.{Tree}
+use Rattle.syntax.specs.Trees.{root}
+use Rattle.bits.specs.Bits.{Small, cell-count, pack, held, in-front, handed-good}
+use Rattle.bits.specs.Packing.{length-pack, pack-equal, pack-small}
+use Rattle.bits.specs.Writing.{take-in-front}
+use Rattle.bits.specs.Handed.{held-pack, handed-iff, handed-pack}
+use Rattle.semantics.specs.Code.{IsCode, NoEmptyRound, Canonical, before}
+use Rattle.semantics.specs.Decode.{is-code, spelled, hollow}
+use Rattle.semantics.specs.CodeLaws.{is-code-iff, solid-iff}
+use Rattle.semantics.specs.Sweeps.{readable, greedy}
+use Rattle.semantics.specs.GreedyLaws.{greedy-canonical, code-readable, spelled-greedy, hollow-greedy}
+use Rattle.semantics.specs.Promise.{GreedyCode}
+use Rattle.semantics.specs.Promised.{greedy-code-iff}
+use Rattle.codes.specs.Flatten.{whole-code, letters-of, flatten-answer}
+use Rattle.parser.specs.Parse.{Reads-greedily}
+use Rattle.parser.specs.ParseLaws.{root-choices, greedy-few}
+use Rattle.canonical.specs.Canonicalize.{canonicalized-answer, Read-by, Settles-by, Canonicalizes}
+use Rattle.canonical.specs.Demand.{Is-code, tape-of, Code, spells, Run, Settled, bytes-of, Equal, Earliest, Settles-well, Demand, Third-demand}
+
+and-fst : (a b : Bool) → (a && b) ≡ true → a ≡ true
+and-fst true b e = refl
+and-fst false b e = e
+
+and-snd : (a b : Bool) → (a && b) ≡ true → b ≡ true
+and-snd true b e = e
+and-snd false b e = absurd (false≢true e)
+
+module _ (p : Pattern) (good : obeys p ≡ true) where
+  abbrev t : Tree
+  t = root p
+
+  coded : (bytes : List ℕ) (count : ℕ) → whole-code t bytes count ≡ true → is-code t (held 8 bytes count) ≡ true
+  unfolding whole-code
+  coded bytes count w = and-snd (handed-good bytes count) (is-code t (held 8 bytes count)) w
+
+  module _ (c : Code p) where
+    abbrev g : List Bool
+    g = greedy t (spells c)
+
+    readable-tape : readable t (spells c) ≡ true
+    unfolding letters-of
+    readable-tape = code-readable t (held 8 (c .bytes) (c .count)) (is-code-iff t (held 8 (c .bytes) (c .count)) .0 (coded (c .bytes) (c .count) (c .is .whole)))
+
+    canonical-tape : Canonical t (spells c) g
+    canonical-tape = greedy-canonical t (spells c) readable-tape
+
+    few-bits : length g ≤ 524288
+    few-bits = greedy-few p good (spells c) (c .few) readable-tape
+
+    -- the greedy code as bytes
+    packed-is : Is-code p (pack 8 g) (length g)
+    unfolding whole-code
+    packed-is = record {
+      small = pack-small 8 g;
+      whole = rw (handed-pack g (omega (arith, few-bits)), held-pack 8 (omega arith) g) (is-code-iff t g .1 (coded-greedy canonical-tape));
+    }
+      where
+        coded-greedy : Canonical t (spells c) g → IsCode t g
+        coded-greedy k = record { value = k .value; written = k .written; within = few-bits }
+
+    packed-spells : tape-of p (pack 8 g) (length g) ≡ spells c
+    unfolding letters-of
+    packed-spells = ap (spelled t) (held-pack 8 (omega arith) g) ∙ spelled-greedy t (spells c) readable-tape
+
+    earliest : Earliest p (spells c) (pack 8 g) (length g)
+    earliest = record {
+      is = packed-is;
+      spells-it = packed-spells;
+      solid = rw (held-pack 8 (omega arith) g) (solid-iff t g .0 (is-code-iff t g .1 (record { value = canonical-tape .value; written = canonical-tape .written; within = few-bits }), hollow-greedy t (spells c) readable-tape));
+      first = λ xs n d s e other.
+          let q = greedy-code-iff t (spells c) (root-choices p good) (c .few) g .1 canonical-tape in
+          let k = coded xs n (d .whole) in
+          rw (held-pack 8 (omega arith) g)
+          (q .first (held 8 xs n) k (letters-same xs n s) (solid-iff t (held 8 xs n) .1 e .1) (λ i. other (same-bytes xs n d i)));
+    }
+      where
+        letters-same : (xs : List ℕ) (n : ℕ) → tape-of p xs n ≡ spells c → spelled t (held 8 xs n) ≡ spells c
+        letters-same xs n s = unfold letters-of in s
+
+        same-bytes : (xs : List ℕ) (n : ℕ) → Is-code p xs n → held 8 xs n ≡ g → Equal xs (pack 8 g) n (length g)
+        same-bytes xs n d i =
+            let h = handed-iff xs n (d .small) .0 (unfold whole-code in and-fst (handed-good xs n) (is-code t (held 8 xs n)) (d .whole)) in
+            (sym (h .1) ∙ ap length i, h .0 ∙ ap (pack 8) i)
+
+    -- what a run leaves
+    module _ (x : Run p c) where
+      pub record Ran : Type 0 where
+        pub settled : Settled x
+        pub count-is : settled .count ≡ length g
+        pub bytes-are : bytes-of x settled ≡ pack 8 g
+
+      ran : Ran
+      unfolding Canonicalizes flatten-answer
+      ran = go (x .kept)
+        where
+          n : ℕ
+          n = length (spells c)
+
+          go : Settles-by (flatten-answer p (c .bytes) (c .count) (length (x .tape)) .number) (flatten-answer p (c .bytes) (c .count) (length (x .tape))) p (spells c)
+              (x .tape) (x .tape-now) (x .words) (x .words-now) (x .out) (x .out-now) (canonicalized-answer (x .result)) → Ran
+          go w =
+              let f : flatten-answer p (c .bytes) (c .count) (length (x .tape)) ≡ answer 0 (length (spells c)) =
+              rw (good, c .is .whole, le-leb (length (spells c)) 3600 (c .few), le-leb (length (spells c)) (length (x .tape)) (x .tape-room)) in
+              let s = subst (λ a. Settles-by (a .number) a p (spells c) (x .tape) (x .tape-now) (x .words) (x .words-now) (x .out) (x .out-now) (canonicalized-answer (x .result))) f w in
+              let r = subst (λ b. Read-by b p (spells c) (x .words) (x .words-now) (x .out) (x .out-now) (canonicalized-answer (x .result))) (le-ltb (length (x .words)) (2 * (length (spells c) + 1)) (x .word-room)) (s .1) in
+              let m = r .1 .fits g canonical-tape (x .code-room g canonical-tape) in
+              record {
+                settled = record { count = length g; answers = m .0 };
+                count-is = refl;
+                bytes-are = ap (take (cell-count 8 (length g))) (m .1) ∙ ap (λ k. take k (in-front (pack 8 g) (x .out))) (sym (length-pack 8 g)) ∙ take-in-front (pack 8 g) (x .out);
+              }
+
+  module _ (c : Code p) (x : Run p c) where
+    abbrev well : Settles-well p c x
+    well =
+        let r = ran c x in
+        record {
+          settled = r .settled;
+          earliest = subst (λ k. Earliest p (spells c) (bytes-of x (r .settled)) k) (sym (r .count-is)) (subst (λ l. Earliest p (spells c) l (length (g c))) (sym (r .bytes-are)) (earliest c));
+          again = λ d eb en y.
+              let q = ran d y in
+              let e : spells d ≡ spells c = ap₂ (tape-of p) (eb ∙ r .bytes-are) (en ∙ r .count-is) ∙ packed-spells c in
+              (q .settled, (q .count-is ∙ ap (λ w. length (greedy t w)) e ∙ sym (r .count-is), q .bytes-are ∙ ap (λ w. pack 8 (greedy t w)) e ∙ sym (r .bytes-are)));
+        }
+
+-- THE THIRD DEMAND
+pub third-demand : Third-demand
+unfolding Third-demand
+third-demand p good a b x y =
+    let r = ran p good a x in
+    let q = ran p good b y in
+    let one = well p good a x in
+    let two = well p good b y in
+    record {
+      one = one;
+      two = two;
+      equal = (
+        λ e. sym (one .earliest .spells-it) ∙ ap₂ (tape-of p) (e .1) (e .0) ∙ two .earliest .spells-it,
+        λ e. (r .count-is ∙ ap (λ w. length (greedy (root p) w)) e ∙ sym (q .count-is), r .bytes-are ∙ ap (λ w. pack 8 (greedy (root p) w)) e ∙ sym (q .bytes-are)),
+      );
+    }

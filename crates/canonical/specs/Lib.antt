@@ -1,0 +1,4 @@
+pub mod Canonicalize
+pub mod CanonicalLaws
+pub mod Demand
+pub mod Demanded
