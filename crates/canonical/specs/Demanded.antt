@@ -16,7 +16,7 @@ use Rattle.syntax.specs.Trees.{root}
 use Rattle.bits.specs.Bits.{Small, cell-count, pack, held, in-front, handed-good}
 use Rattle.bits.specs.Packing.{length-pack, pack-equal, pack-small}
 use Rattle.bits.specs.Writing.{take-in-front}
-use Rattle.bits.specs.Handed.{held-pack, handed-iff, handed-pack}
+use Rattle.bits.specs.Handed.{held-pack, handed-iff}
 use Rattle.semantics.specs.Code.{IsCode, NoEmptyRound, Canonical, before}
 use Rattle.semantics.specs.Decode.{is-code, spelled, hollow}
 use Rattle.semantics.specs.CodeLaws.{is-code-iff, solid-iff}
@@ -26,8 +26,9 @@ use Rattle.semantics.specs.Promise.{GreedyCode}
 use Rattle.semantics.specs.Promised.{greedy-code-iff}
 use Rattle.codes.specs.Flatten.{whole-code, letters-of, flatten-answer}
 use Rattle.parser.specs.Parse.{Reads-greedily}
-use Rattle.parser.specs.ParseLaws.{root-choices, greedy-few}
+use Rattle.parser.specs.ParseLaws.{root-choices}
 use Rattle.canonical.specs.Canonicalize.{canonicalized-answer, Read-by, Settles-by, Canonicalizes}
+use Rattle.canonical.specs.RoundTrip.{canonical-code, canonical-whole, canonical-spells}
 use Rattle.canonical.specs.Demand.{Is-code, tape-of, Code, spells, Run, Settled, bytes-of, Equal, Earliest, Settles-well, Demand, Third-demand}
 
 and-fst : (a b : Bool) → (a && b) ≡ true → a ≡ true
@@ -57,29 +58,18 @@ module _ (p : Pattern) (good : obeys p ≡ true) where
     canonical-tape : Canonical t (spells c) g
     canonical-tape = greedy-canonical t (spells c) readable-tape
 
-    few-bits : length g ≤ 524288
-    few-bits = greedy-few p good (spells c) (c .few) readable-tape
-
     -- the greedy code as bytes
     packed-is : Is-code p (pack 8 g) (length g)
-    unfolding whole-code
-    packed-is = record {
-      small = pack-small 8 g;
-      whole = rw (handed-pack g (omega (arith, few-bits)), held-pack 8 (omega arith) g) (is-code-iff t g .1 (coded-greedy canonical-tape));
-    }
-      where
-        coded-greedy : Canonical t (spells c) g → IsCode t g
-        coded-greedy k = record { value = k .value; written = k .written; within = few-bits }
+    packed-is = record { small = pack-small 8 g; whole = canonical-whole p good (spells c) (c .few) g canonical-tape }
 
     packed-spells : tape-of p (pack 8 g) (length g) ≡ spells c
-    unfolding letters-of
-    packed-spells = ap (spelled t) (held-pack 8 (omega arith) g) ∙ spelled-greedy t (spells c) readable-tape
+    packed-spells = canonical-spells p good (spells c) (c .few) g canonical-tape
 
     earliest : Earliest p (spells c) (pack 8 g) (length g)
     earliest = record {
       is = packed-is;
       spells-it = packed-spells;
-      solid = rw (held-pack 8 (omega arith) g) (solid-iff t g .0 (is-code-iff t g .1 (record { value = canonical-tape .value; written = canonical-tape .written; within = few-bits }), hollow-greedy t (spells c) readable-tape));
+      solid = rw (held-pack 8 (omega arith) g) (solid-iff t g .0 (is-code-iff t g .1 (canonical-code p good (spells c) (c .few) g canonical-tape), hollow-greedy t (spells c) readable-tape));
       first = λ xs n d s e other.
           let q = greedy-code-iff t (spells c) (root-choices p good) (c .few) g .1 canonical-tape in
           let k = coded xs n (d .whole) in

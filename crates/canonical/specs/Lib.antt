@@ -1,4 +1,5 @@
 pub mod Canonicalize
 pub mod CanonicalLaws
+pub mod RoundTrip
 pub mod Demand
 pub mod Demanded

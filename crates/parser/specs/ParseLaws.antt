@@ -36,6 +36,7 @@ use Rattle.semantics.specs.GreedyLaws.{greedy-canonical, canonical-greedy, read
 use Rattle.states.specs.Nodes.{index}
 use Rattle.states.specs.StateSets.{state-set, words}
 use Rattle.states.specs.StateLaws.{state-bit}
+use Rattle.states.specs.Meaning.{words-length, words-at}
 use Rattle.states.specs.Fill.{Fillable}
 use Rattle.sweep.specs.declared.Swept.{Swept}
 use Rattle.sweep.specs.Parts.{Sweeps}
@@ -85,23 +86,9 @@ all-letters (c ∷ w) h i l = go (is-letter c) refl h i l (all-letters w)
     go false e h i l ih = absurd (omega arith)
 
 -- ── the marks of a position ──
-words-length : (p : Pattern) (tape : List ℕ) → length (words p tape) ≡ 2 * (length tape + 1)
-words-length p [] = refl
-words-length p (c ∷ w) = omega (arith, words-length p w)
-
-words-at : (p : Pattern) (tape : List ℕ) (i : ℕ) → i ≤ length tape → (b : Bool) → getD (words p tape) (2 * i + bit b) 0 ≡ state-set p b (drop i tape)
-words-at p [] zero l true = refl
-words-at p [] zero l false = refl
-words-at p [] (suc i) l b = absurd (omega arith)
-words-at p (c ∷ w) zero l true = refl
-words-at p (c ∷ w) zero l false = refl
-words-at p (c ∷ w) (suc i) l b =
-    let e : 2 * suc i + bit b ≡ suc (suc (2 * i + bit b)) = omega arith in
-    ap (λ j. getD (words p (c ∷ w)) j 0) e ∙ words-at p w i (omega arith) b
-
 pub filled-at : (p : Pattern) (tape ws : List ℕ) (i : ℕ) → i ≤ length tape → (b : Bool) → getD (in-front (words p tape) ws) (2 * i + bit b) 0 ≡ state-set p b (drop i tape)
 unfolding in-front
-filled-at p tape ws i l b = List·getD-append (words p tape) (drop (length (words p tape)) ws) 0 (2 * i + bit b) (below b) ∙ words-at p tape i l b
+filled-at p tape ws i l b = List·getD-append (words p tape) (drop (length (words p tape)) ws) 0 (2 * i + bit b) (below b) ∙ words-at p tape i b l
   where
     below : (b : Bool) → 2 * i + bit b < length (words p tape)
     below true = omega (arith, words-length p tape)

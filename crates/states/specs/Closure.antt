@@ -2,13 +2,13 @@
 -- is open behind it with flag 1; every other node is open if it comes by steps that read nothing to an open leaf or to the accepting end.
 use mathlib.Core.Path.{_≡_, refl, sym, ap, ap₂, fun-ext, _∙_}
 use mathlib.Core.Bool.{Bool, true, false, _&&_, _||_, and-true, and-false, or-false}
-use mathlib.Core.List.{List, [], _∷_}
-use Prim.Native.Nat.{ℕ, zero, suc, _^_, _≤_, _<_}
+use mathlib.Core.List.{List}
+use Prim.Native.Nat.{ℕ, zero, suc, _≤_, _<_}
 use native.Mathlib.Omega.{arith}
 use native.Mathlib.Decide.{decLt}
 use lib.Dec.{eqb}
 use Rattle.syntax.specs.Tree.{Label, Tree, nothing, letter, range, seq, alt, star}
-use Rattle.semantics.specs.Basics.{eqb-self, eqb-eq, eqb-no}
+use Rattle.semantics.specs.Basics.{eqb-eq, eqb-no}
 use Rattle.semantics.specs.Automaton.{Location, top, fst, snd, lft, rgt, rnd}
 use Rattle.semantics.specs.Sweeps.{can, at-end}
 use Rattle.semantics.specs.FirstSweepLaws.{can-star}

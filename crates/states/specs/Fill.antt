@@ -1,7 +1,7 @@
 -- THE FILL: what is asked of a caller, and that the masks which the fill makes are those of the pattern.
-use mathlib.Core.Path.{_≡_, refl, sym, ap, ap₂, _∙_}
-use mathlib.Core.Bool.{Bool, true, false, _&&_}
-use mathlib.Core.List.{List, [], _∷_, _++_}
+use mathlib.Core.Path.{_≡_, ap, _∙_}
+use mathlib.Core.Bool.{true}
+use mathlib.Core.List.{List, [], _∷_}
 use Prim.Native.Nat.{ℕ, zero, suc, _+_, _*_, _≤_, _<_}
 use native.Mathlib.Omega.{arith}
 use borrow.Author.Tests.{leb-true}
@@ -10,7 +10,7 @@ use lib.ListN.{length, getD}
 use Rattle.syntax.specs.declared.Pattern.{Pattern}
 use Rattle.syntax.specs.Letter.{is-letter}
 use Rattle.syntax.specs.TreeLaws.{Rules}
-use Rattle.bits.specs.Bits.{in-front, word-of}
+use Rattle.bits.specs.Bits.{in-front}
 use Rattle.semantics.specs.Basics.{and-snd}
 use Rattle.states.specs.declared.fronts.Front.{Front}
 use Rattle.states.specs.declared.follows.Follow.{Follow}

@@ -8,25 +8,24 @@ use Prim.Native.Nat.{ℕ, zero, suc, _+_, _-_, _≤_, _<_}
 use native.Mathlib.Omega.{arith}
 use native.Mathlib.Decide.{decLt}
 use lib.Dec.{eqb}
-use lib.ListN.{length, getD, set, replicate, length-set, getD-replicate}
+use lib.ListN.{length, set, replicate, length-set, getD-replicate}
 use lib.Seq.{getD-set-same, getD-set-other}
 use Rattle.syntax.specs.declared.Leaf.the-variants.{Nothing, Letter, Range}
 use Rattle.syntax.specs.declared.Node.{Node}
 use Rattle.syntax.specs.declared.Node.the-variants.{Leaf as Leaf-node, Sequence, Alternative, Star}
 use Rattle.syntax.specs.declared.Pattern.{Pattern}
-use Rattle.syntax.specs.Table.{line-at, node-at, parts, member, named-below}
-use Rattle.syntax.specs.Tree.{Label, Tree, nothing, letter, range, seq, alt, star}
-use Rattle.syntax.specs.Trees.{made, tree-of, root}
-use Rattle.syntax.specs.TreeLaws.{Below, Rules, tree-line, times}
+use Rattle.syntax.specs.Table.{node-at, parts, member, named-below}
+use Rattle.syntax.specs.Tree.{Label, Tree, nothing, seq, alt, star}
+use Rattle.syntax.specs.Trees.{made, root}
+use Rattle.syntax.specs.TreeLaws.{Below, Rules, times}
 use Rattle.syntax.specs.TreeLaws as tree-laws
-use Rattle.bits.specs.Bits.{test-bit}
 use Rattle.bits.specs.Words.{test-or}
-use Rattle.semantics.specs.Basics.{eqb-self, eqb-eq, eqb-no, or-cases}
-use Rattle.semantics.specs.Automaton.{Location, top, fst, snd, lft, rgt, rnd}
+use Rattle.semantics.specs.Basics.{eqb-eq, eqb-no, or-cases}
+use Rattle.semantics.specs.Automaton.{top, fst, snd, lft, rgt, rnd}
 use Rattle.states.specs.declared.fronts.Front.{Front}
 use Rattle.states.specs.declared.follows.Follow.{Follow}
-use Rattle.states.specs.Nodes.{index, Node-at}
-use Rattle.states.specs.Closure.{reach, passes, nowhere, reach-none}
+use Rattle.states.specs.Nodes.{index}
+use Rattle.states.specs.Closure.{passes, nowhere, reach-none}
 use Rattle.states.specs.Steps.{Followed}
 use Rattle.states.specs.Fronts.{blank-front, front-at, front-line, front-line-of, Front-of, Fronts, blank-follow, end-follow, follow-at, before-second, before-round, down-line, Follow-of, nothing-bit, behind-bit, nowhere-through, tree, label-of, line-tree}
 

@@ -2,9 +2,8 @@
 -- Sets of leaves are words: bit y says that leaf y is among them.
 use mathlib.Core.Path.{_≡_, refl, sym, ap, ap₂, subst, fun-ext, _∙_}
 use mathlib.Core.Bool.{Bool, true, false, _&&_, _||_, or-false, or-true, and-true, and-false}
-use mathlib.Core.List.{List, [], _∷_}
-use Prim.Native.Nat.{ℕ, zero, suc, _+_, _-_, _*_, _^_, _≤_, _<_}
-use native.Mathlib.Omega.{arith}
+use mathlib.Core.List.{List}
+use Prim.Native.Nat.{ℕ, zero, _-_, _*_, _^_, _<_}
 use lib.Dec.{eqb}
 use lib.Bits.{bitOr}
 use lib.ListN.{getD, set}
@@ -15,14 +14,14 @@ use Rattle.syntax.specs.declared.Node.{Node}
 use Rattle.syntax.specs.declared.Node.the-variants.{Leaf as Leaf-node, Sequence, Alternative, Star}
 use Rattle.syntax.specs.declared.Pattern.{Pattern}
 use Rattle.syntax.specs.Table.{line-at, node-at}
-use Rattle.syntax.specs.Tree.{Label, Tree, nothing, letter, range, seq, alt, star}
+use Rattle.syntax.specs.Tree.{Label, Tree, seq, alt, star}
 use Rattle.syntax.specs.Trees.{made, tree-of, root}
 use Rattle.syntax.specs.TreeLaws.{Below, Rules, tree-line}
 use Rattle.bits.specs.Bits.{bit, test-bit}
 use Rattle.bits.specs.Numbers.{test-small}
 use Rattle.bits.specs.Words.{test-or, test-single}
 use Rattle.semantics.specs.Basics.{eqb-self, eqb-eq, eqb-no}
-use Rattle.semantics.specs.Automaton.{Location, top, fst, snd, lft, rgt, rnd, follower}
+use Rattle.semantics.specs.Automaton.{Location, follower}
 use Rattle.states.specs.declared.fronts.Front.{Front}
 use Rattle.states.specs.declared.follows.Follow.{Follow}
 use Rattle.states.specs.Nodes.{index}

@@ -1,23 +1,23 @@
 -- Joining the masks of the open leaves one after the other, the lowest leaf of those left first.
 use mathlib.Core.Path.{_≡_, refl, sym, ap, ap₂, _∙_}
-use mathlib.Core.Bool.{Bool, true, false, _&&_, _||_, not, and-false, and-true, or-false, or-assoc}
+use mathlib.Core.Bool.{Bool, true, false, _&&_, _||_, not, and-true, or-false, or-assoc}
 use Prim.Native.Nat.{ℕ, zero, suc, _+_, _-_, _*_, _/_, _%_, _^_, _≤_, _<_}
-use native.Mathlib.Nat.{mod-eq-of-lt, one-mul, div-div-eq-div-mul, div-one}
+use native.Mathlib.Nat.{mod-eq-of-lt, one-mul, mul-left-comm, mul-add, div-div-eq-div-mul, div-one}
 use native.Mathlib.Decide.{decLt}
 use native.Mathlib.Omega.{arith}
 use lib.Dec.{eqb}
-use lib.Pow.{pow-pos, pow-mono, pow-lt}
-use lib.Bits.{bitOr}
+use lib.Pow.{pow-pos, pow-mono}
+use lib.Bits.{bitOr, or-lt, bitAnd, and-block, and-self, and-shifted}
 use lib.Count.{trailingZeros, under}
 use Rattle.bits.specs.Bits.{bit, test-bit, word-of}
 use Rattle.bits.specs.Numbers.{test-small}
-use Rattle.bits.specs.Words.{word-self, word-bit, word-unique, word-lt, test-or}
-use Rattle.semantics.specs.Basics.{eqb-self, eqb-eq, eqb-no}
+use Rattle.bits.specs.Words.{word-self, word-bit, word-unique, word-lt, test-or, test-single, single-lt}
+use Rattle.semantics.specs.Basics.{eqb-self, eqb-eq}
 use mathlib.Core.List.{List}
 use Rattle.states.specs.declared.Words.{Words}
-use Rattle.states.specs.Steps.{behind, entry, step-of}
+use Rattle.states.specs.Steps.{live, entry, step-of}
 use Rattle.states.specs.Closure.{any-to, any-same}
-use Rattle.states.specs.Unions.{pick, union, pick-bit, union-bit}
+use Rattle.states.specs.Unions.{pick, union, pick-bit, union-bit, union-same}
 
 -- ---- the lowest bit that is set
 pub lowest-set : (k n : ℕ) → 1 ≤ n → n < 2 ^ k → (trailingZeros k n < k) × (test-bit n (trailingZeros k n) ≡ true)
@@ -37,6 +37,25 @@ lowest-set (suc k) n one h = go (lowest-set k (n / 2)) (n % 2) refl
         split : (t : ℕ) → n / 2 ^ suc t ≡ n / 2 / 2 ^ t
         split t = let f : 2 ^ suc t ≡ 2 * 2 ^ t = omega arith in ap (λ z. n / z) f ∙ sym (div-div-eq-div-mul n 2 (2 ^ t))
     go ih (suc d) e = (omega arith, ap (λ z. eqb (z % 2) 1) (div-one n) ∙ ap (λ z. eqb z 1) (let f : n % 2 ≡ 1 = omega arith in f))
+
+-- below the lowest bit that is set all is 0
+lowest-split : (k n : ℕ) → 1 ≤ n → n < 2 ^ k → (q : ℕ) × (n ≡ q * 2 ^ suc (trailingZeros k n) + 2 ^ trailingZeros k n)
+unfolding trailingZeros
+lowest-split zero n one h = absurd (omega arith)
+lowest-split (suc k) n one h = go (lowest-split k (n / 2)) (n % 2) refl
+  where
+    double : (q s : ℕ) → q * 2 ^ suc s ≡ 2 * (q * 2 ^ s)
+    double q s = let f : 2 ^ suc s ≡ 2 * 2 ^ s = omega arith in ap (λ z. q * z) f ∙ mul-left-comm q 2 (2 ^ s)
+
+    go : (1 ≤ n / 2 → n / 2 < 2 ^ k → (q : ℕ) × (n / 2 ≡ q * 2 ^ suc (trailingZeros k (n / 2)) + 2 ^ trailingZeros k (n / 2)))
+        → (d : ℕ) → n % 2 ≡ d → (q : ℕ) × (n ≡ q * 2 ^ suc (under d (trailingZeros k (n / 2))) + 2 ^ under d (trailingZeros k (n / 2)))
+    go ih zero e =
+        let i = ih (omega arith) (omega arith) in
+        let d : i .0 * 2 ^ suc (suc (trailingZeros k (n / 2))) ≡ 2 * (i .0 * 2 ^ suc (trailingZeros k (n / 2))) = double (i .0) (suc (trailingZeros k (n / 2))) in
+        let f : 2 ^ suc (trailingZeros k (n / 2)) ≡ 2 * 2 ^ trailingZeros k (n / 2) = omega arith in
+        let h : n ≡ 2 * (n / 2) = omega arith in
+        (i .0, h ∙ ap (λ z. 2 * z) (i .1) ∙ mul-add 2 (i .0 * 2 ^ suc (trailingZeros k (n / 2))) (2 ^ trailingZeros k (n / 2)) ∙ ap₂ (λ y z. y + z) (sym d) (sym f))
+    go ih (suc d) e = (n / 2, omega arith)
 
 word-same : (n : ℕ) (f g : ℕ → Bool) → ((l : ℕ) → l < n → f l ≡ g l) → word-of n f ≡ word-of n g
 word-same n f g h = word-unique n (word-of n f) g (word-lt n f) (λ l k. word-bit n f l k ∙ h l k)
@@ -82,14 +101,34 @@ module _ (rest x : ℕ) (one : 1 ≤ rest) (h : rest < 2 ^ 64) (e : x ≡ traili
   pub lowest-less : rest - 2 ^ x < rest
   lowest-less = omega (arith, rest-is, pow-pos x)
 
-  -- the bit as code makes it
-  pub lowest-shift : 1 * 2 ^ x % 2 ^ 64 ≡ 2 ^ x
-  lowest-shift = let q : 1 * 2 ^ x < 2 ^ 64 = omega (arith, pow-lt (lowest-lt)) in mod-eq-of-lt q ∙ one-mul (2 ^ x)
+  -- the lowest bit cleared, as code does it
+  pub lowest-cleared : bitAnd rest (rest - 1) ≡ rest - 2 ^ x
+  lowest-cleared = go (lowest-split 64 rest one h)
+    where
+      go : (q : ℕ) × (rest ≡ q * 2 ^ suc (trailingZeros 64 rest) + 2 ^ trailingZeros 64 rest) → bitAnd rest (rest - 1) ≡ rest - 2 ^ x
+      go (q, s) =
+          let r : rest ≡ q * 2 ^ suc x + 2 ^ x = s ∙ ap (λ t. q * 2 ^ suc t + 2 ^ t) (sym e) in
+          let l : 2 ^ x < 2 ^ suc x = omega (arith, pow-pos x) in
+          let m : 2 ^ x - 1 < 2 ^ suc x = omega arith in
+          let n : rest - 1 ≡ q * 2 ^ suc x + (2 ^ x - 1) = omega (arith, pow-pos x) in
+          let z : bitAnd (2 ^ x) (2 ^ x - 1) ≡ 0 = ap (λ y. bitAnd y (2 ^ x - 1)) (sym (one-mul (2 ^ x))) ∙ and-shifted 1 x (2 ^ x - 1) (omega (arith, pow-pos x)) in
+          ap₂ bitAnd r n ∙ and-block (suc x) q q (2 ^ x) (2 ^ x - 1) l m ∙ ap₂ (λ y w. y * 2 ^ suc x + w) (and-self q) z ∙ (let w : q * 2 ^ suc x + 0 ≡ rest - 2 ^ x = omega arith in w)
 
   pub lowest-out : (l : ℕ) → l < 64 → test-bit (rest - 2 ^ x) l ≡ (test-bit rest l && not (eqb x l))
   lowest-out l k =
       let q : rest - 2 ^ x ≡ word-of 64 (λ l. test-bit rest l && not (eqb x l)) = omega (arith, rest-is) in
       ap (λ z. test-bit z l) q ∙ word-bit 64 (λ l. test-bit rest l && not (eqb x l)) l k
+
+-- what a loop over the set bits of a word needs, in the words of its code
+pub record Lowest (rest : ℕ) : Type 0 where
+  pub small : trailingZeros 64 rest < 64
+  pub less : bitAnd rest (rest - 1) < rest
+
+pub lowest : (rest : ℕ) → 1 ≤ rest → rest < 2 ^ 64 → Lowest rest
+lowest rest one few = record {
+  small = lowest-lt rest (trailingZeros 64 rest) one few refl;
+  less = rw (lowest-cleared rest (trailingZeros 64 rest) one few refl) (lowest-less rest (trailingZeros 64 rest) one few refl);
+}
 
 -- numbers with the same bits are equal
 pub same-bits : (x y : ℕ) → ((l : ℕ) → test-bit x l ≡ test-bit y l) → x ≡ y
@@ -164,31 +203,88 @@ module _ (takers : ℕ) (o : ℕ → Bool) (m : ℕ → ℕ) where
       nothing-left : (l : ℕ) → any-to 64 (λ x. (test-bit 0 x && o x) && test-bit (m x) l) ≡ false
       nothing-left l = none 64 (λ x. (test-bit 0 x && o x) && test-bit (m x) l) (λ x n. ap (λ z. (z && o x) && test-bit (m x) l) (test-small 0 x (pow-pos x)))
 
--- ---- a step on the way: both words
-pub record Stepping (zs os fs : List ℕ) (takers next : ℕ) (last : Bool) (rest a b : ℕ) : Type 0 where
+-- ---- first: the leaves that are open are gathered into a word
+-- the word of the open leaves
+unfoldable pub live-word : (followers : List ℕ) → (takers next : ℕ) → (last : Bool) → ℕ
+live-word fs k next last = word-of 64 (live k next last (entry fs))
+
+-- what is gathered so far, and what is left to look at
+pub record Gathering (takers : ℕ) (choice : ℕ → Bool) (rest word : ℕ) : Type 0 where
   pub few : rest < 2 ^ 64
-  pub zeros : Joining takers (λ x. behind next last (entry fs x)) (entry zs) rest a
-  pub ones : Joining takers (λ x. behind next last (entry fs x)) (entry os) rest b
+  pub fits : word < 2 ^ 64
+  pub together : (y : ℕ) → y < 64 → (test-bit word y || (test-bit rest y && choice y)) ≡ (test-bit takers y && choice y)
 
-module _ (zs os fs : List ℕ) (takers next : ℕ) (last : Bool) where
-  pub stepping-start : takers < 2 ^ 64 → Stepping zs os fs takers next last takers 0 0
-  stepping-start h = record {
-    few = h;
-    zeros = joining-start takers (λ x. behind next last (entry fs x)) (entry zs);
-    ones = joining-start takers (λ x. behind next last (entry fs x)) (entry os);
-  }
+module _ (takers : ℕ) (o : ℕ → Bool) where
+  pub gathering-start : takers < 2 ^ 64 → Gathering takers o takers 0
+  gathering-start h = record { few = h; fits = omega (arith, pow-pos 64); together = λ y k. ap (λ z. z || (test-bit takers y && o y)) (test-small 0 y (pow-pos y)) }
 
-  pub stepping-next : (rest a b x c d : ℕ) (v : Bool) → Stepping zs os fs takers next last rest a b → 1 ≤ rest → x ≡ trailingZeros 64 rest
-      → v ≡ behind next last (entry fs x) → c ≡ bitOr a (pick v (entry zs x)) → d ≡ bitOr b (pick v (entry os x))
-      → Stepping zs os fs takers next last (rest - 1 * 2 ^ x % 2 ^ 64) c d
-  stepping-next rest a b x c d v q one e f g h = rw (lowest-shift rest x one (q .few) e) (record {
+  gather : (rest word x b : ℕ) (v : Bool) → Gathering takers o rest word → 1 ≤ rest → x ≡ trailingZeros 64 rest → v ≡ o x → b ≡ bit v * 2 ^ x
+      → Gathering takers o (bitAnd rest (rest - 1)) (bitOr word b)
+  gather rest word x b v q one e f g = rw (lowest-cleared rest x one (q .few) e) (record {
     few = omega (arith, q .few);
-    zeros = rw (g, f) (joining-next takers (λ x. behind next last (entry fs x)) (entry zs) rest a x (q .zeros) one (q .few) e);
-    ones = rw (h, f) (joining-next takers (λ x. behind next last (entry fs x)) (entry os) rest b x (q .ones) one (q .few) e);
+    fits = or-lt 64 word b (q .fits) (rw g (single-lt x v 64 (lowest-lt rest x one (q .few) e)));
+    together = λ y k.
+        ap₂ (λ m n. m || (n && o y)) (test-or word b y ∙ ap (λ z. test-bit word y || z) (ap (λ z. test-bit z y) g ∙ test-single x v y)) (lowest-out rest x one (q .few) e y k)
+        ∙ go y (eqb x y) refl ∙ q .together y k;
+  })
+    where
+      same : (a n p : Bool) → n ≡ true → ((a || p) || ((n && false) && p)) ≡ (a || (n && p))
+      same true n p h = refl
+      same false n p h = rw h (or-false p)
+
+      other : (a n p : Bool) → ((a || false) || ((n && true) && p)) ≡ (a || (n && p))
+      other true n p = refl
+      other false true p = refl
+      other false false p = refl
+
+      go : (y : ℕ) (i : Bool) → eqb x y ≡ i → ((test-bit word y || (i && v)) || ((test-bit rest y && not i) && o y)) ≡ (test-bit word y || (test-bit rest y && o y))
+      go y true i =
+          let s : x ≡ y = eqb-eq x y i in
+          ap (λ z. (test-bit word y || z) || ((test-bit rest y && false) && o y)) (f ∙ ap o s) ∙ same (test-bit word y) (test-bit rest y) (o y) (ap (test-bit rest) (sym s) ∙ lowest-on rest x one (q .few) e)
+      go y false i = other (test-bit word y) (test-bit rest y) (o y)
+
+  pub gathering-next : (rest word x i : ℕ) → Gathering takers o rest word → 1 ≤ rest → x ≡ trailingZeros 64 rest → i ≡ bit (o x)
+      → Gathering takers o (bitAnd rest (rest - 1)) (bitOr word (i * 2 ^ x % 2 ^ 64))
+  gathering-next rest word x i q one e f =
+      gather rest word x (i * 2 ^ x % 2 ^ 64) (o x) q one e refl (ap (λ z. z * 2 ^ x % 2 ^ 64) f ∙ mod-eq-of-lt (single-lt x (o x) 64 (lowest-lt rest x one (q .few) e)))
+
+  pub gathering-end : (rest word : ℕ) → Gathering takers o rest word → rest ≡ 0 → word ≡ word-of 64 (λ y. test-bit takers y && o y)
+  gathering-end rest word q e =
+      word-unique 64 word (λ y. test-bit takers y && o y) (q .fits)
+      (λ y k. sym (or-false (test-bit word y)) ∙ ap (λ z. test-bit word y || (z && o y)) (sym (ap (λ z. test-bit z y) e ∙ test-small 0 y (pow-pos y))) ∙ q .together y k)
+
+-- ---- then their masks are joined: both words
+pub record Stepping (zs os : List ℕ) (leaves rest a b : ℕ) : Type 0 where
+  pub few : rest < 2 ^ 64
+  pub zeros : Joining leaves (λ x. true) (entry zs) rest a
+  pub ones : Joining leaves (λ x. true) (entry os) rest b
+
+module _ (zs os : List ℕ) (leaves : ℕ) where
+  pub stepping-start : leaves < 2 ^ 64 → Stepping zs os leaves leaves 0 0
+  stepping-start h = record { few = h; zeros = joining-start leaves (λ x. true) (entry zs); ones = joining-start leaves (λ x. true) (entry os) }
+
+  pub stepping-next : (rest a b x : ℕ) → Stepping zs os leaves rest a b → 1 ≤ rest → x ≡ trailingZeros 64 rest
+      → Stepping zs os leaves (bitAnd rest (rest - 1)) (bitOr a (entry zs x)) (bitOr b (entry os x))
+  stepping-next rest a b x q one e = rw (lowest-cleared rest x one (q .few) e) (record {
+    few = omega (arith, q .few);
+    zeros = joining-next leaves (λ x. true) (entry zs) rest a x (q .zeros) one (q .few) e;
+    ones = joining-next leaves (λ x. true) (entry os) rest b x (q .ones) one (q .few) e;
   })
 
-  pub stepping-end : (rest a b : ℕ) → Stepping zs os fs takers next last rest a b → rest ≡ 0 → _≡_ {A = Words} (record { zero = a; one = b }) (step-of zs os fs takers next last)
-  stepping-end rest a b q e =
-      ap₂ (λ x y. record { zero = x; one = y })
-      (joining-end takers (λ x. behind next last (entry fs x)) (entry zs) a (rw e at (q .zeros)))
-      (joining-end takers (λ x. behind next last (entry fs x)) (entry os) b (rw e at (q .ones)))
+pub live-fits : (fs : List ℕ) (k next : ℕ) (last : Bool) → live-word fs k next last < 2 ^ 64
+unfolding live-word
+live-fits fs k next last = word-lt 64 (live k next last (entry fs))
+
+live-union : (fs : List ℕ) (k next : ℕ) (last : Bool) (m : ℕ → ℕ) → union 64 (λ x. test-bit (live-word fs k next last) x && true) m ≡ union 64 (live k next last (entry fs)) m
+unfolding live-word
+live-union fs k next last m =
+    union-same 64 (λ x. test-bit (word-of 64 (live k next last (entry fs))) x && true) (live k next last (entry fs)) m m
+    (λ x h. and-true (test-bit (word-of 64 (live k next last (entry fs))) x) ∙ word-bit 64 (live k next last (entry fs)) x h) (λ x h. refl)
+
+pub stepping-end : (zs os fs : List ℕ) (k next : ℕ) (last : Bool) (leaves rest a b : ℕ) → leaves ≡ live-word fs k next last → Stepping zs os leaves rest a b → rest ≡ 0
+    → _≡_ {A = Words} (record { zero = a; one = b }) (step-of zs os fs k next last)
+stepping-end zs os fs k next last leaves rest a b i q e =
+    ap₂ (λ x y. record { zero = x; one = y }) (part (entry zs) a (rw e at (q .zeros))) (part (entry os) b (rw e at (q .ones)))
+  where
+    part : (m : ℕ → ℕ) (c : ℕ) → Joining leaves (λ x. true) m 0 c → c ≡ union 64 (live k next last (entry fs)) m
+    part m c j = joining-end leaves (λ x. true) m c j ∙ ap (λ z. union 64 (λ x. test-bit z x && true) m) i ∙ live-union fs k next last m

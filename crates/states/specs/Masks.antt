@@ -1,10 +1,9 @@
 -- THE MASKS of a pattern as they are stored, and that the fill over them is the words of the definition.
 use mathlib.Core.Path.{_≡_, refl, sym, ap, ap₂, subst, _∙_}
 use mathlib.Core.Bool.{Bool, true, false, _&&_, _||_, true≢false}
-use mathlib.Core.Logic.{_⊎_, inl, inr, ⊎-elim}
-use mathlib.Core.List.{List, [], _∷_, _++_}
+use mathlib.Core.Logic.{_⊎_, ⊎-elim}
+use mathlib.Core.List.{List, [], _∷_}
 use Prim.Native.Nat.{ℕ, zero, suc, _+_, _-_, _*_, _^_, _≤_, _<_}
-use native.Mathlib.Nat.{add-comm}
 use native.Mathlib.Omega.{arith}
 use native.Mathlib.Decide.{decLt}
 use lib.Dec.{eqb}
@@ -18,9 +17,9 @@ use Rattle.syntax.specs.declared.Node.{Node}
 use Rattle.syntax.specs.declared.Node.the-variants.{Leaf as Leaf-node, Sequence, Alternative, Star}
 use Rattle.syntax.specs.declared.Pattern.{Pattern}
 use Rattle.syntax.specs.Letter.{is-letter, in-range}
-use Rattle.syntax.specs.Table.{line-at, node-at}
-use Rattle.syntax.specs.Tree.{Label, Tree, nothing, letter, range, seq, alt, star}
-use Rattle.syntax.specs.Trees.{made, tree-of, root}
+use Rattle.syntax.specs.Table.{node-at}
+use Rattle.syntax.specs.Tree.{Label, Tree, letter}
+use Rattle.syntax.specs.Trees.{made, root}
 use Rattle.syntax.specs.TreeLaws.{Below, Rules}
 use Rattle.bits.specs.Bits.{bit, test-bit, word-of}
 use Rattle.bits.specs.Words.{word-lt, word-bit}
@@ -30,16 +29,15 @@ use Rattle.semantics.specs.Sweeps.{at-end}
 use Rattle.states.specs.declared.fronts.Front.{Front}
 use Rattle.states.specs.declared.follows.Follow.{Follow}
 use Rattle.states.specs.declared.masks.Rows.{Rows}
-use Rattle.states.specs.declared.Words.{Words}
-use Rattle.states.specs.Nodes.{index, has, Planted, Predicate, node-word, index-lt, word-is, word-past-last}
-use Rattle.states.specs.Closure.{reach, passes, reaches, nowhere, leaf-mask, end-mask}
+use Rattle.states.specs.Nodes.{index, has, Predicate, node-word, index-lt, word-is, word-past-last}
+use Rattle.states.specs.Closure.{passes, reaches, nowhere, leaf-mask, end-mask}
 use Rattle.states.specs.Unions.{pick, union}
 use Rattle.states.specs.StateSets.{state-set, words}
 use Rattle.states.specs.StateLaws.{root-planted, same-node}
 use Rattle.states.specs.Steps.{Followed, behind, takes, takers, live, entry, step-of, state-step, state-end}
 use Rattle.states.specs.Sweep.{first-one, put, sweep-of}
-use Rattle.states.specs.Fronts.{front-at, Front-of, Fronts, follow-at, Follow-of, behind-bit, nowhere-through, tree, label-of, line-tree}
-use Rattle.states.specs.Follows.{Down, down-end, tree-index, followed-of}
+use Rattle.states.specs.Fronts.{front-at, Fronts, follow-at, behind-bit, nowhere-through, tree, label-of, line-tree}
+use Rattle.states.specs.Follows.{Down, down-end, tree-index}
 
 -- ---- arrays that are filled from the front
 pub record Filled {A : Type 0} (d : A) (f : ℕ → A) (size i : ℕ) (xs : List A) : Type 0 where

@@ -1,10 +1,10 @@
 -- WHAT THE WORDS AND MASKS SAY: every word of a fill is the state set of the definition, and a mask is the nodes from which the automaton
 -- comes to its leaf, or to the end, by steps that read nothing.
-use mathlib.Core.Path.{_≡_, refl, sym, ap, ap₂, subst, _∙_}
-use mathlib.Core.Bool.{Bool, true, false, _&&_, _||_, false≢true}
-use mathlib.Core.Logic.{_↔_, _⊎_, inl, inr, ⊎-elim}
+use mathlib.Core.Path.{_≡_, refl, sym, ap, subst, _∙_}
+use mathlib.Core.Bool.{Bool, true, false, false≢true}
+use mathlib.Core.Logic.{_↔_, _⊎_, ⊎-elim}
 use mathlib.Core.List.{List, [], _∷_}
-use Prim.Native.Nat.{ℕ, zero, suc, _+_, _-_, _*_, _≤_, _<_}
+use Prim.Native.Nat.{ℕ, zero, suc, _+_, _-_, _*_, _≤_}
 use native.Mathlib.Omega.{arith}
 use lib.Dec.{eqb}
 use lib.ListN.{length, getD, drop}
@@ -15,9 +15,9 @@ use Rattle.syntax.specs.TreeLaws.{Rules}
 use Rattle.bits.specs.Bits.{bit, test-bit, count-below}
 use Rattle.bits.specs.Words.{count-word}
 use Rattle.semantics.specs.Basics.{and-fst, and-snd, and-intro, or-left, or-right, or-cases}
-use Rattle.semantics.specs.Automaton.{Location, top, fst, snd, lft, rgt, rnd, State, end, at, follower, Guarded, Moves, to-first, to-left, to-right, to-round, skip, leave}
+use Rattle.semantics.specs.Automaton.{Location, top, fst, snd, lft, rgt, rnd, State, end, at, follower, Moves, to-first, to-left, to-right, to-round, skip, leave}
 use Rattle.semantics.specs.Sweeps.{can, readable}
-use Rattle.semantics.specs.AutomatonLaws.{after, loops, Passes, guarded-iff}
+use Rattle.semantics.specs.AutomatonLaws.{after, Passes, guarded-iff}
 use Rattle.states.specs.Nodes.{index, said, node-word, word-says}
 use Rattle.states.specs.Closure.{reach, passes, reaches, nowhere, leaf-mask, end-mask}
 use Rattle.states.specs.StateSets.{Is-state-set, state-set, words}

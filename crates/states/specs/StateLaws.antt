@@ -1,30 +1,27 @@
 -- LAWS of state sets: the computed word is the one that the definition describes, and one position follows from the next by masks made once a pattern.
-use mathlib.Core.Path.{_≡_, refl, sym, ap, ap₂, _∙_}
-use mathlib.Core.Bool.{Bool, true, false, _&&_, _||_, and-false}
-use mathlib.Core.Logic.{_↔_}
-use mathlib.Core.List.{List, [], _∷_}
-use Prim.Native.Nat.{ℕ, zero, suc, _+_, _*_, _^_, _≤_, _<_}
+use mathlib.Core.Path.{_≡_, sym, ap, ap₂, _∙_}
+use mathlib.Core.Bool.{Bool, true, false, _&&_, _||_}
+use mathlib.Core.List.{List}
+use Prim.Native.Nat.{ℕ, _^_, _≤_, _<_}
 use native.Mathlib.Omega.{arith}
 use native.Mathlib.Decide.{decLt}
-use lib.Dec.{eqb, ltb}
+use lib.Dec.{eqb}
 use lib.Bits.{bitOr, or-lt}
 use lib.Pow.{pow-mono}
-use lib.ListN.{length, getD, drop}
 use Rattle.syntax.specs.declared.Pattern.{Pattern}
-use Rattle.syntax.specs.Letter.{in-range}
-use Rattle.syntax.specs.Tree.{Label, Tree, nothing, letter, range, seq, alt, star}
+use Rattle.syntax.specs.Tree.{Label, Tree, letter, range}
 use Rattle.syntax.specs.Trees.{root}
 use Rattle.syntax.specs.TreeLaws.{Rules, root-once}
-use Rattle.bits.specs.Bits.{bit, test-bit, word-of}
+use Rattle.bits.specs.Bits.{test-bit}
 use Rattle.bits.specs.Words.{word-self, word-unique, test-or}
-use Rattle.semantics.specs.Automaton.{Location, top, fst, snd, lft, rgt, rnd, State, end, at, follower, Accepts}
+use Rattle.semantics.specs.Automaton.{Location, top, end}
 use Rattle.semantics.specs.Sweeps.{can, at-end}
 use Rattle.semantics.specs.FirstSweepLaws.{bool-ext}
-use Rattle.semantics.specs.AutomatonLaws.{after, can-from, can-iff-accepts}
-use Rattle.states.specs.Nodes.{index, Predicate, said, said-at, node-word, Planted, planted, Node-at, node-at, index-lt, word-small, word-says, word-is, word-past-last}
-use Rattle.states.specs.Closure.{reaches, nowhere, leaf-mask, end-mask, any-to, any-same, reaches-split, reaches-can}
+use Rattle.semantics.specs.AutomatonLaws.{after, can-iff-accepts}
+use Rattle.states.specs.Nodes.{index, Predicate, said, said-at, node-word, Planted, planted, Node-at, node-at, word-small, word-says, word-is, word-past-last}
+use Rattle.states.specs.Closure.{reaches, nowhere, leaf-mask, end-mask, any-same, reaches-split, reaches-can}
 use Rattle.states.specs.Unions.{pick, union, pick-bit, union-bit, pick-lt, union-lt}
-use Rattle.states.specs.StateSets.{Is-state-set, state-set, words}
+use Rattle.states.specs.StateSets.{Is-state-set, state-set}
 
 -- the tree of a tested table has every index below the count once, and no other
 pub root-planted : (p : Pattern) → Rules p → Planted (root p) (p .count)

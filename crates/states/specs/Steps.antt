@@ -1,9 +1,9 @@
 -- ONE POSITION FROM THE NEXT: the state sets of a position from the letter there and the flag 1 state set of the next position,
 -- as the union of the masks of the leaves that take the letter and whose follower is open behind it.
 use mathlib.Core.Path.{_≡_, refl, sym, ap, ap₂, _∙_}
-use mathlib.Core.Bool.{Bool, true, false, _&&_, _||_, and-false, cond}
+use mathlib.Core.Bool.{Bool, true, false, _&&_, cond}
 use mathlib.Core.List.{List, [], _∷_}
-use Prim.Native.Nat.{ℕ, zero, suc, _+_, _*_, _^_, _≤_, _<_}
+use Prim.Native.Nat.{ℕ, zero, suc, _≤_, _<_}
 use native.Mathlib.Omega.{arith}
 use lib.Dec.{eqb, ltb}
 use borrow.Author.Tests.{lt-ltb, le-ltb}
@@ -11,7 +11,7 @@ use lib.ListN.{getD}
 use lib.Bits.{bitOr, or-zero-l, or-zero-r}
 use Rattle.syntax.specs.declared.Pattern.{Pattern}
 use Rattle.syntax.specs.Letter.{in-range}
-use Rattle.syntax.specs.Tree.{Label, Tree, nothing, letter, range, seq, alt, star}
+use Rattle.syntax.specs.Tree.{Tree, nothing, letter, range, seq, alt, star}
 use Rattle.syntax.specs.Trees.{root}
 use Rattle.syntax.specs.TreeLaws.{Rules}
 use Rattle.bits.specs.Bits.{test-bit}
@@ -19,7 +19,7 @@ use Rattle.semantics.specs.Automaton.{Location, top, fst, snd, lft, rgt, rnd, S
 use Rattle.semantics.specs.Sweeps.{can, at-end}
 use Rattle.semantics.specs.AutomatonLaws.{after, can-from}
 use Rattle.states.specs.declared.Words.{Words}
-use Rattle.states.specs.Nodes.{index, Predicate, node-word, Node-at, index-lt, word-says, word-past-last}
+use Rattle.states.specs.Nodes.{index, node-word, Node-at, index-lt, word-says, word-past-last}
 use Rattle.states.specs.Closure.{nowhere, leaf-mask, end-mask}
 use Rattle.states.specs.Unions.{pick, union}
 use Rattle.states.specs.StateSets.{state-set}

@@ -1,9 +1,12 @@
 // The first sweep: the state sets of a tape's positions (01: marks), from the tape's end to its start.
 ghost use mathlib.Core.Path.{_≡_};
-ghost use Rattle.bits.specs.Bits.{in-front};
+ghost use Rattle.bits.specs.Bits.{bit, in-front};
 ghost use Rattle.states.specs.StateSets.{words as words-of};
 ghost use Rattle.states.specs.Steps.{behind, step-of};
+ghost use Rattle.states.specs.Joining.{live-word};
 ghost use Rattle.states.specs.Sweep.{Sweepable, sweep-of};
+ghost use Rattle.syntax.specs.TreeLaws.{Rules};
+ghost use Rattle.states.specs.Masks.{Masks-of};
 ghost use Rattle.states.specs.Fill.{Fillable};
 
 mod fronts; // fronts.rt: what each node comes to inside itself
@@ -17,8 +20,7 @@ use masks::all_takers;
 use masks::columns_of;
 use masks::rows_of;
 use syntax::Pattern;
-use word::has_bit;
-use word::join;
+use word::single;
 
 // The two state sets of a position: with flag 0 and with flag 1.
 pub struct Words {
@@ -26,15 +28,40 @@ pub struct Words {
     pub one: u64,
 }
 
-// Whether a state, a node or 64 for the end, is open at the next position with flag 1.
-fn open_behind(state: u8, next: u64, last: bool) -> bool
-    ensures { λ r. ⌜ r ≡ behind next last state ⌝ }
+// The masks of a pattern: by leaf the nodes that come to it, with flag 0 and with flag 1, and the leaf's follower; by letter the leaves
+// that take it; and the flag 1 state set of the tape's end.
+pub struct PatternMasks {
+    pub zero: [u64; 64],
+    pub one: [u64; 64],
+    pub followers: [u8; 64],
+    pub takers: [u64; 128],
+    pub end: u64,
+}
+
+// 1 if a state, a node or 64 for the end, is open at the next position with flag 1, else 0.
+fn open_bit(state: u8, next: u64, last: bool) -> u64
+    ensures { λ r. ⌜ r ≡ bit (behind next last state) ⌝ }
 {
     if state < 64 {
-        has_bit(next, state)
-    } else {
-        last
+        return (next >> state) % 2;
     }
+    single(0, last)
+}
+
+// The leaves that take the letter and whose followers are open behind it. Bits are moved, so that no branch depends on them.
+fn live_leaves(followers: &[u8; 64], takers: u64, next: u64, last: bool) -> u64
+    ensures { λ r. ⌜ r ≡ live-word (now (followers .entry)) takers next last ⌝ }
+{
+    let mut rest = takers;
+    let mut word: u64 = 0;
+    while rest != 0 {
+        let x = u64::trailing_zeros(rest);
+        let i = x as usize;
+        rest = rest & (rest - 1);
+        let e = open_bit(followers[i], next, last);
+        word = word | (e << x);
+    }
+    word
 }
 
 // The two state sets of a position, from the leaves that take its letter and the flag 1 state set of the next position. `last` says
@@ -49,16 +76,16 @@ pub fn step(
 ) -> Words
     ensures { λ r. ⌜ r ≡ step-of (now (zero .entry)) (now (one .entry)) (now (followers .entry)) takers next last ⌝ }
 {
-    let mut rest = takers;
+    let leaves = live_leaves(followers, takers, next, last);
+    let mut rest = leaves;
     let mut a: u64 = 0;
     let mut b: u64 = 0;
     while rest != 0 {
         let x = u64::trailing_zeros(rest);
         let i = x as usize;
-        rest -= 1u64 << x;
-        let chosen = open_behind(followers[i], next, last);
-        a = join(a, zero[i], chosen);
-        b = join(b, one[i], chosen);
+        rest = rest & (rest - 1);
+        a = a | zero[i];
+        b = b | one[i];
     }
     Words { zero: a, one: b }
 }
@@ -94,11 +121,10 @@ fn sweep(
     }
 }
 
-// THE FIRST SWEEP: fills words 2i and 2i + 1 with the state sets of position i, flag 0 and flag 1, for each position of the tape, its end
-// included. No other word changes. The parser's service makes the tests that this asks for.
-pub fn fill(p: Pattern, tape: &[u8], words: &mut [u64])
-    requires { ⌜ Fillable p (now tape) (now words) ⌝ }
-    ensures { λ _. ⌜ now (words .exit) ≡ in-front (words-of p (now (tape .entry))) (now (words .entry)) ⌝ }
+// The masks of a pattern, made once.
+pub fn masks_of(p: Pattern) -> PatternMasks
+    requires { ⌜ Rules p ⌝ }
+    ensures { λ r. ⌜ Masks-of p (r .zero) (r .one) (r .followers) (r .takers) (r .end) ⌝ }
 {
     let count = p.count;
     let fronts = fronts_of(p);
@@ -107,8 +133,29 @@ pub fn fill(p: Pattern, tape: &[u8], words: &mut [u64])
     let row_zero = rows.zero;
     let row_one = rows.one;
     let followers = rows.followers;
+    let end = rows.end;
     let zero = columns_of(&row_zero, count);
     let one = columns_of(&row_one, count);
     let takers = all_takers(p);
-    sweep(&zero, &one, &followers, &takers, rows.end, tape, words);
+    PatternMasks {
+        zero,
+        one,
+        followers,
+        takers,
+        end,
+    }
+}
+
+// THE FIRST SWEEP: fills words 2i and 2i + 1 with the state sets of position i, flag 0 and flag 1, for each position of the tape, its end
+// included. No other word changes. The parser's service makes the tests that this asks for.
+pub fn fill(p: Pattern, tape: &[u8], words: &mut [u64])
+    requires { ⌜ Fillable p (now tape) (now words) ⌝ }
+    ensures { λ _. ⌜ now (words .exit) ≡ in-front (words-of p (now (tape .entry))) (now (words .entry)) ⌝ }
+{
+    let masks = masks_of(p);
+    let zero = masks.zero;
+    let one = masks.one;
+    let followers = masks.followers;
+    let takers = masks.takers;
+    sweep(&zero, &one, &followers, &takers, masks.end, tape, words);
 }

@@ -6,9 +6,6 @@ use Rattle.states.specs.Sweep.{Filling, filling-start, filling-down, fil
 use borrow.Author.Needs.{needs}
 use Rattle.states.proofs.sweep.Statement.{statement}
 use Rattle.states.proofs.sweep.Tie as tie
-use Rattle.states.proofs.sweep.Reads as reads
-use Rattle.states.proofs.sweep.Lts as lts
-use Rattle.states.proofs.step.Reads as step-reads
 
 abbrev Inv-loop : tie.InvT-loop
 Inv-loop zero one followers takers end tape words₀ n next₀ last₀ i₀ words next last i = (n ≡ length tape) × (2 * (length tape + 1) ≤ length words₀) × Filling zero one followers takers end tape words₀ i next last words
@@ -16,103 +13,78 @@ Inv-loop zero one followers takers end tape words₀ n next₀ last₀ i₀ word
 abbrev μ-loop : tie.MeasureT-loop
 μ-loop zero one followers takers end tape words₀ n next₀ last₀ i₀ words next last i = i
 
--- src/lib.rt:79:11
 mul-words : tie.Need-mul-words Inv-loop μ-loop
 mul-words c = search needs
 
--- src/lib.rt:79:5
 mul-words-2 : tie.Need-mul-words-2 Inv-loop μ-loop
 mul-words-2 c = search needs
 
--- src/lib.rt:79:5
 slice-write-words : tie.Need-slice-write-words Inv-loop μ-loop
 slice-write-words c = search needs
 
--- src/lib.rt:80:11
 mul-words-3 : tie.Need-mul-words-3 Inv-loop μ-loop
 mul-words-3 c = search needs
 
--- src/lib.rt:80:11
 add-words : tie.Need-add-words Inv-loop μ-loop
 add-words c = search needs
 
--- src/lib.rt:80:5
 mul-words-4 : tie.Need-mul-words-4 Inv-loop μ-loop
 mul-words-4 c = search needs
 
--- src/lib.rt:80:5
 slice-write-words-2 : tie.Need-slice-write-words-2 Inv-loop μ-loop
 slice-write-words-2 c = simp length-set (omega (arith, c .before .before .pre .room))
 
--- src/lib.rt:84:5
 loop-holds : tie.Need-loop-holds Inv-loop μ-loop
 loop-holds c = (refl, simp length-set (c .before .before .pre .room), filling-start _ _ _ _ _ _ (c .before .before .args .words .now) (c .before .before .pre .room))
 
--- src/lib.rt:85:9
 sub-i : tie.Need-sub-i Inv-loop μ-loop
 sub-i c = search needs
 
--- src/lib.rt:86:17
 shared-slice-read-c : tie.Need-shared-slice-read-c Inv-loop μ-loop
 shared-slice-read-c c = search needs
 
--- src/lib.rt:86:17
 cast-c : tie.Need-cast-c Inv-loop μ-loop
 cast-c c = omega (arith, c .before .before .before .before .before .pre .letters (c .before .before .loop .i - 1))
 
--- src/lib.rt:87:44
 mul-step : tie.Need-mul-step Inv-loop μ-loop
 mul-step c = omega (arith, c .before .before .before .before .before .pre .letters (c .before .before .loop .i - 1))
 
--- src/lib.rt:87:44
 element-copy-out-step : tie.Need-element-copy-out-step Inv-loop μ-loop
 element-copy-out-step c = c .before .before .before .before .before .pre .letters (c .before .before .loop .i - 1)
 
--- src/lib.rt:87:13
 step-requires : tie.Need-step-requires Inv-loop μ-loop
 step-requires c κs = search needs
 
--- src/lib.rt:88:15
 mul-words-5 : tie.Need-mul-words-5 Inv-loop μ-loop
 mul-words-5 c = search needs
 
--- src/lib.rt:88:9
 mul-words-6 : tie.Need-mul-words-6 Inv-loop μ-loop
 mul-words-6 c = search needs
 
--- src/lib.rt:88:9
 slice-write-words-3 : tie.Need-slice-write-words-3 Inv-loop μ-loop
 slice-write-words-3 c = search needs
 
--- src/lib.rt:89:15
 mul-words-7 : tie.Need-mul-words-7 Inv-loop μ-loop
 mul-words-7 c = search needs
 
--- src/lib.rt:89:15
 add-words-2 : tie.Need-add-words-2 Inv-loop μ-loop
 add-words-2 c = search needs
 
--- src/lib.rt:89:9
 mul-words-8 : tie.Need-mul-words-8 Inv-loop μ-loop
 mul-words-8 c = search needs
 
--- src/lib.rt:89:9
 slice-write-words-4 : tie.Need-slice-write-words-4 Inv-loop μ-loop
 slice-write-words-4 c = simp length-set (omega (arith, c .before .before .before .before .loop .inv .2 .same, c .before .before .before .before .loop .inv .2 .inside, c .before .before .before .before .loop .inv .1))
 
--- src/lib.rt:84:5
 loop-less : tie.Need-loop-less Inv-loop μ-loop
 loop-less c = search needs
 
--- src/lib.rt:84:5
 loop-again : tie.Need-loop-again Inv-loop μ-loop
 loop-again c = (c .before .before .before .before .loop .inv .0, c .before .before .before .before .loop .inv .1, filling-down _ _ _ _ _ _ _ (c .before .before .before .before .loop .inv .1) _ _ _ _ _ _ (c .before .before .before .loop-test .taken) (c .before .before .before .before .loop .inv .2) refl (c .step .ensures))
 
--- src/lib.rt:65:1
 same-length : tie.Need-same-length Inv-loop μ-loop
 same-length c = c .before .loop .inv .2 .same ∙ simp length-set
 
--- src/lib.rt:65:1
 returns : tie.Need-returns Inv-loop μ-loop
 returns c = let z : c .before .loop .i ≡ 0 = omega arith in filling-end _ _ _ _ _ _ (c .before .before .before .before .args .words .now) (c .before .before .before .before .pre .room) _ _ _ (rw z at (c .before .loop .inv .2))
 

@@ -1,15 +1,10 @@
-use mathlib.Core.Path.{subst, _∙_}
+use mathlib.Core.Path.{subst}
 use native.Mathlib.Omega.{arith}
-use Prim.Native.Nat.{_<_}
 use Rattle.syntax.specs.declared.Node.the-variants.{Sequence, Alternative, Star}
 use Rattle.syntax.specs.TreeLaws.{Below}
 use borrow.Author.Needs.{needs}
 use Rattle.states.proofs.follows.hand_down.Statement.{statement}
 use Rattle.states.proofs.follows.hand_down.Tie as tie
-use Rattle.states.proofs.follows.hand_down.Reads as reads
-use Rattle.states.proofs.follows.hand_down.Lts as lts
-use Rattle.states.proofs.follows.before_round.Reads as before-round-reads
-use Rattle.states.proofs.follows.before_second.Reads as before-second-reads
 
 -- the parts of a node are below its line
 sequence-below : (c : tie.After-node) → Below (c .before .before .before .args .i) (Sequence (c .node .given .0 .0) (c .node .given .0 .1 .0))
@@ -21,139 +16,105 @@ alternative-below c = subst (Below (c .before .before .before .args .i)) (c .nod
 star-below : (c : tie.After-node3) → Below (c .before .before .before .args .i) (Star (c .node3 .given .0 .0))
 star-below c = subst (Below (c .before .before .before .args .i)) (c .node3 .given .1) (c .before .before .before .pre .1)
 
--- src/follows.rt:51:18
 mul-follow : tie.Need-mul-follow
 mul-follow c = search needs
 
--- src/follows.rt:51:18
 array-copy-out-follow : tie.Need-array-copy-out-follow
 array-copy-out-follow c = search needs
 
--- src/follows.rt:54:26
 enum-told : tie.Need-enum-told
 enum-told c = search needs
 
--- src/follows.rt:55:24
 enum-known-node : tie.Need-enum-known-node
 enum-known-node c = search needs
 
--- src/follows.rt:56:32
 cast-front : tie.Need-cast-front
 cast-front c = search needs
 
--- src/follows.rt:56:25
 mul-front : tie.Need-mul-front
 mul-front c = search needs
 
--- src/follows.rt:56:25
 array-copy-out-front : tie.Need-array-copy-out-front
 array-copy-out-front c = omega (arith, sequence-below (c .before) .1, c .before .before .before .before .pre .0)
 
--- src/follows.rt:57:17
 before-second-requires : tie.Need-before-second-requires
 before-second-requires c κs = search needs
 
--- src/follows.rt:58:18
 cast-next : tie.Need-cast-next
 cast-next c = search needs
 
--- src/follows.rt:58:13
 mul-next : tie.Need-mul-next
 mul-next c = search needs
 
--- src/follows.rt:58:13
 array-set-from-next : tie.Need-array-set-from-next
 array-set-from-next c = omega (arith, sequence-below (c .before .before .before) .1, c .before .before .before .before .before .before .pre .0)
 
--- src/follows.rt:59:18
 cast-next-2 : tie.Need-cast-next-2
 cast-next-2 c = search needs
 
--- src/follows.rt:59:13
 mul-next-2 : tie.Need-mul-next-2
 mul-next-2 c = search needs
 
--- src/follows.rt:59:13
 array-set-from-next-2 : tie.Need-array-set-from-next-2
 array-set-from-next-2 c = omega (arith, sequence-below (c .before .before .before) .0, c .before .before .before .before .before .before .pre .0)
 
--- src/follows.rt:62:27
 enum-known-node-2 : tie.Need-enum-known-node-2
 enum-known-node-2 c = search needs
 
--- src/follows.rt:63:18
 cast-next-3 : tie.Need-cast-next-3
 cast-next-3 c = search needs
 
--- src/follows.rt:63:13
 mul-next-3 : tie.Need-mul-next-3
 mul-next-3 c = search needs
 
--- src/follows.rt:63:13
 array-set-from-next-3 : tie.Need-array-set-from-next-3
 array-set-from-next-3 c = omega (arith, alternative-below (c .before) .1, c .before .before .before .before .pre .0)
 
--- src/follows.rt:64:18
 cast-next-4 : tie.Need-cast-next-4
 cast-next-4 c = search needs
 
--- src/follows.rt:64:13
 mul-next-4 : tie.Need-mul-next-4
 mul-next-4 c = search needs
 
--- src/follows.rt:64:13
 array-set-from-next-4 : tie.Need-array-set-from-next-4
 array-set-from-next-4 c = omega (arith, alternative-below (c .before) .0, c .before .before .before .before .pre .0)
 
--- src/follows.rt:67:20
 enum-known-node-3 : tie.Need-enum-known-node-3
 enum-known-node-3 c = search needs
 
--- src/follows.rt:68:32
 cast-front-2 : tie.Need-cast-front-2
 cast-front-2 c = search needs
 
--- src/follows.rt:68:25
 mul-front-2 : tie.Need-mul-front-2
 mul-front-2 c = search needs
 
--- src/follows.rt:68:25
 array-copy-out-front-2 : tie.Need-array-copy-out-front-2
 array-copy-out-front-2 c = omega (arith, star-below (c .before), c .before .before .before .before .pre .0)
 
--- src/follows.rt:69:39
 cast-before-round : tie.Need-cast-before-round
 cast-before-round c = search needs
 
--- src/follows.rt:69:17
 before-round-requires : tie.Need-before-round-requires
 before-round-requires c κs = search needs
 
--- src/follows.rt:70:18
 cast-next-5 : tie.Need-cast-next-5
 cast-next-5 c = search needs
 
--- src/follows.rt:70:13
 mul-next-5 : tie.Need-mul-next-5
 mul-next-5 c = search needs
 
--- src/follows.rt:70:13
 array-set-from-next-5 : tie.Need-array-set-from-next-5
 array-set-from-next-5 c = omega (arith, star-below (c .before .before .before), c .before .before .before .before .before .before .pre .0)
 
--- src/follows.rt:47:1
 returns : tie.Need-returns
 returns c = search needs
 
--- src/follows.rt:47:1
 returns-2 : tie.Need-returns-2
 returns-2 c = rw (c .before .before .before .node .given .1, c .before-second .ensures)
 
--- src/follows.rt:47:1
 returns-3 : tie.Need-returns-3
 returns-3 c = rw (c .before .node2 .given .1)
 
--- src/follows.rt:47:1
 returns-4 : tie.Need-returns-4
 returns-4 c = rw (c .before .before .before .node3 .given .1, c .before-round .ensures)
 

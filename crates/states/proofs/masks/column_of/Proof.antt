@@ -1,16 +1,12 @@
-use mathlib.Core.Path.{_≡_, refl, ap, ap₂, sym, _∙_}
+use mathlib.Core.Path.{_≡_, ap, _∙_}
 use native.Mathlib.Omega.{arith}
-use Prim.Native.Nat.{_<_, _≤_, _-_, _+_, _*_, _^_}
+use Prim.Native.Nat.{_≤_, _-_, _*_, _^_}
 use Rattle.bits.specs.Bits.{bit, test-bit, word-of}
 use Rattle.states.specs.Steps.{entry}
 use Rattle.states.specs.Masks.{word-start, word-next, word-fits}
 use borrow.Author.Needs.{needs}
 use Rattle.states.proofs.masks.column_of.Statement.{statement}
 use Rattle.states.proofs.masks.column_of.Tie as tie
-use Rattle.states.proofs.masks.column_of.Reads as reads
-use Rattle.states.proofs.masks.column_of.Lts as lts
-use Rattle.states.proofs.word.has_bit.Reads as has-bit-reads
-use Rattle.states.proofs.word.single.Reads as single-reads
 
 abbrev Inv-loop : tie.InvT-loop
 Inv-loop rows count x word₀ i₀ word i = (i ≤ count) × (word ≡ word-of i (λ l. test-bit (entry rows l) x))
@@ -22,43 +18,33 @@ abbrev μ-loop : tie.MeasureT-loop
 here : (c : tie.After-single Inv-loop μ-loop) → c .single .result ≡ bit (test-bit (entry (c .before .before .before .before .before .args .rows .now) (c .before .before .before .before .loop .i)) (c .before .before .before .before .before .args .x)) * 2 ^ (c .before .before .before .before .loop .i)
 here c = c .single .ensures ∙ ap (λ v. bit v * 2 ^ (c .before .before .before .before .loop .i)) (c .before .has-bit .ensures)
 
--- src/masks.rt:63:5
 loop-holds : tie.Need-loop-holds Inv-loop μ-loop
 loop-holds c = (omega arith, word-start _)
 
--- src/masks.rt:64:35
 mul-has-bit : tie.Need-mul-has-bit Inv-loop μ-loop
 mul-has-bit c = search needs
 
--- src/masks.rt:64:35
 element-copy-out-has-bit : tie.Need-element-copy-out-has-bit Inv-loop μ-loop
 element-copy-out-has-bit c = search needs
 
--- src/masks.rt:64:27
 has-bit-requires : tie.Need-has-bit-requires Inv-loop μ-loop
 has-bit-requires c κs = search needs
 
--- src/masks.rt:64:13
 single-requires : tie.Need-single-requires Inv-loop μ-loop
 single-requires c κs = search needs
 
--- src/masks.rt:65:16
 add-word : tie.Need-add-word Inv-loop μ-loop
 add-word c = omega (arith, word-fits (c .before .before .before .before .loop .i) (λ l. test-bit (entry (c .before .before .before .before .before .args .rows .now) l) (c .before .before .before .before .before .args .x)) (c .before .before .before .before .loop .word) (c .single .result) (omega (arith, c .before .before .before .loop-test .taken, c .before .before .before .before .before .pre .0)) (c .before .before .before .before .loop .inv .1) (here c))
 
--- src/masks.rt:66:9
 add-i : tie.Need-add-i Inv-loop μ-loop
 add-i c = search needs
 
--- src/masks.rt:63:5
 loop-less : tie.Need-loop-less Inv-loop μ-loop
 loop-less c = search needs
 
--- src/masks.rt:63:5
 loop-again : tie.Need-loop-again Inv-loop μ-loop
 loop-again c = (omega (arith, c .before .before .before .loop-test .taken), word-next _ (λ l. test-bit (entry (c .before .before .before .before .before .args .rows .now) l) (c .before .before .before .before .before .args .x)) _ _ (c .before .before .before .before .loop .inv .1) (here c))
 
--- src/masks.rt:57:1
 returns : tie.Need-returns Inv-loop μ-loop
 returns c = let e : c .before .loop .i ≡ c .before .before .args .count = omega (arith, c .before .loop .inv .0, c .loop-test .left) in c .before .loop .inv .1 ∙ ap (λ k. word-of k (λ l. test-bit (entry (c .before .before .args .rows .now) l) (c .before .before .args .x))) e
 

@@ -1,35 +1,25 @@
 use borrow.Author.Needs.{needs}
 use Rattle.states.proofs.masks.leaf_takes.Statement.{statement}
 use Rattle.states.proofs.masks.leaf_takes.Tie as tie
-use Rattle.states.proofs.masks.leaf_takes.Reads as reads
-use Rattle.states.proofs.masks.leaf_takes.Lts as lts
-use Rattle.states.proofs.masks.within.Reads as within-reads
 
--- src/masks.rt:101:26
 enum-told : tie.Need-enum-told
 enum-told c = search needs
 
--- src/masks.rt:102:22
 enum-known-leaf : tie.Need-enum-known-leaf
 enum-known-leaf c = search needs
 
--- src/masks.rt:103:21
 enum-known-leaf-2 : tie.Need-enum-known-leaf-2
 enum-known-leaf-2 c = search needs
 
--- src/masks.rt:103:35
 within-requires : tie.Need-within-requires
 within-requires c κs = search needs
 
--- src/masks.rt:97:1
 returns : tie.Need-returns
 returns c = search needs
 
--- src/masks.rt:97:1
 returns-2 : tie.Need-returns-2
 returns-2 c = rw (c .before .leaf .given .1)
 
--- src/masks.rt:97:1
 returns-3 : tie.Need-returns-3
 returns-3 c = rw (c .before .before .leaf2 .given .1) (c .within .ensures)
 

@@ -1,43 +1,31 @@
 use borrow.Author.Needs.{needs}
 use Rattle.states.proofs.masks.node_takes.Statement.{statement}
 use Rattle.states.proofs.masks.node_takes.Tie as tie
-use Rattle.states.proofs.masks.node_takes.Reads as reads
-use Rattle.states.proofs.masks.node_takes.Lts as lts
-use Rattle.states.proofs.masks.leaf_takes.Reads as leaf-takes-reads
 
--- src/masks.rt:111:20
 enum-known-node : tie.Need-enum-known-node
 enum-known-node c = search needs
 
--- src/masks.rt:111:29
 leaf-takes-requires : tie.Need-leaf-takes-requires
 leaf-takes-requires c κs = search needs
 
--- src/masks.rt:112:33
 enum-told : tie.Need-enum-told
 enum-told c = search needs
 
--- src/masks.rt:113:36
 enum-told-2 : tie.Need-enum-told-2
 enum-told-2 c = search needs
 
--- src/masks.rt:114:26
 enum-told-3 : tie.Need-enum-told-3
 enum-told-3 c = search needs
 
--- src/masks.rt:107:1
 returns : tie.Need-returns
 returns c = rw (c .before .before .node .given .1) (c .leaf-takes .ensures)
 
--- src/masks.rt:107:1
 returns-2 : tie.Need-returns-2
 returns-2 c = search needs
 
--- src/masks.rt:107:1
 returns-3 : tie.Need-returns-3
 returns-3 c = search needs
 
--- src/masks.rt:107:1
 returns-4 : tie.Need-returns-4
 returns-4 c = search needs
 

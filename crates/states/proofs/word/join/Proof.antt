@@ -1,16 +1,11 @@
 use lib.Bits.{or-zero-r}
 use mathlib.Core.Path.{sym}
-use borrow.Author.Needs.{needs}
 use Rattle.states.proofs.word.join.Statement.{statement}
 use Rattle.states.proofs.word.join.Tie as tie
-use Rattle.states.proofs.word.join.Reads as reads
-use Rattle.states.proofs.word.join.Lts as lts
 
--- src/lib.rt:31:1
 returns : tie.Need-returns
 returns c = rw (c .if1 .taken)
 
--- src/lib.rt:31:1
 returns-2 : tie.Need-returns-2
 returns-2 c = rw (c .if1 .left) (sym (or-zero-r (c .before .args .word)))
 
