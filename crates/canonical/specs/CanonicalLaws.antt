@@ -14,6 +14,7 @@ use Rattle.syntax.specs.declared.Node.the-variants.{Leaf as Leaf-node, Sequence
 use Rattle.syntax.specs.declared.Pattern.{Pattern}
 use Rattle.syntax.specs.declared.Refusal.{Refusal}
 use Rattle.syntax.specs.declared.Refusal.the-variants.{LineForm, Tree as Tree-fault, TapeTooLong, TapeByte, Unreadable, WordsTooShort, CodeTooShort, NotACode, TapeTooShort, NoSuchVisit}
+use Rattle.syntax.specs.Bools.{and-snd}
 use Rattle.syntax.specs.Letter.{is-letter}
 use Rattle.syntax.specs.Refusals.{Answer, answer, refused, number}
 use Rattle.syntax.specs.Table.{obeys, line-at, node-at, line-good, node-good}
@@ -76,10 +77,6 @@ module _ (p : Pattern) (r : Rules p) where
   node-formed : (l : ℕ) → l < p .count → node-good (node-at p l) ≡ true
   unfolding line-good
   node-formed l h = and-snd (leb (line-at p l .account) 9) (node-good (node-at p l)) (r .formed l h)
-    where
-      and-snd : (a b : Bool) → (a && b) ≡ true → b ≡ true
-      and-snd true b e = e
-      and-snd false b e = absurd (false≢true e)
 
   lettered : (n l : ℕ) → l < n → l < p .count → Lettered (tree-of (line-at p) l)
   lettered zero l h k = absurd (omega arith)

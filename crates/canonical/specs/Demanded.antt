@@ -10,6 +10,7 @@ use lib.Dec.{leb, ltb}
 use lib.ListN.{length, take, drop}
 use Rattle.syntax.specs.declared.Pattern.{Pattern}
 use Rattle.syntax.specs.Refusals.{Answer, answer}
+use Rattle.syntax.specs.Bools.{and-fst, and-snd}
 use Rattle.syntax.specs.Table.{obeys}
 use Rattle.syntax.specs.Tree.{Tree}
 use Rattle.syntax.specs.Trees.{root}
@@ -30,14 +31,6 @@ use Rattle.parser.specs.ParseLaws.{root-choices}
 use Rattle.canonical.specs.Canonicalize.{canonicalized-answer, Read-by, Settles-by, Canonicalizes}
 use Rattle.canonical.specs.RoundTrip.{canonical-code, canonical-whole, canonical-spells}
 use Rattle.canonical.specs.Demand.{Is-code, tape-of, Code, spells, Run, Settled, bytes-of, Equal, Earliest, Settles-well, Demand, Third-demand}
-
-and-fst : (a b : Bool) → (a && b) ≡ true → a ≡ true
-and-fst true b e = refl
-and-fst false b e = e
-
-and-snd : (a b : Bool) → (a && b) ≡ true → b ≡ true
-and-snd true b e = e
-and-snd false b e = absurd (false≢true e)
 
 module _ (p : Pattern) (good : obeys p ≡ true) where
   abbrev t : Tree

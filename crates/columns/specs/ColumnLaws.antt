@@ -15,6 +15,7 @@ use Rattle.syntax.specs.declared.Node.{Node}
 use Rattle.syntax.specs.declared.Node.the-variants.{Leaf as Leaf-node, Sequence, Alternative, Star}
 use Rattle.syntax.specs.declared.Line.{Line}
 use Rattle.syntax.specs.declared.Pattern.{Pattern}
+use Rattle.syntax.specs.Bools.{and-fst, and-snd}
 use Rattle.syntax.specs.Table.{blank, line-at, node-at, node-good, line-good, obeys}
 use Rattle.syntax.specs.Trees.{made, tree-of, root}
 use Rattle.syntax.specs.TreeLaws.{Below, Rules, obeys-iff, tree-line, tree-same}
@@ -107,14 +108,6 @@ filled-end p kind first second account i f h =
     record { lines = λ l k. f .lines l (omega arith); rest = λ l k m. f .rest l (omega arith) m }
 
 -- ── columns that hold a table that obeys the rules ──
-and-fst : (a b : Bool) → (a && b) ≡ true → a ≡ true
-and-fst true b e = refl
-and-fst false b e = e
-
-and-snd : (a b : Bool) → (a && b) ≡ true → b ≡ true
-and-snd true b e = e
-and-snd false b e = absurd (false≢true e)
-
 module _ (p : Pattern) (c : Columns) (o : obeys p ≡ true) (h : Holds p c) where
   rules : Rules p
   rules = obeys-iff p .0 o

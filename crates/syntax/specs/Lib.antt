@@ -1,3 +1,4 @@
+pub mod Bools
 pub mod Letter
 pub mod Tree
 pub mod Refusals

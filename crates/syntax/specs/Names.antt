@@ -16,6 +16,7 @@ use Rattle.syntax.specs.declared.naming.Naming.{Naming}
 use Rattle.syntax.specs.declared.naming.Names.{Names}
 use Rattle.syntax.specs.declared.naming.TreeFault.the-variants.{Line as Fault-line, Nothing as No-fault}
 use Rattle.syntax.specs.Table.{node-at, parts, named-below, member, rightly-named, wrongly-names, unnamed, lowest, or-else, tree-fault}
+use Rattle.syntax.specs.Bools.{and-fst}
 use Rattle.syntax.specs.Lowest.{lowest-within, lowest-same, Searched, searched-start, searched-end, searched-here, searched-on}
 use Rattle.syntax.specs.Naming.{naming, name-one, name-next, name-all, Flags, index-or, Named-so-far, Names-wrongly, not-flagged, first-unnamed, fault-of}
 
@@ -90,17 +91,13 @@ told (q ∷ qs) i m seen l f = go (ltb q i && not (getD m q false)) refl (λ n g
         record { ok-is = rw (e, t); flags = λ h. absurd (false≢true (rw e at h)) }
     go true e ih =
         let t : (ltb q i && not (member q seen)) ≡ true = sym (same-test i q m seen l f) ∙ e in
-        let below : q < i = ltb-true q i (and-left (ltb q i) (not (getD m q false)) e) in
+        let below : q < i = ltb-true q i (and-fst (ltb q i) (not (getD m q false)) e) in
         let g = ih (set m q true) (flag-set m seen q (omega arith) f) in
         record {
           ok-is = rw (e, t) (g .ok-is);
           flags = λ h. rw e (moved (name-all i (set m q true) qs .named) (g .flags (rw e at h)));
         }
       where
-        and-left : (a b : Bool) → (a && b) ≡ true → a ≡ true
-        and-left true b h = refl
-        and-left false b h = h
-
         moved : (n : List Bool) → Flags n (qs ++ (q ∷ seen)) → Flags n (q ∷ (qs ++ seen))
         moved n s = (s .0, λ j k. s .1 j k ∙ member-mid j q qs seen)
 

@@ -17,6 +17,7 @@ use Rattle.syntax.specs.declared.Node.{Node}
 use Rattle.syntax.specs.declared.Node.the-variants.{Leaf as Leaf-node, Sequence, Alternative, Star}
 use Rattle.syntax.specs.declared.Line.{Line}
 use Rattle.syntax.specs.declared.Pattern.{Pattern}
+use Rattle.syntax.specs.Bools.{and-fst, and-snd, and-both}
 use Rattle.syntax.specs.Tree.{Label, Tree, nothing, letter, range, seq, alt, star}
 use Rattle.syntax.specs.Table.{line-at, node-at, line-good, badly-formed, parts, named-below, member, rightly-named, wrongly-names, unnamed, lowest, or-else, tree-fault, is-none, obeys}
 use Rattle.syntax.specs.Trees.{made, unplanted, plant, trees, tree-of, root}
@@ -99,17 +100,6 @@ times-out l b (x ∷ xs) u h = rw (other (eqb x l) refl) (omega (arith, times-ou
     other : (e : Bool) → eqb x l ≡ e → e ≡ false
     other true e = absurd (omega (arith, u .0, eqb-true x l e))
     other false e = refl
-
-and-fst : (a b : Bool) → (a && b) ≡ true → a ≡ true
-and-fst true b e = refl
-and-fst false b e = e
-
-and-snd : (a b : Bool) → (a && b) ≡ true → b ≡ true
-and-snd true b e = e
-and-snd false b e = absurd (false≢true e)
-
-and-both : (a b : Bool) → a ≡ true → b ≡ true → (a && b) ≡ true
-and-both a b p q = rw (p, q)
 
 -- ── rightly named: each part below its line, and none twice ──
 rightly-sound :

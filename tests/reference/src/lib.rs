@@ -15,6 +15,7 @@ pub mod positions;
 pub mod prng;
 pub mod services;
 pub mod table;
+pub mod tapes;
 pub mod two_pass;
 pub mod value;
 pub mod walk;

@@ -3,7 +3,7 @@
 use std::io::{self, BufWriter, Write};
 use std::path::Path;
 use std::process::ExitCode;
-use wumbyra_reference::{cases, hex, listing, load};
+use wumbyra_reference::{cases, hex, listing, load, tapes};
 
 fn main() -> ExitCode {
     let arguments: Vec<String> = std::env::args().skip(1).collect();
@@ -13,9 +13,15 @@ fn main() -> ExitCode {
         ["load-cases"] => load_cases(&mut out),
         ["load-names"] => load_names(&mut out),
         ["load-expected"] => load_expected(&mut out),
+        ["parse-cases"] => parse_cases(&mut out),
+        ["parse-names"] => parse_names(&mut out),
+        ["parse-expected"] => parse_expected(&mut out),
         ["listing", folder] => print_listing(Path::new(folder), &mut out),
         _ => {
-            eprintln!("usage: reference load-cases | load-names | load-expected | listing FOLDER");
+            eprintln!("usage: reference load-cases | load-names | load-expected");
+            eprintln!(
+                "       reference parse-cases | parse-names | parse-expected | listing FOLDER"
+            );
             return ExitCode::from(2);
         }
     };
@@ -57,6 +63,30 @@ fn load_expected(out: &mut impl Write) -> io::Result<()> {
                 }
             }
         }
+    }
+    Ok(())
+}
+
+/// One line a case: pattern and tape in hexadecimal, words and bytes lent.
+fn parse_cases(out: &mut impl Write) -> io::Result<()> {
+    for case in tapes::all() {
+        writeln!(out, "{}", case.line())?;
+    }
+    Ok(())
+}
+
+/// The names of the same cases in the same order, for a person to look up.
+fn parse_names(out: &mut impl Write) -> io::Result<()> {
+    for case in tapes::all() {
+        writeln!(out, "{}", case.name)?;
+    }
+    Ok(())
+}
+
+/// One line a case: the answer and what it leaves in the buffers.
+fn parse_expected(out: &mut impl Write) -> io::Result<()> {
+    for case in tapes::all() {
+        writeln!(out, "{}", case.answer())?;
     }
     Ok(())
 }

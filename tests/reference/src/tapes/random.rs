@@ -1,0 +1,135 @@
+//! Random patterns full of `K` over parts that can spell nothing, and of
+//! ranges, with tapes that they read and tapes that they do not.
+
+use super::{bytes_for, read, words_for, Case};
+use crate::patterns::{random, text_of, Taste};
+use crate::prng::Prng;
+use crate::table::{Kind, Table};
+
+const MOST_SAMPLED: usize = 40;
+
+const NULLABLE: Taste = Taste {
+    leaves: &[Kind::Nothing, Kind::Letter, Kind::Letter, Kind::Range],
+    inner: &[
+        Kind::Rounds,
+        Kind::Rounds,
+        Kind::Either,
+        Kind::Either,
+        Kind::Sequence,
+        Kind::Sequence,
+    ],
+    letters: b"ab",
+    accounts: false,
+};
+
+const METER: Taste = Taste {
+    leaves: &[Kind::Nothing, Kind::Letter, Kind::Range, Kind::Range],
+    inner: &[Kind::Rounds, Kind::Either, Kind::Sequence],
+    letters: b"!01379W~",
+    accounts: true,
+};
+
+pub fn cases() -> Vec<Case> {
+    let mut rng = Prng::new(6);
+    let mut cases = Vec::new();
+    for index in 0..320 {
+        let taste = [&NULLABLE, &NULLABLE, &METER][index % 3];
+        // The last 20 have all 64 lines.
+        let count = if index < 300 { 1 + rng.below(24) } else { 64 };
+        let table = random(&mut rng, count, taste);
+        let wanted = index % 2 == 0;
+        let tape = if wanted {
+            readable(&mut rng, &table)
+        } else {
+            unreadable(&mut rng, &table, taste.letters)
+        };
+        cases.push(case(&mut rng, index, &table, tape));
+    }
+    cases
+}
+
+/// Code buffers just long enough, a byte short and longer in turn.
+fn case(rng: &mut Prng, index: usize, table: &Table, tape: Vec<u8>) -> Case {
+    let text = text_of(table);
+    let sort = if read(table, &tape).is_ok() {
+        "readable"
+    } else {
+        "unreadable"
+    };
+    let bytes = bytes_for(&text, &tape);
+    let (room, bytes) = match index / 6 % 3 {
+        0 => ("exact", bytes),
+        1 => ("a byte short", bytes.saturating_sub(1)),
+        _ => ("plenty", bytes + 1 + rng.below(9)),
+    };
+    Case {
+        name: format!("random {sort}: {index}, {room}"),
+        words: words_for(&tape) + rng.below(3),
+        text,
+        tape,
+        bytes,
+        expected: None,
+    }
+}
+
+/// The longest of some tapes that random values spell.
+fn readable(rng: &mut Prng, table: &Table) -> Vec<u8> {
+    let mut longest = Vec::new();
+    let mut found = false;
+    let mut left = 1 + rng.below(60);
+    while left > 0 || !found {
+        let mut letters = Vec::new();
+        sample(rng, table, table.root(), &mut letters);
+        if letters.len() <= MOST_SAMPLED && (!found || letters.len() > longest.len()) {
+            found = true;
+            longest = letters;
+        }
+        left = left.saturating_sub(1);
+    }
+    longest
+}
+
+/// A readable tape with a letter changed, put in or taken out until no
+/// reading spells it; patterns that read nearly everything keep theirs.
+fn unreadable(rng: &mut Prng, table: &Table, letters: &[u8]) -> Vec<u8> {
+    let mut tape = readable(rng, table);
+    for _ in 0..20 {
+        if read(table, &tape).is_err() {
+            break;
+        }
+        let letter = *rng.pick(letters);
+        let position = rng.below(tape.len() + 1);
+        match rng.below(3) {
+            0 if position < tape.len() => tape[position] = letter,
+            1 if position < tape.len() => drop(tape.remove(position)),
+            _ if tape.len() < MOST_SAMPLED => tape.insert(position, letter),
+            _ => {}
+        }
+    }
+    tape
+}
+
+/// The letters of a random value of a node, added to `letters`. Rounds stop
+/// once there are too many of them.
+fn sample(rng: &mut Prng, table: &Table, place: usize, letters: &mut Vec<u8>) {
+    let node = table.node(place);
+    let (x, y) = (node.x as usize, node.y as usize);
+    match node.kind {
+        Kind::Nothing => {}
+        Kind::Letter => letters.push(node.x as u8),
+        Kind::Range => letters.push((x + rng.below(y - x + 1)) as u8),
+        Kind::Sequence => {
+            sample(rng, table, x, letters);
+            sample(rng, table, y, letters);
+        }
+        Kind::Either => {
+            let side = if rng.below(2) == 0 { x } else { y };
+            sample(rng, table, side, letters);
+        }
+        Kind::Rounds => {
+            while letters.len() <= MOST_SAMPLED && rng.below(5) < 3 {
+                sample(rng, table, x, letters);
+            }
+        }
+    }
+}
