@@ -5,7 +5,7 @@ ghost use Rattle.codes.specs.Totals.{Totals, refused-totals};
 
 mod spell; // spell.rt: the walk that writes the letters
 mod total; // total.rt: the walk that adds up litres
-mod walk; // walk.rt: whether bits are a whole code, where it stops, and how many letters it spells
+pub mod walk; // walk.rt: whether bits are a whole code, where it stops, and how many letters it spells
 
 use columns::columns_of;
 use spell::spell;

@@ -6,6 +6,7 @@ pub mod automaton;
 pub mod brute;
 pub mod cases;
 pub mod code;
+pub mod codes;
 pub mod hex;
 pub mod listing;
 pub mod load;

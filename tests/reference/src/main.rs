@@ -3,7 +3,7 @@
 use std::io::{self, BufWriter, Write};
 use std::path::Path;
 use std::process::ExitCode;
-use wumbyra_reference::{cases, hex, listing, load, tapes};
+use wumbyra_reference::{cases, codes, hex, listing, load, tapes};
 
 fn main() -> ExitCode {
     let arguments: Vec<String> = std::env::args().skip(1).collect();
@@ -16,12 +16,14 @@ fn main() -> ExitCode {
         ["parse-cases"] => parse_cases(&mut out),
         ["parse-names"] => parse_names(&mut out),
         ["parse-expected"] => parse_expected(&mut out),
+        ["code-cases"] => code_cases(&mut out),
+        ["code-names"] => code_names(&mut out),
+        ["code-expected"] => code_expected(&mut out),
         ["listing", folder] => print_listing(Path::new(folder), &mut out),
         _ => {
             eprintln!("usage: reference load-cases | load-names | load-expected");
-            eprintln!(
-                "       reference parse-cases | parse-names | parse-expected | listing FOLDER"
-            );
+            eprintln!("       reference parse-cases | parse-names | parse-expected");
+            eprintln!("       reference code-cases | code-names | code-expected | listing FOLDER");
             return ExitCode::from(2);
         }
     };
@@ -87,6 +89,33 @@ fn parse_names(out: &mut impl Write) -> io::Result<()> {
 fn parse_expected(out: &mut impl Write) -> io::Result<()> {
     for case in tapes::all() {
         writeln!(out, "{}", case.answer())?;
+    }
+    Ok(())
+}
+
+/// One line a case: pattern and code in hexadecimal, bit count, cells lent.
+fn code_cases(out: &mut impl Write) -> io::Result<()> {
+    for case in codes::all() {
+        writeln!(out, "{}", case.line())?;
+    }
+    Ok(())
+}
+
+/// The names of the same cases in the same order, for a person to look up.
+fn code_names(out: &mut impl Write) -> io::Result<()> {
+    for case in codes::all() {
+        writeln!(out, "{}", case.name)?;
+    }
+    Ok(())
+}
+
+/// Three lines a case: what spelling, totalling and settling answer and
+/// leave in the buffers.
+fn code_expected(out: &mut impl Write) -> io::Result<()> {
+    for case in codes::all() {
+        for answer in case.answers() {
+            writeln!(out, "{answer}")?;
+        }
     }
     Ok(())
 }

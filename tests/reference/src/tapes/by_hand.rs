@@ -11,13 +11,13 @@ use crate::services::MOST_LETTERS;
 /// (R from ! to ~)*: reads every tape of letters.
 pub const EVERY: &str = "0\tR\t-\t!\t~\n1\tK\t-\t0\n";
 /// One letter, whose code has no bits.
-const ONE: &str = "0\tL\t-\ta\n";
+pub const ONE: &str = "0\tL\t-\ta\n";
 /// One range, whose code fills a byte.
-const RANGE: &str = "0\tR\t-\ta\tz\n";
+pub const RANGE: &str = "0\tR\t-\ta\tz\n";
 /// Two ranges, whose code fills two bytes.
-const RANGES: &str = "0\tR\t-\ta\tz\n1\tR\t-\t!\t~\n2\tS\t-\t0\t1\n";
+pub const RANGES: &str = "0\tR\t-\ta\tz\n1\tR\t-\t!\t~\n2\tS\t-\t0\t1\n";
 /// A `K` over nothing.
-const NO_ROUND: &str = "0\tE\t-\n1\tK\t-\t0\n";
+pub const NO_ROUND: &str = "0\tE\t-\n1\tK\t-\t0\n";
 
 /// Collects cases; each call is one.
 pub struct Hand {

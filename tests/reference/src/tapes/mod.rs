@@ -1,9 +1,9 @@
 //! The cases for reading a tape: those set by hand, then random patterns
 //! with tapes that they read and tapes that they do not.
 
-mod by_hand;
+pub mod by_hand;
 mod long;
-mod random;
+pub mod random;
 
 use crate::code::MOST_CODE_BYTES;
 use crate::hex;
@@ -13,10 +13,10 @@ use crate::services::MOST_LETTERS;
 use crate::table::{number_and_value, Refusal, Table};
 
 /// Cells of the arrays whose starts are lent, and what they hold before.
-const ALL_WORDS: usize = 7_210;
-const ALL_BYTES: usize = 8_192;
-const WORD_BEFORE: u64 = 0x5555_5555_5555_5555;
-const BYTE_BEFORE: u8 = 0xaa;
+pub const ALL_WORDS: usize = 7_210;
+pub const ALL_BYTES: usize = 8_192;
+pub const WORD_BEFORE: u64 = 0x5555_5555_5555_5555;
+pub const BYTE_BEFORE: u8 = 0xaa;
 
 /// What is shown: code buffers up to this size, and for tapes up to this
 /// many letters so many of the words.
@@ -44,17 +44,17 @@ pub fn all() -> Vec<Case> {
 }
 
 /// 2 × (n + 1) words for n letters.
-fn words_for(tape: &[u8]) -> usize {
+pub fn words_for(tape: &[u8]) -> usize {
     2 * (tape.len() + 1)
 }
 
 /// The table of a text, of no lines where the text is refused.
-fn table_of(text: &[u8]) -> Table {
+pub fn table_of(text: &[u8]) -> Table {
     load(text).unwrap_or_else(|_| Table::of_no_lines())
 }
 
 /// Reading with buffers that suffice for every tape and every code.
-fn read(table: &Table, tape: &[u8]) -> Result<u64, Refusal> {
+pub fn read(table: &Table, tape: &[u8]) -> Result<u64, Refusal> {
     let mut words = vec![0; 2 * (MOST_LETTERS + 1)];
     let mut code = vec![0; MOST_CODE_BYTES];
     parse(table, tape, &mut words, &mut code)
@@ -103,7 +103,7 @@ impl Case {
     }
 }
 
-fn shown_code(code: &[u8]) -> String {
+pub fn shown_code(code: &[u8]) -> String {
     if code.len() <= SHOWN_BYTES {
         hex::of_bytes(code)
     } else {
@@ -118,13 +118,13 @@ fn step(digest: u64, value: u64) -> u64 {
 }
 
 /// Each word is two values, its low half first.
-fn digest_of_words(start: u64, words: &[u64]) -> u64 {
+pub fn digest_of_words(start: u64, words: &[u64]) -> u64 {
     words.iter().fold(start, |digest, word| {
         step(step(digest, word & 0xffff_ffff), word >> 32)
     })
 }
 
-fn digest_of_bytes(start: u64, bytes: &[u8]) -> u64 {
+pub fn digest_of_bytes(start: u64, bytes: &[u8]) -> u64 {
     bytes
         .iter()
         .fold(start, |digest, &byte| step(digest, u64::from(byte)))

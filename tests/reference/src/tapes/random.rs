@@ -8,7 +8,7 @@ use crate::table::{Kind, Table};
 
 const MOST_SAMPLED: usize = 40;
 
-const NULLABLE: Taste = Taste {
+pub const NULLABLE: Taste = Taste {
     leaves: &[Kind::Nothing, Kind::Letter, Kind::Letter, Kind::Range],
     inner: &[
         Kind::Rounds,
@@ -22,7 +22,7 @@ const NULLABLE: Taste = Taste {
     accounts: false,
 };
 
-const METER: Taste = Taste {
+pub const METER: Taste = Taste {
     leaves: &[Kind::Nothing, Kind::Letter, Kind::Range, Kind::Range],
     inner: &[Kind::Rounds, Kind::Either, Kind::Sequence],
     letters: b"!01379W~",

@@ -1,0 +1,24 @@
+-- `code_vectors::report::put_byte` meets its contract: a store keeps the length. Assumes nothing.
+use native.Mathlib.Omega.{arith}
+use lib.ListN.{length-take, length-set}
+use borrow.Author.Needs.{needs}
+use Rattle.code_vectors.proofs.report.put_byte.Statement.{statement}
+use Rattle.code_vectors.proofs.report.put_byte.Tie as tie
+
+slice-write-out : tie.Need-slice-write-out
+slice-write-out c = search needs
+
+add-result : tie.Need-add-result
+add-result c = search needs
+
+same-length : tie.Need-same-length
+same-length c = search needs
+
+returns : tie.Need-returns
+returns c = (simp length-set (omega arith), simp (length-take, length-set) (omega arith))
+
+returns-2 : tie.Need-returns-2
+returns-2 c = (omega arith, simp length-take (omega arith))
+
+pub put-byte-spec : {M : Type 1} → statement M
+put-byte-spec = tie.close (tie.spec slice-write-out add-result same-length returns returns-2)

@@ -1,0 +1,7 @@
+-- What the services promise, in the terms of document 01: definitions.
+pub mod Spans
+-- The visits that a walk over a code passes, and the search for one of them.
+pub mod Traces
+pub mod Seeks
+-- The services: one law for each way of the code.
+pub mod SpanLaws

@@ -1,0 +1,94 @@
+-- Showing the piece of a visit: the answer, start and length, for every input. Definitions only.
+use mathlib.Core.Path.{_≡_}
+use mathlib.Core.Bool.{Bool, true, false, _&&_, cond}
+use mathlib.Core.Option.{Option, none, some}
+use mathlib.Core.List.{List, [], _∷_}
+use Prim.Native.Nat.{ℕ, suc}
+use lib.Dec.{eqb, leb}
+use lib.ListN.{length, take, drop}
+use Rattle.syntax.specs.declared.Pattern.{Pattern}
+use Rattle.syntax.specs.declared.Refusal.{Refusal}
+use Rattle.syntax.specs.declared.Refusal.the-variants.{TapeByte, NoSuchVisit}
+use Rattle.syntax.specs.Letter.{is-letter}
+use Rattle.syntax.specs.Tree.{Tree}
+use Rattle.syntax.specs.Trees.{root}
+use Rattle.syntax.specs.Table.{obeys}
+use Rattle.syntax.specs.Refusals.{Answer, answer, refused}
+use Rattle.bits.specs.Bits.{held}
+use Rattle.semantics.specs.Value.{Value}
+use Rattle.semantics.specs.Visits.{Visit, visit}
+use Rattle.semantics.specs.Decode.{value-of}
+use Rattle.spans.specs.declared.SpanOutcome.{SpanOutcome}
+use Rattle.spans.specs.declared.SpanOutcome.the-variants.{Shown, Refused}
+use Rattle.spans.specs.declared.Spanned.{Spanned}
+use Rattle.codes.specs.Flatten.{letter-limit, whole-code, letters-of, bad-table, no-code, too-long}
+
+-- 01, cause 4: "tape byte outside 33 to 126", with the "first such position"
+abbrev pub first-bad : (from : ℕ) → (tape : List ℕ) → Option ℕ
+first-bad i [] = none
+first-bad i (c ∷ cs) = cond (is-letter c) (first-bad (suc i) cs) (some i)
+
+abbrev pub same : (xs ys : List ℕ) → Bool
+same [] [] = true
+same [] (y ∷ ys) = false
+same (x ∷ xs) [] = false
+same (x ∷ xs) (y ∷ ys) = eqb x y && same xs ys
+
+-- 01: "Here 8 also covers a code of another tape."
+unfoldable pub code-of-tape : (t : Tree) → (tape code : List ℕ) → (count : ℕ) → Bool
+code-of-tape t tape code count = whole-code t code count && same (letters-of t code count) tape
+
+abbrev pub visit-by : (t : Tree) → (node k : ℕ) → Option (Value t) → Option Visit
+visit-by t l k none = none
+visit-by t l k (some v) = visit t v l k
+
+-- 01: "visit k of a node"; a node outside the table has no visit
+unfoldable pub span-visit : Pattern → (code : List ℕ) → (count node k : ℕ) → Option Visit
+span-visit p code count l k = visit-by (root p) l k (value-of (root p) (held 8 code count))
+
+abbrev pub visit-answer : Option Visit → Answer
+visit-answer none = refused NoSuchVisit
+visit-answer (some x) = answer 0 0
+
+abbrev pub byte-answer : Option ℕ → Answer → Answer
+byte-answer none a = a
+byte-answer (some i) a = refused (TapeByte i)
+
+-- 01: "Showing the piece [..]: 2, 3, 4, 8, 10."
+unfoldable pub span-answer : Pattern → (tape code : List ℕ) → (count node k : ℕ) → Answer
+span-answer p tape code count l k =
+    cond (obeys p)
+    (cond (leb (length tape) letter-limit)
+    (byte-answer (first-bad 0 tape) (cond (code-of-tape (root p) tape code count) (visit-answer (span-visit p code count l k)) no-code))
+    too-long)
+    bad-table
+
+abbrev pub start-of : Option Visit → ℕ
+start-of none = 0
+start-of (some x) = x .start
+
+abbrev pub size-of : Option Visit → ℕ
+size-of none = 0
+size-of (some x) = x .size
+
+-- the visit shown; none if refused
+unfoldable pub span-shown : Pattern → (tape code : List ℕ) → (count node k : ℕ) → Option Visit
+span-shown p tape code count l k = cond (eqb (span-answer p tape code count l k .number) 0) (span-visit p code count l k) none
+
+abbrev pub span-outcome : SpanOutcome → Answer
+span-outcome Shown = answer 0 0
+span-outcome (Refused r) = refused r
+
+abbrev pub refused-span : Refusal → Spanned
+refused-span r = record { outcome = Refused r; start = 0; length = 0 }
+
+-- THE PROMISE of spans, for every input
+pub record Spans (p : Pattern) (tape code : List ℕ) (count node k : ℕ) (r : Spanned) : Type 0 where
+  pub answers : span-outcome (r .outcome) ≡ span-answer p tape code count node k
+  pub starts : r .start ≡ start-of (span-shown p tape code count node k)
+  pub lengths : r .length ≡ size-of (span-shown p tape code count node k)
+
+-- 01: "The piece is a part of the caller's tape"; "a refused piece is empty"
+abbrev pub piece-of : Option Visit → List ℕ → List ℕ
+piece-of none tape = []
+piece-of (some x) tape = take (x .size) (drop (x .start) tape)

@@ -1,0 +1,75 @@
+// Services on codes: the spans of a code's visits.
+ghost use mathlib.Core.Path.{_≡_};
+ghost use Rattle.spans.specs.Spans.{Spans, refused-span};
+
+mod compare; // compare.rt: a tape against a code
+mod find; // find.rt: the walk that looks for a visit
+
+use codes::walk::measure;
+use columns::columns_of;
+use compare::first_bad;
+use compare::spells;
+use find::find;
+use syntax::Pattern;
+use syntax::Refusal;
+use syntax::obeys_rules;
+
+// What showing a piece answers: that it is shown, or why not.
+pub enum SpanOutcome {
+    Shown,
+    Refused(Refusal),
+}
+
+// The answer, and where the piece starts and how long it is.
+pub struct Spanned {
+    pub outcome: SpanOutcome,
+    pub start: u32,
+    pub length: u32,
+}
+
+fn no_span(why: Refusal) -> Spanned
+    ensures { λ r. ⌜ r ≡ refused-span why ⌝ }
+{
+    Spanned {
+        outcome: SpanOutcome::Refused(why),
+        start: 0,
+        length: 0,
+    }
+}
+
+// Start and length of a visit's piece. The code is walked, and is the tape's, before a visit is looked for.
+pub fn span(p: Pattern, tape: &[u8], code: &[u8], count: u32, node: u32, visit: u32) -> Spanned
+    ensures { λ r. ⌜ Spans p (now (tape .entry)) (now (code .entry)) count node visit r ⌝ }
+{
+    if !obeys_rules(p) {
+        return no_span(Refusal::Tree(0));
+    }
+    if Pattern::MAX_LETTERS < tape.len() {
+        return no_span(Refusal::TapeTooLong);
+    }
+    let bad = first_bad(tape);
+    if bad < tape.len() {
+        return no_span(Refusal::TapeByte(bad as u32));
+    }
+    if !spells(p, code, count, tape) {
+        return no_span(Refusal::NotACode); // before a visit is looked for
+    }
+    let columns = columns_of(p);
+    let kind = columns.kind;
+    let first = columns.first;
+    let second = columns.second;
+    let root = p.count - 1;
+    let measured = measure(&kind, &first, &second, root, code, count);
+    if !measured.whole {
+        return no_span(Refusal::NotACode);
+    }
+    let found = find(&kind, &first, &second, root, code, count, 0, 0, node, visit);
+    if !found.hit {
+        return no_span(Refusal::NoSuchVisit);
+    }
+    Spanned {
+        outcome: SpanOutcome::Shown,
+        start: found.start,
+        length: found.size,
+    }
+}
