@@ -5,3 +5,4 @@ pub mod Traces
 pub mod Seeks
 -- The services: one law for each way of the code.
 pub mod SpanLaws
+pub mod Pieces

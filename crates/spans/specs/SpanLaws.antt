@@ -141,6 +141,10 @@ module _ (p : Pattern) (tape code : List ℕ) (count : ℕ) where
   unfolding code-of-tape
   not-whole e = rw e
 
+  pub tape-whole : code-of-tape (root p) tape code count ≡ true → whole-code (root p) code count ≡ true
+  unfolding code-of-tape
+  tape-whole w = and-both (whole-code (root p) code count) (same (letters-of (root p) code count) tape) w .0
+
   pub tape-letters : code-of-tape (root p) tape code count ≡ true → length (letters-of (root p) code count) ≡ length tape
   unfolding code-of-tape
   tape-letters w = same-length (letters-of (root p) code count) tape (and-both (whole-code (root p) code count) (same (letters-of (root p) code count) tape) w .1)

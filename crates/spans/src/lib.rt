@@ -1,6 +1,6 @@
 // Services on codes: the spans of a code's visits.
 ghost use mathlib.Core.Path.{_≡_};
-ghost use Rattle.spans.specs.Spans.{Spans, refused-span};
+ghost use Rattle.spans.specs.Spans.{Spans, refused-span, span-shown, piece-of};
 
 mod compare; // compare.rt: a tape against a code
 mod find; // find.rt: the walk that looks for a visit
@@ -72,4 +72,22 @@ pub fn span(p: Pattern, tape: &[u8], code: &[u8], count: u32, node: u32, visit: 
         start: found.start,
         length: found.size,
     }
+}
+
+// The part of the tape that a visit covers; empty if refused.
+pub fn piece<'a>(
+    p: Pattern,
+    tape: &'a [u8],
+    code: &[u8],
+    count: u32,
+    node: u32,
+    visit: u32,
+) -> &'a [u8]
+    ensures { λ r.
+        ⌜ now r ≡ piece-of (span-shown p (now (tape .entry)) (now (code .entry)) count node visit) (now (tape .entry)) ⌝ }
+{
+    let shown = span(p, tape, code, count, node, visit);
+    let from = shown.start as usize;
+    let to = from + shown.length as usize;
+    &tape[from..to]
 }
