@@ -2,7 +2,7 @@
 use mathlib.Core.Path.{_≡_, refl, sym, ap, ap₂, _∙_}
 use mathlib.Core.Bool.{Bool, true, false, _&&_, _||_, not, and-true, or-false, or-assoc}
 use Prim.Native.Nat.{ℕ, zero, suc, _+_, _-_, _*_, _/_, _%_, _^_, _≤_, _<_}
-use native.Mathlib.Nat.{mod-eq-of-lt, one-mul, mul-left-comm, mul-add, div-div-eq-div-mul, div-one}
+use native.Mathlib.Nat.{one-mul, mul-one, mul-zero, mul-left-comm, mul-add, div-div-eq-div-mul, div-one}
 use native.Mathlib.Decide.{decLt}
 use native.Mathlib.Omega.{arith}
 use lib.Dec.{eqb}
@@ -17,7 +17,7 @@ use mathlib.Core.List.{List}
 use Rattle.states.specs.declared.Words.{Words}
 use Rattle.states.specs.Steps.{live, entry, step-of}
 use Rattle.states.specs.Closure.{any-to, any-same}
-use Rattle.states.specs.Unions.{pick, union, pick-bit, union-bit, union-same}
+use Rattle.states.specs.Unions.{pick, union, pick-bit, union-bit}
 
 -- ---- the lowest bit that is set
 pub lowest-set : (k n : ℕ) → 1 ≤ n → n < 2 ^ k → (trailingZeros k n < k) × (test-bit n (trailingZeros k n) ≡ true)
@@ -203,88 +203,39 @@ module _ (takers : ℕ) (o : ℕ → Bool) (m : ℕ → ℕ) where
       nothing-left : (l : ℕ) → any-to 64 (λ x. (test-bit 0 x && o x) && test-bit (m x) l) ≡ false
       nothing-left l = none 64 (λ x. (test-bit 0 x && o x) && test-bit (m x) l) (λ x n. ap (λ z. (z && o x) && test-bit (m x) l) (test-small 0 x (pow-pos x)))
 
--- ---- first: the leaves that are open are gathered into a word
--- the word of the open leaves
-unfoldable pub live-word : (followers : List ℕ) → (takers next : ℕ) → (last : Bool) → ℕ
-live-word fs k next last = word-of 64 (live k next last (entry fs))
+-- ---- both words of a position, leaf after leaf
+-- a mask times 1 or 0 is the mask where it is chosen
+times-pick : (v : Bool) (m : ℕ) → m * bit v ≡ pick v m
+times-pick true m = mul-one m
+times-pick false m = mul-zero m
 
--- what is gathered so far, and what is left to look at
-pub record Gathering (takers : ℕ) (choice : ℕ → Bool) (rest word : ℕ) : Type 0 where
+pub single-le-one : (v : Bool) (e : ℕ) → e ≡ bit v * 2 ^ 0 → e ≤ 1
+single-le-one true e i = omega (arith, i)
+single-le-one false e i = omega (arith, i)
+
+pub times-small : (m e : ℕ) → e ≤ 1 → m < 2 ^ 64 → m * e < 2 ^ 64
+times-small m zero h k = rw (mul-zero m) (pow-pos 64)
+times-small m (suc zero) h k = rw (mul-one m) k
+times-small m (suc (suc e)) h k = absurd (omega arith)
+
+pub record Stepping (zs os : List ℕ) (takers : ℕ) (choice : ℕ → Bool) (rest a b : ℕ) : Type 0 where
   pub few : rest < 2 ^ 64
-  pub fits : word < 2 ^ 64
-  pub together : (y : ℕ) → y < 64 → (test-bit word y || (test-bit rest y && choice y)) ≡ (test-bit takers y && choice y)
+  pub zeros : Joining takers choice (entry zs) rest a
+  pub ones : Joining takers choice (entry os) rest b
 
-module _ (takers : ℕ) (o : ℕ → Bool) where
-  pub gathering-start : takers < 2 ^ 64 → Gathering takers o takers 0
-  gathering-start h = record { few = h; fits = omega (arith, pow-pos 64); together = λ y k. ap (λ z. z || (test-bit takers y && o y)) (test-small 0 y (pow-pos y)) }
+module _ (zs os : List ℕ) (takers : ℕ) (o : ℕ → Bool) where
+  pub stepping-start : takers < 2 ^ 64 → Stepping zs os takers o takers 0 0
+  stepping-start h = record { few = h; zeros = joining-start takers o (entry zs); ones = joining-start takers o (entry os) }
 
-  gather : (rest word x b : ℕ) (v : Bool) → Gathering takers o rest word → 1 ≤ rest → x ≡ trailingZeros 64 rest → v ≡ o x → b ≡ bit v * 2 ^ x
-      → Gathering takers o (bitAnd rest (rest - 1)) (bitOr word b)
-  gather rest word x b v q one e f g = rw (lowest-cleared rest x one (q .few) e) (record {
+  pub stepping-next : (rest a b x e zero one : ℕ) → Stepping zs os takers o rest a b → 1 ≤ rest → x ≡ trailingZeros 64 rest → e ≡ bit (o x)
+      → zero ≡ entry zs x * e → one ≡ entry os x * e → Stepping zs os takers o (bitAnd rest (rest - 1)) (bitOr a zero) (bitOr b one)
+  stepping-next rest a b x e y z q some i f g h = rw (lowest-cleared rest x some (q .few) i) (record {
     few = omega (arith, q .few);
-    fits = or-lt 64 word b (q .fits) (rw g (single-lt x v 64 (lowest-lt rest x one (q .few) e)));
-    together = λ y k.
-        ap₂ (λ m n. m || (n && o y)) (test-or word b y ∙ ap (λ z. test-bit word y || z) (ap (λ z. test-bit z y) g ∙ test-single x v y)) (lowest-out rest x one (q .few) e y k)
-        ∙ go y (eqb x y) refl ∙ q .together y k;
-  })
-    where
-      same : (a n p : Bool) → n ≡ true → ((a || p) || ((n && false) && p)) ≡ (a || (n && p))
-      same true n p h = refl
-      same false n p h = rw h (or-false p)
-
-      other : (a n p : Bool) → ((a || false) || ((n && true) && p)) ≡ (a || (n && p))
-      other true n p = refl
-      other false true p = refl
-      other false false p = refl
-
-      go : (y : ℕ) (i : Bool) → eqb x y ≡ i → ((test-bit word y || (i && v)) || ((test-bit rest y && not i) && o y)) ≡ (test-bit word y || (test-bit rest y && o y))
-      go y true i =
-          let s : x ≡ y = eqb-eq x y i in
-          ap (λ z. (test-bit word y || z) || ((test-bit rest y && false) && o y)) (f ∙ ap o s) ∙ same (test-bit word y) (test-bit rest y) (o y) (ap (test-bit rest) (sym s) ∙ lowest-on rest x one (q .few) e)
-      go y false i = other (test-bit word y) (test-bit rest y) (o y)
-
-  pub gathering-next : (rest word x i : ℕ) → Gathering takers o rest word → 1 ≤ rest → x ≡ trailingZeros 64 rest → i ≡ bit (o x)
-      → Gathering takers o (bitAnd rest (rest - 1)) (bitOr word (i * 2 ^ x % 2 ^ 64))
-  gathering-next rest word x i q one e f =
-      gather rest word x (i * 2 ^ x % 2 ^ 64) (o x) q one e refl (ap (λ z. z * 2 ^ x % 2 ^ 64) f ∙ mod-eq-of-lt (single-lt x (o x) 64 (lowest-lt rest x one (q .few) e)))
-
-  pub gathering-end : (rest word : ℕ) → Gathering takers o rest word → rest ≡ 0 → word ≡ word-of 64 (λ y. test-bit takers y && o y)
-  gathering-end rest word q e =
-      word-unique 64 word (λ y. test-bit takers y && o y) (q .fits)
-      (λ y k. sym (or-false (test-bit word y)) ∙ ap (λ z. test-bit word y || (z && o y)) (sym (ap (λ z. test-bit z y) e ∙ test-small 0 y (pow-pos y))) ∙ q .together y k)
-
--- ---- then their masks are joined: both words
-pub record Stepping (zs os : List ℕ) (leaves rest a b : ℕ) : Type 0 where
-  pub few : rest < 2 ^ 64
-  pub zeros : Joining leaves (λ x. true) (entry zs) rest a
-  pub ones : Joining leaves (λ x. true) (entry os) rest b
-
-module _ (zs os : List ℕ) (leaves : ℕ) where
-  pub stepping-start : leaves < 2 ^ 64 → Stepping zs os leaves leaves 0 0
-  stepping-start h = record { few = h; zeros = joining-start leaves (λ x. true) (entry zs); ones = joining-start leaves (λ x. true) (entry os) }
-
-  pub stepping-next : (rest a b x : ℕ) → Stepping zs os leaves rest a b → 1 ≤ rest → x ≡ trailingZeros 64 rest
-      → Stepping zs os leaves (bitAnd rest (rest - 1)) (bitOr a (entry zs x)) (bitOr b (entry os x))
-  stepping-next rest a b x q one e = rw (lowest-cleared rest x one (q .few) e) (record {
-    few = omega (arith, q .few);
-    zeros = joining-next leaves (λ x. true) (entry zs) rest a x (q .zeros) one (q .few) e;
-    ones = joining-next leaves (λ x. true) (entry os) rest b x (q .ones) one (q .few) e;
+    zeros = rw (g, f, times-pick (o x) (entry zs x)) (joining-next takers o (entry zs) rest a x (q .zeros) some (q .few) i);
+    ones = rw (h, f, times-pick (o x) (entry os x)) (joining-next takers o (entry os) rest b x (q .ones) some (q .few) i);
   })
 
-pub live-fits : (fs : List ℕ) (k next : ℕ) (last : Bool) → live-word fs k next last < 2 ^ 64
-unfolding live-word
-live-fits fs k next last = word-lt 64 (live k next last (entry fs))
-
-live-union : (fs : List ℕ) (k next : ℕ) (last : Bool) (m : ℕ → ℕ) → union 64 (λ x. test-bit (live-word fs k next last) x && true) m ≡ union 64 (live k next last (entry fs)) m
-unfolding live-word
-live-union fs k next last m =
-    union-same 64 (λ x. test-bit (word-of 64 (live k next last (entry fs))) x && true) (live k next last (entry fs)) m m
-    (λ x h. and-true (test-bit (word-of 64 (live k next last (entry fs))) x) ∙ word-bit 64 (live k next last (entry fs)) x h) (λ x h. refl)
-
-pub stepping-end : (zs os fs : List ℕ) (k next : ℕ) (last : Bool) (leaves rest a b : ℕ) → leaves ≡ live-word fs k next last → Stepping zs os leaves rest a b → rest ≡ 0
-    → _≡_ {A = Words} (record { zero = a; one = b }) (step-of zs os fs k next last)
-stepping-end zs os fs k next last leaves rest a b i q e =
-    ap₂ (λ x y. record { zero = x; one = y }) (part (entry zs) a (rw e at (q .zeros))) (part (entry os) b (rw e at (q .ones)))
-  where
-    part : (m : ℕ → ℕ) (c : ℕ) → Joining leaves (λ x. true) m 0 c → c ≡ union 64 (live k next last (entry fs)) m
-    part m c j = joining-end leaves (λ x. true) m c j ∙ ap (λ z. union 64 (λ x. test-bit z x && true) m) i ∙ live-union fs k next last m
+  pub stepping-end : (rest a b : ℕ) → Stepping zs os takers o rest a b → rest ≡ 0
+      → _≡_ {A = Words} (record { zero = a; one = b }) (record { zero = union 64 (λ x. test-bit takers x && o x) (entry zs); one = union 64 (λ x. test-bit takers x && o x) (entry os) })
+  stepping-end rest a b q e =
+      ap₂ (λ x y. record { zero = x; one = y }) (joining-end takers o (entry zs) a (rw e at (q .zeros))) (joining-end takers o (entry os) b (rw e at (q .ones)))

@@ -1,9 +1,9 @@
 // The first sweep: the state sets of a tape's positions (01: marks), from the tape's end to its start.
 ghost use mathlib.Core.Path.{_≡_};
+ghost use Prim.Native.Nat.{_≤_};
 ghost use Rattle.bits.specs.Bits.{bit, in-front};
 ghost use Rattle.states.specs.StateSets.{words as words-of};
 ghost use Rattle.states.specs.Steps.{behind, step-of};
-ghost use Rattle.states.specs.Joining.{live-word};
 ghost use Rattle.states.specs.Sweep.{Sweepable, sweep-of};
 ghost use Rattle.syntax.specs.TreeLaws.{Rules};
 ghost use Rattle.states.specs.Masks.{Masks-of};
@@ -21,6 +21,7 @@ use masks::columns_of;
 use masks::rows_of;
 use syntax::Pattern;
 use word::single;
+use word::times;
 
 // The two state sets of a position: with flag 0 and with flag 1.
 pub struct Words {
@@ -40,7 +41,7 @@ pub struct PatternMasks {
 
 // 1 if a state, a node or 64 for the end, is open at the next position with flag 1, else 0.
 fn open_bit(state: u8, next: u64, last: bool) -> u64
-    ensures { λ r. ⌜ r ≡ bit (behind next last state) ⌝ }
+    ensures { λ r. ⌜ (r ≡ bit (behind next last state)) × (r ≤ 1) ⌝ }
 {
     if state < 64 {
         return (next >> state) % 2;
@@ -48,24 +49,9 @@ fn open_bit(state: u8, next: u64, last: bool) -> u64
     single(0, last)
 }
 
-// The leaves that take the letter and whose followers are open behind it. Bits are moved, so that no branch depends on them.
-fn live_leaves(followers: &[u8; 64], takers: u64, next: u64, last: bool) -> u64
-    ensures { λ r. ⌜ r ≡ live-word (now (followers .entry)) takers next last ⌝ }
-{
-    let mut rest = takers;
-    let mut word: u64 = 0;
-    while rest != 0 {
-        let x = u64::trailing_zeros(rest);
-        let i = x as usize;
-        rest = rest & (rest - 1);
-        let e = open_bit(followers[i], next, last);
-        word = word | (e << x);
-    }
-    word
-}
-
 // The two state sets of a position, from the leaves that take its letter and the flag 1 state set of the next position. `last` says
-// that the next position is the tape's end. Where words are stored does not matter here.
+// that the next position is the tape's end. Where words are stored does not matter here. A leaf's masks are multiplied by 1 or 0, so that
+// no branch depends on what is open.
 pub fn step(
     zero: &[u64; 64],
     one: &[u64; 64],
@@ -76,16 +62,16 @@ pub fn step(
 ) -> Words
     ensures { λ r. ⌜ r ≡ step-of (now (zero .entry)) (now (one .entry)) (now (followers .entry)) takers next last ⌝ }
 {
-    let leaves = live_leaves(followers, takers, next, last);
-    let mut rest = leaves;
+    let mut rest = takers;
     let mut a: u64 = 0;
     let mut b: u64 = 0;
     while rest != 0 {
         let x = u64::trailing_zeros(rest);
         let i = x as usize;
         rest = rest & (rest - 1);
-        a = a | zero[i];
-        b = b | one[i];
+        let e = open_bit(followers[i], next, last);
+        a = a | times(zero[i], e);
+        b = b | times(one[i], e);
     }
     Words { zero: a, one: b }
 }

@@ -1,7 +1,7 @@
 // Small functions on words and truth values.
 ghost use mathlib.Core.Path.{_≡_};
 ghost use mathlib.Core.Bool.{_&&_, _||_};
-ghost use Prim.Native.Nat.{_*_, _^_, _<_};
+ghost use Prim.Native.Nat.{_*_, _^_, _≤_, _<_};
 ghost use lib.Bits.{bitOr};
 ghost use Rattle.bits.specs.Bits.{bit, test-bit};
 ghost use Rattle.states.specs.Unions.{pick};
@@ -39,4 +39,12 @@ pub fn single(l: usize, v: bool) -> u64
     ensures { λ r. ⌜ r ≡ bit v * 2 ^ l ⌝ }
 {
     if v { 1u64 << l } else { 0 }
+}
+
+// The mask, or 0, without a branch.
+pub fn times(mask: u64, e: u64) -> u64
+    requires { ⌜ e ≤ 1 ⌝ }
+    ensures { λ r. ⌜ r ≡ mask * e ⌝ }
+{
+    mask * e
 }
