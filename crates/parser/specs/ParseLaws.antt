@@ -6,7 +6,7 @@ use mathlib.Core.List.{List, [], _∷_, _++_, append-nil}
 use Prim.Native.Nat.{ℕ, zero, suc, _+_, _*_, _-_, _/_, _≤_, _<_}
 use native.Mathlib.Nat.{add-zero}
 use native.Mathlib.Omega.{arith}
-use native.Mathlib.Decide.{decLe}
+use native.Mathlib.Decide.{decLe, decLt}
 use borrow.Author.Tests.{lt-ltb, le-ltb}
 use lib.Dec.{ltb}
 use lib.ListN.{length, getD, drop, length-append, length-drop, drop-of-length-le, List·getD-append}
@@ -30,7 +30,7 @@ use Rattle.semantics.specs.Code.{Canonical, code, choices}
 use Rattle.semantics.specs.Automaton.{Location, top, fst, snd, lft, rgt, rnd}
 use Rattle.semantics.specs.Sweeps.{can, at-end, readable, greedy}
 use Rattle.semantics.specs.AutomatonLaws.{after}
-use Rattle.semantics.specs.BoundLaws.{nodes, choices-nodes, code-fits}
+use Rattle.semantics.specs.BoundLaws.{nodes, choices-nodes, code-fits, bits-bound}
 use Rattle.semantics.specs.SecondSweepLaws.{wrote}
 use Rattle.semantics.specs.GreedyLaws.{greedy-canonical, canonical-greedy, readable-iff}
 use Rattle.states.specs.Nodes.{index}
@@ -45,7 +45,7 @@ use Rattle.sweep.specs.Ways.{index-made}
 use Rattle.parser.specs.declared.Parsed.{Parsed}
 use Rattle.parser.specs.declared.Parsed.the-variants.{Bits, Refused}
 use Rattle.parser.specs.Parse.{parsed-answer, first-bad, early, Reads-greedily, Parses-by, Parses}
-use Rattle.parser.specs.Writing.{Writable, Writes}
+use Rattle.parser.specs.Writing.{missing, Missing, Writable, Writes}
 
 -- ── the first byte that is no letter ──
 pub record Searched (tape : List ℕ) (i : ℕ) : Type 0 where
@@ -124,6 +124,42 @@ greedy-few p h tape few reads =
     let c = greedy-canonical (root p) tape reads in
     rw (c .written) at (code-fits (root p) (c .value) (root-choices p h) (c .greedy .solid) (rw (c .greedy .spells) few))
 
+-- 01's bound on codes, for 64 choices
+pub greedy-bound : (p : Pattern) → obeys p ≡ true → (tape : List ℕ) → readable (root p) tape ≡ true → length (greedy (root p) tape) ≤ 136 * length tape + 64
+greedy-bound p h tape reads =
+    let c = greedy-canonical (root p) tape reads in
+    rw (c .written) at (rw (c .greedy .spells) at (bits-bound (root p) (c .value) (root-choices p h) (c .greedy .solid)))
+
+-- ── what is missing in a code buffer ──
+module _ (bits : List Bool) (n size : ℕ) where
+  pub missing-none : 17 * n + 8 ≤ size → Missing bits n size 0
+  unfolding missing
+  missing-none h few = rw (le-ltb size (cell-count 8 (length bits)) (omega arith)) refl
+
+  pub missing-some : (at : ℕ) → at ≡ 0 + length bits → size < (at + 7) / 8 → Missing bits n size ((at + 7) / 8)
+  unfolding missing
+  missing-some at e h few = let q : at ≡ length bits = omega arith in rw q (rw (lt-ltb size (cell-count 8 (length bits)) (omega arith)) refl)
+
+  pub missing-enough : (at : ℕ) → at ≡ 0 + length bits → (at + 7) / 8 ≤ size → Missing bits n size 0
+  unfolding missing
+  missing-enough at e h few = rw (le-ltb size (cell-count 8 (length bits)) (omega arith)) refl
+
+missing-is : (k size m : ℕ) → m ≡ missing k size → 0 < m → (size < cell-count 8 k) × (m ≡ cell-count 8 k)
+unfolding missing
+missing-is k size m e h = go (decLt size (cell-count 8 k))
+  where
+    go : Dec (size < cell-count 8 k) → (size < cell-count 8 k) × (m ≡ cell-count 8 k)
+    go (yes l) = (l, rw (lt-ltb size (cell-count 8 k) l) at e)
+    go (no l) = absurd (let q : m ≡ 0 = rw (le-ltb size (cell-count 8 k) (omega arith)) at e in omega arith)
+
+missing-not : (k size m : ℕ) → m ≡ missing k size → m ≤ 0 → cell-count 8 k ≤ size
+unfolding missing
+missing-not k size m e h = go (decLt size (cell-count 8 k))
+  where
+    go : Dec (size < cell-count 8 k) → cell-count 8 k ≤ size
+    go (yes l) = absurd (let q : m ≡ cell-count 8 k = rw (lt-ltb size (cell-count 8 k) l) at e in omega arith)
+    go (no l) = omega arith
+
 -- ── what the sweep needs to know ──
 module _ (p : Pattern) (tape ws : List ℕ) (h : Writable p tape ws) where
   rules : Rules p
@@ -176,33 +212,45 @@ module _ (p : Pattern) (tape ws : List ℕ) (h : Writable p tape ws) where
           enough = h .room;
         }
 
-    -- counted, and then written
-    module _ (none none-now : List ℕ) (one : Swept) (w : Wrote 0 0 tape (greedy (root p) tape) none none-now one) where
-      counted : one .at ≡ length (greedy (root p) tape)
-      counted = let a = w .at-is in omega arith
+    -- written, if no byte is missing
+    module _ (xs : List ℕ) (needed : ℕ) (m : Missing (greedy (root p) tape) (length tape) (length xs) needed) where
+      is-missing : needed ≡ missing (length (greedy (root p) tape)) (length xs)
+      is-missing = m (greedy-bound p (h .good) tape (h .reads))
 
       spelled : ((v : Value (root p)) → flat (root p) v ≡ tape → ⊥) → ⊥
       spelled f = let q = readable-iff (root p) tape .0 (h .reads) in f (q .0) (q .1)
 
-      same : (bits : List Bool) → Canonical (root p) tape bits → length bits ≡ one .at
-      same bits k = ap length (sym (canonical-greedy (root p) tape bits k .1)) ∙ sym counted
+      same : (bits : List Bool) → Canonical (root p) tape bits → length bits ≡ length (greedy (root p) tape)
+      same bits k = ap length (sym (canonical-greedy (root p) tape bits k .1))
 
-      pub write-short : (xs : List ℕ) (needed : ℕ) → needed ≡ (one .at + 7) / 8 → length xs < needed → Writes p tape xs xs (Refused (CodeTooShort needed))
-      write-short xs needed en lt = record {
-        unreadable = λ f. absurd (spelled f);
-        fits = λ bits k le. absurd (omega (arith, same bits k));
-        short = λ bits k l. (ap (λ n. refused (CodeTooShort n)) (en ∙ ap (λ n. (n + 7) / 8) (sym (same bits k))), refl);
-      }
+      pub needed-small : needed ≤ 65536
+      needed-small = go (decLt 0 needed)
+        where
+          go : Dec (0 < needed) → needed ≤ 65536
+          go (yes l) = omega (arith, missing-is (length (greedy (root p) tape)) (length xs) needed is-missing l .1, few-bits)
+          go (no l) = omega arith
 
-      pub write-done : (xs ys : List ℕ) (two : Swept) → (one .at + 7) / 8 ≤ length xs → Wrote 0 0 tape (greedy (root p) tape) xs ys two → Writes p tape xs ys (Bits (one .at))
-      write-done xs ys two le v = record {
-        unreadable = λ f. absurd (spelled f);
-        fits = λ bits k l. (
-          ap (λ n. answer 0 n) (sym (same bits k)),
-          v .written (omega (arith, counted)) ∙ ap (write 8 xs 0) (canonical-greedy (root p) tape bits k .1) ∙ write-start 8 (omega arith) xs bits,
-        );
-        short = λ bits k l. absurd (omega (arith, same bits k));
-      }
+      pub write-short : 0 < needed → Writes p tape xs xs (Refused (CodeTooShort needed))
+      write-short l =
+          let q = missing-is (length (greedy (root p) tape)) (length xs) needed is-missing l in
+          record {
+            unreadable = λ f. absurd (spelled f);
+            fits = λ bits k le. absurd (omega (arith, q .0, same bits k));
+            short = λ bits k l. (ap (λ n. refused (CodeTooShort n)) (q .1 ∙ ap (cell-count 8) (sym (same bits k))), refl);
+          }
+
+      pub write-done : (ys : List ℕ) (r : Swept) → needed ≤ 0 → Wrote 0 0 tape (greedy (root p) tape) xs ys r → Writes p tape xs ys (Bits (r .at))
+      write-done ys r l v =
+          let q = missing-not (length (greedy (root p) tape)) (length xs) needed is-missing l in
+          let a : r .at ≡ length (greedy (root p) tape) = omega (arith, v .at-is) in
+          record {
+            unreadable = λ f. absurd (spelled f);
+            fits = λ bits k l. (
+              ap (λ n. answer 0 n) (a ∙ sym (same bits k)),
+              v .written (omega (arith, q)) ∙ ap (write 8 xs 0) (canonical-greedy (root p) tape bits k .1) ∙ write-start 8 (omega arith) xs bits,
+            );
+            short = λ bits k l. absurd (omega (arith, q, same bits k));
+          }
 
 -- ── the ways of reading ──
 module _ (p : Pattern) (tape ws xs : List ℕ) where

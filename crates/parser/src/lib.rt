@@ -1,9 +1,12 @@
 // Reading a tape: the tests, the first sweep, and the bits of the greedy parse by the second.
 ghost use mathlib.Core.Path.{_≡_};
-ghost use Prim.Native.Nat.{_≤_};
+ghost use mathlib.Core.Bool.{true};
+ghost use Prim.Native.Nat.{_≤_, _<_};
 ghost use lib.ListN.{length};
+ghost use Rattle.columns.specs.Columns.{Good};
+ghost use Rattle.sweep.specs.Sweeping.{Ready};
 ghost use Rattle.parser.specs.Parse.{first-bad, Parses};
-ghost use Rattle.parser.specs.Writing.{Writable, Writes};
+ghost use Rattle.parser.specs.Writing.{Missing, Writable, Writes};
 use columns::columns_of;
 use states::fill;
 use sweep::is_open;
@@ -35,7 +38,36 @@ fn first_bad(tape: &[u8]) -> usize
     }
 }
 
-// The bits are counted first, so that a code buffer that is too short is left as it was.
+// How many bytes the code of node l needs where a buffer has fewer, else 0. Bits are counted only where the buffer might not hold them: with
+// at most 64 choices no code of n letters takes more than 17n + 8 bytes.
+fn bytes_missing(
+    kind: &[u8; 64],
+    first: &[u8; 64],
+    second: &[u8; 64],
+    words: &[u64],
+    tape: &[u8],
+    l: usize,
+    size: usize,
+) -> usize
+    requires { ⌜ Good (now kind) (now first) (now second) ⌝ }
+    requires { ⌜ (l < 64) × (length (now tape) ≤ 3600) ⌝ }
+    requires { ⌜ Ready (now kind) (now first) (now second) (now words) (now tape) l 0 true 0 ⌝ }
+    ensures { λ r.
+        ⌜ ((s : Ready (now (kind .entry)) (now (first .entry)) (now (second .entry)) (now (words .entry)) (now (tape .entry)) l 0 true 0) → Missing (s .it .bits) (length (now (tape .entry))) size r) ⌝ }
+{
+    if 17 * tape.len() + 8 <= size {
+        return 0;
+    }
+    let mut none: [u8; 1] = [0; 1];
+    let count = sweep(kind, first, second, words, tape, l, 0, true, &mut none, 0);
+    let needed = (count.at as usize + 7) / 8;
+    if size < needed {
+        return needed;
+    }
+    0
+}
+
+// A code buffer that is too short is found before a bit is written, so that it is left as it was.
 fn write_code(p: Pattern, tape: &[u8], words: &[u64], code: &mut [u8]) -> Parsed
     requires { ⌜ Writable p (now tape) (now words) ⌝ }
     ensures { λ r. ⌜ Writes p (now (tape .entry)) (now (code .entry)) (now (code .exit)) r ⌝ }
@@ -45,25 +77,12 @@ fn write_code(p: Pattern, tape: &[u8], words: &[u64], code: &mut [u8]) -> Parsed
     let kind = columns.kind;
     let first = columns.first;
     let second = columns.second;
-    let mut none: [u8; 1] = [0; 1];
-    let count = sweep(
-        &kind,
-        &first,
-        &second,
-        words,
-        tape,
-        root,
-        0,
-        true,
-        &mut none,
-        0,
-    );
-    let needed = (count.at as usize + 7) / 8;
-    if code.len() < needed {
+    let needed = bytes_missing(&kind, &first, &second, words, tape, root, code.len());
+    if 0 < needed {
         return Parsed::Refused(Refusal::CodeTooShort(needed as u32));
     }
-    sweep(&kind, &first, &second, words, tape, root, 0, true, code, 0);
-    Parsed::Bits(count.at)
+    let swept = sweep(&kind, &first, &second, words, tape, root, 0, true, code, 0);
+    Parsed::Bits(swept.at)
 }
 
 pub fn parse(p: Pattern, tape: &[u8], words: &mut [u64], code: &mut [u8]) -> Parsed

@@ -82,6 +82,14 @@ code-fits t v few ok h = go (code-within t v ok)
     go (inl p) = omega arith
     go (inr p) = omega (arith, mul-le-mul-right (length (flat t v)) few)
 
+-- the bound for 64 choices alone
+pub bits-bound : (t : Tree) (v : Value t) → choices t ≤ 64 → nonproblematic t v ≡ true → length (code t v) ≤ 136 * length (flat t v) + 64
+bits-bound t v few ok = go (code-within t v ok)
+  where
+    go : Within (choices t) (length (flat t v)) (length (code t v)) → length (code t v) ≤ 136 * length (flat t v) + 64
+    go (inl p) = omega arith
+    go (inr p) = omega (arith, mul-le-mul-right (length (flat t v)) few)
+
 -- every node of a tree, leaves included
 abbrev pub nodes : Tree → ℕ
 nodes (nothing m) = 1

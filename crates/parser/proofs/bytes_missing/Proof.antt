@@ -1,0 +1,46 @@
+-- `parser::bytes_missing` meets its contract.
+use Rattle.parser.specs.ParseLaws.{missing-none, missing-some, missing-enough}
+use borrow.Author.Needs.{needs}
+use Rattle.parser.proofs.bytes_missing.Statement.{statement}
+use Rattle.parser.proofs.bytes_missing.Tie as tie
+
+mul-if1 : tie.Need-mul-if1
+mul-if1 c = search needs
+
+add-if1 : tie.Need-add-if1
+add-if1 c = search needs
+
+returns : tie.Need-returns
+returns c = λ s. missing-none (s .it .bits) _ _ (c .if1 .taken)
+
+slice-aggregate-sweep : tie.Need-slice-aggregate-sweep
+slice-aggregate-sweep c = search needs
+
+sweep-requires : tie.Need-sweep-requires
+sweep-requires c κs = search needs
+
+cast-needed : tie.Need-cast-needed
+cast-needed c = search needs
+
+add-needed : tie.Need-add-needed
+add-needed c = search needs
+
+returns-2 : tie.Need-returns-2
+returns-2 c = λ s. missing-some (s .it .bits) _ _ _ (c .before .before .before .sweep .ensures s .at-is) (c .if2 .taken)
+
+returns-3 : tie.Need-returns-3
+returns-3 c = λ s. missing-enough (s .it .bits) _ _ _ (c .before .before .before .sweep .ensures s .at-is) (c .if2 .left)
+
+pub bytes-missing-spec : {M : Type 1} → statement M
+bytes-missing-spec =
+    tie.close
+    (tie.spec
+    mul-if1
+    add-if1
+    returns
+    slice-aggregate-sweep
+    sweep-requires
+    cast-needed
+    add-needed
+    returns-2
+    returns-3)
