@@ -9,5 +9,6 @@ pub mod Sweep
 pub mod Fronts
 pub mod Follows
 pub mod Masks
+pub mod Scatter
 pub mod Fill
 pub mod Meaning

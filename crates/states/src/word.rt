@@ -3,16 +3,8 @@ ghost use mathlib.Core.Path.{_≡_};
 ghost use mathlib.Core.Bool.{_&&_, _||_};
 ghost use Prim.Native.Nat.{_*_, _^_, _≤_, _<_};
 ghost use lib.Bits.{bitOr};
-ghost use Rattle.bits.specs.Bits.{bit, test-bit};
+ghost use Rattle.bits.specs.Bits.{bit};
 ghost use Rattle.states.specs.Unions.{pick};
-
-// Bit l of a word.
-pub fn has_bit(word: u64, l: u8) -> bool
-    requires { ⌜ l < 64 ⌝ }
-    ensures { λ r. ⌜ r ≡ test-bit word l ⌝ }
-{
-    (word >> l) % 2 == 1
-}
 
 // The word, joined with the mask where it is chosen.
 pub fn join(word: u64, mask: u64, chosen: bool) -> u64

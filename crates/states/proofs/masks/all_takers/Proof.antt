@@ -1,43 +1,44 @@
-use mathlib.Core.Path.{_≡_, subst}
 use native.Mathlib.Omega.{arith}
 use Prim.Native.Nat.{_≤_, _-_}
-use Rattle.states.specs.Masks.{Filled, filled-next, line-takers}
+use Rattle.syntax.specs.Table.{node-at}
+use Rattle.states.specs.Masks.{node-takes}
+use Rattle.states.specs.Scatter.{Scattered, line-node-good, takers-start, takers-next, takers-end}
 use borrow.Author.Needs.{needs}
 use Rattle.states.proofs.masks.all_takers.Statement.{statement}
 use Rattle.states.proofs.masks.all_takers.Tie as tie
 
 abbrev Inv-loop : tie.InvT-loop
-Inv-loop p takers₀ letter₀ takers letter = (letter ≤ 128) × Filled 0 (λ c. line-takers p c (p .count)) 128 letter takers
+Inv-loop p takers₀ i₀ takers i = (i ≤ p .count) × Scattered (λ l. node-takes (node-at p l)) 128 i takers
 
 abbrev μ-loop : tie.MeasureT-loop
-μ-loop p takers₀ letter₀ takers letter = 128 - letter
+μ-loop p takers₀ i₀ takers i = p .count - i
 
 loop-holds : tie.Need-loop-holds Inv-loop μ-loop
-loop-holds c = search needs
+loop-holds c = (omega arith, takers-start (c .args .t1))
 
-cast-takers-of : tie.Need-cast-takers-of Inv-loop μ-loop
-cast-takers-of c = search needs
+mul-line : tie.Need-mul-line Inv-loop μ-loop
+mul-line c = search needs
 
-takers-of-requires : tie.Need-takers-of-requires Inv-loop μ-loop
-takers-of-requires c κs = search needs
+element-copy-out-line : tie.Need-element-copy-out-line Inv-loop μ-loop
+element-copy-out-line c = search needs
 
-mul-takers : tie.Need-mul-takers Inv-loop μ-loop
-mul-takers c = search needs
+slice-aggregate-put-node : tie.Need-slice-aggregate-put-node Inv-loop μ-loop
+slice-aggregate-put-node c = search needs
 
-array-write-takers : tie.Need-array-write-takers Inv-loop μ-loop
-array-write-takers c = search needs
+put-node-requires : tie.Need-put-node-requires Inv-loop μ-loop
+put-node-requires c κs = (omega (arith, c .before .before .loop-test .taken, c .before .before .before .before .pre .few), omega (arith, c .before .before .before .loop .inv .1 .long), line-node-good (c .before .before .before .before .args .t1) (c .before .before .before .before .pre) _ (c .before .before .loop-test .taken))
 
-add-letter : tie.Need-add-letter Inv-loop μ-loop
-add-letter c = search needs
+add-i : tie.Need-add-i Inv-loop μ-loop
+add-i c = search needs
 
 loop-less : tie.Need-loop-less Inv-loop μ-loop
 loop-less c = search needs
 
 loop-again : tie.Need-loop-again Inv-loop μ-loop
-loop-again c = (omega (arith, c .before .loop-test .taken), filled-next 0 (λ k. line-takers (c .before .before .before .args .p) k (c .before .before .before .args .p .count)) 128 _ _ _ (c .before .loop-test .taken) (c .before .before .loop .inv .1) (c .takers-of .ensures))
+loop-again c = (omega (arith, c .before .before .before .before .loop-test .taken), takers-next (c .before .before .before .before .before .before .args .t1) _ _ _ (c .before .before .before .before .before .loop .inv .1) (c .before .put-node .ensures))
 
 returns : tie.Need-returns Inv-loop μ-loop
-returns c = let e : c .before .loop .letter ≡ 128 = omega (arith, c .before .loop .inv .0, c .loop-test .left) in subst (λ k. Filled 0 (λ l. line-takers (c .before .before .args .p) l (c .before .before .args .p .count)) 128 k (c .before .loop .takers)) e (c .before .loop .inv .1)
+returns c = takers-end (c .before .before .args .t1) _ _ (omega (arith, c .before .loop .inv .0, c .loop-test .left)) (c .before .loop .inv .1)
 
 pub all-takers-spec : {M : Type 1} → statement M
 all-takers-spec =
@@ -46,11 +47,11 @@ all-takers-spec =
     Inv-loop
     μ-loop
     loop-holds
-    cast-takers-of
-    takers-of-requires
-    mul-takers
-    array-write-takers
-    add-letter
+    mul-line
+    element-copy-out-line
+    slice-aggregate-put-node
+    put-node-requires
+    add-i
     loop-less
     loop-again
     returns)
