@@ -7,12 +7,14 @@ use lib.Dec.{leb}
 use lib.ListN.{length, getD, drop}
 use Rattle.syntax.specs.declared.Leaf.{Leaf}
 use Rattle.syntax.specs.declared.Leaf.the-variants.{Nothing, Letter, Range}
-use Rattle.syntax.specs.declared.Node.the-variants.{Leaf as Leaf-node}
+use Rattle.syntax.specs.declared.Node.{Node}
+use Rattle.syntax.specs.declared.Node.the-variants.{Leaf as Leaf-node, Sequence, Alternative, Star}
 use Rattle.syntax.specs.Tree.{Label, Tree, nothing, letter, range, seq, alt, star}
 use Rattle.bits.specs.Bits.{bit, test-bit, write, bits-of}
-use Rattle.columns.specs.Columns.{tree-in}
+use Rattle.columns.specs.Columns.{node-in, tree-in}
 use Rattle.semantics.specs.Sweeps.{After, after-round, can}
 use Rattle.states.specs.Nodes.{index}
+use Rattle.sweep.specs.declared.Spot.{Spot}
 use Rattle.sweep.specs.declared.Swept.{Swept}
 use Rattle.sweep.specs.Parts.{Sweeps}
 
@@ -74,3 +76,29 @@ pub record Ready (kind first second words tape : List ℕ) (l i : ℕ) (taken : 
 abbrev pub Swept-all : (kind first second words tape : List ℕ) → (l i : ℕ) → (taken : Bool) → (at : ℕ) → (code code-now : List ℕ) → Swept → Type 0
 Swept-all kind first second words tape l i taken at xs ys r =
     (s : Ready kind first second words tape l i taken at) → Wrote i at (s .it .letters) (s .it .bits) xs ys r
+
+abbrev pub is-choice : Node → Bool
+is-choice (Leaf-node x) = false
+is-choice (Sequence p q) = false
+is-choice (Alternative p q) = true
+is-choice (Star p) = false
+
+-- a sweep of node l that has come to the spot r: what is there can be swept, and when it is, what was to be swept from l on is done
+pub record Led {kind first second words tape : List ℕ} {l i : ℕ} {taken : Bool} {at : ℕ} (s : Ready kind first second words tape l i taken at) (code₀ code : List ℕ) (r : Spot) : Type 0 where
+  pub ready : Ready kind first second words tape (r .node) (r .position) (r .taken) (r .at)
+  pub done : (zs : List ℕ) (w : Swept) → Wrote (r .position) (r .at) (ready .it .letters) (ready .it .bits) code zs w → Wrote i at (s .it .letters) (s .it .bits) code₀ zs w
+  pub on : i ≤ r .position
+
+-- what a move leaves: it goes down, from an alternative in any case
+pub record Moves (kind first second words tape : List ℕ) (l i : ℕ) (taken : Bool) (at : ℕ) (code₀ code : List ℕ) (r : Spot) : Type 0 where
+  pub down : r .node ≤ l
+  pub falls : is-choice (node-in kind first second l) ≡ true → r .node < l
+  pub led : (s : Ready kind first second words tape l i taken at) → Led s code₀ code r
+  pub as-long : length code ≡ length code₀
+
+-- and what all moves leave: no alternative is left
+pub record Advanced (kind first second words tape : List ℕ) (l i : ℕ) (taken : Bool) (at : ℕ) (code₀ code : List ℕ) (r : Spot) : Type 0 where
+  pub down : r .node ≤ l
+  pub no-choice : is-choice (node-in kind first second (r .node)) ≡ false
+  pub led : (s : Ready kind first second words tape l i taken at) → Led s code₀ code r
+  pub as-long : length code ≡ length code₀

@@ -1,6 +1,6 @@
 -- The ways of the sweep at a node of columns: what the calls for its parts need, and what is written when they are done.
 use mathlib.Core.Path.{_≡_, refl, sym, ap, ap₂, subst, _∙_}
-use mathlib.Core.Bool.{Bool, true, false, _||_, not, cond}
+use mathlib.Core.Bool.{Bool, true, false, _||_, not, cond, true≢false}
 use mathlib.Core.List.{List, [], _∷_, _++_}
 use Prim.Native.Nat.{ℕ, zero, suc, _+_, _*_, _≤_, _<_}
 use native.Mathlib.Nat.{add-zero}
@@ -20,8 +20,9 @@ use Rattle.columns.specs.Columns.{node-in, tree-in, Good}
 use Rattle.columns.specs.ColumnLaws.{line-tree, line-lower}
 use Rattle.semantics.specs.Value.{nonempty}
 use Rattle.states.specs.Nodes.{index}
+use Rattle.sweep.specs.declared.Spot.{Spot}
 use Rattle.sweep.specs.declared.Swept.{Swept}
-use Rattle.sweep.specs.Sweeping.{put, Wrote, Can-sweep, leaf-tree, Leaf-ready, Leaf-swept, Ready}
+use Rattle.sweep.specs.Sweeping.{put, Wrote, Can-sweep, leaf-tree, Leaf-ready, Leaf-swept, Ready, is-choice, Led, Moves, Advanced}
 use Rattle.sweep.specs.SweepLaws.{wrote-then, wrote-put, wrote-same, wrote-none, put-long, Seq-way, seq-way, Side-way, left-way, right-way, Round-way, round-way, stop-way}
 
 pub index-made : (m : Label) (f : ℕ → Tree) (n : Node) → index (made m f n) ≡ m .index
@@ -176,9 +177,6 @@ module _ {kind first second : List ℕ} (words tape : List ℕ) (good : Good kin
         (subst (λ y. Wrote i (at + 1) (c .ready .it .letters) (c .ready .it .bits) y zs r) ey w))
 
   -- ── star ──
-  pub turns-start : (s : Ready kind first second words tape l i taken at) (code : List ℕ) → Going s code code i at
-  turns-start s code = record { flag = taken; now = s .it; done = λ zs r w. w; as-long = refl; on = omega arith }
-
   module _ (p : ℕ) (en : n ≡ Star p) where
     pub star-lower : p < l
     star-lower = subst (λ k. Below l k) en (line-lower good l h n e)
@@ -218,3 +216,102 @@ module _ {kind first second : List ℕ} (words tape : List ℕ) (good : Good kin
             as-long = w .as-long ∙ ap length ey ∙ put-long code to (false ∷ []) ∙ g .as-long;
             on = omega (arith, g .on, round-less .0);
           }
+
+-- ── moves ──
+module _ (kind first second words tape : List ℕ) (l i : ℕ) (taken : Bool) (at : ℕ) (code : List ℕ) where
+  abbrev spot : Spot
+  spot = record { node = l; position = i; taken = taken; at = at }
+
+  -- nothing is done
+  stay : (s : Ready kind first second words tape l i taken at) → Led s code code spot
+  stay s = record { ready = s; done = λ zs r w. w; on = omega arith }
+
+  pub moves-none : (n : Node) → n ≡ node-in kind first second l → is-choice n ≡ false → Moves kind first second words tape l i taken at code code spot
+  moves-none n e f = record { down = omega arith; falls = λ c. absurd (true≢false (sym c ∙ ap is-choice (sym e) ∙ f)); led = stay; as-long = refl }
+
+  -- a loop of moves
+  pub record Moving (now : List ℕ) (m j : ℕ) (flag : Bool) (to : ℕ) : Type 0 where
+    pub down : m ≤ l
+    pub led : (s : Ready kind first second words tape l i taken at) → Led s code now (record { node = m; position = j; taken = flag; at = to })
+    pub as-long : length now ≡ length code
+
+  pub moving-start : Moving code l i taken at
+  moving-start = record { down = omega arith; led = stay; as-long = refl }
+
+  module _ (xs ys : List ℕ) (m j : ℕ) (flag : Bool) (to : ℕ) (g : Moving xs m j flag to) (r : Spot) (w : Moves kind first second words tape m j flag to xs ys r) where
+    joined : (s : Ready kind first second words tape l i taken at) → Led s code ys r
+    joined s =
+        let a = g .led s in
+        let b = w .led (a .ready) in
+        record { ready = b .ready; done = λ zs u v. a .done zs u (b .done zs u v); on = omega (arith, a .on, b .on) }
+
+    pub moving-next : Moving ys (r .node) (r .position) (r .taken) (r .at)
+    moving-next = record { down = omega (arith, g .down, w .down); led = joined; as-long = w .as-long ∙ g .as-long }
+
+    -- a move that stays at its node was made where there is no alternative
+    pub moving-end : r .node ≡ m → Advanced kind first second words tape l i taken at code ys r
+    moving-end e = record {
+      down = omega (arith, g .down, w .down);
+      no-choice = go (is-choice (node-in kind first second m)) refl;
+      led = joined;
+      as-long = w .as-long ∙ g .as-long;
+    }
+      where
+        go : (b : Bool) → is-choice (node-in kind first second m) ≡ b → is-choice (node-in kind first second (r .node)) ≡ false
+        go true f = absurd (let h : r .node < m = w .falls f in omega arith)
+        go false f = ap (λ k. is-choice (node-in kind first second k)) e ∙ f
+
+  module _ (good : Good kind first second) (h : l < 64) (n : Node) (e : n ≡ node-in kind first second l) where
+    -- a side is chosen
+    module _ (p q : ℕ) (en : n ≡ Alternative p q) where
+      pub choice-room : Ready kind first second words tape l i taken at → (2 * i + 1 < length words) × (at < 1048576)
+      choice-room s = (omega (arith, s .enough, s .it .within), omega (arith, s .it .few))
+
+      pub moves-side : (left : Bool) → left ≡ test-bit (getD words (2 * i + bit taken) 0) p → (side : ℕ) → side ≡ cond left p q → (ys : List ℕ) → ys ≡ put code at (not left ∷ [])
+          → Moves kind first second words tape l i taken at code ys (record { node = side; position = i; taken = taken; at = at + 1 })
+      moves-side left eo side es ys ey =
+          let f = side-lower words tape good l h n e i taken at p q en left eo side es in
+          record {
+            down = omega (arith, f);
+            falls = λ c. f;
+            led = λ s. record {
+              ready = side-ready words tape good l h n e i taken at p q en left eo side es s .ready;
+              done = λ zs r w. side-done words tape good l h n e i taken at p q en left eo side es s code ys zs r ey w;
+              on = omega arith;
+            };
+            as-long = ap length ey ∙ put-long code at (not left ∷ []);
+          }
+
+    -- a leaf in front of a sequence is read
+    module _ (p q : ℕ) (en : n ≡ Sequence p q) where
+      pub pass-lower : (p < l) × (q < l)
+      pass-lower = subst (λ k. Below l k) en (line-lower good l h n e)
+
+      module _ (m : Node) (em : m ≡ node-in kind first second p) (x : Leaf) (ex : m ≡ Leaf-node x) where
+        pub pass-ready : Ready kind first second words tape l i taken at → Leaf-ready x tape i at
+        pass-ready s = leaf-ready words tape good p (omega (arith, pass-lower .0)) m em i taken at x ex (seq-first words tape good l h n e i taken at p q en s)
+
+        module _ (ys : List ℕ) (one : Swept) (f : Leaf-swept x tape i at code ys one) (long : length ys ≡ length code) (flag : Bool) (ef : flag ≡ (taken || ltb i (one .position))) where
+          pub moves-leaf : Moves kind first second words tape l i taken at code ys (record { node = q; position = one .position; taken = flag; at = one .at })
+          moves-leaf = record {
+            down = omega (arith, pass-lower .1);
+            falls = λ c. pass-lower .1;
+            led = λ s.
+                let w = leaf-done words tape good p (omega (arith, pass-lower .0)) m em i taken at x ex code ys one f (seq-first words tape good l h n e i taken at p q en s) in
+                record {
+                  ready = seq-second words tape good l h n e i taken at p q en s code ys one w flag ef;
+                  done = λ zs r v. seq-done words tape good l h n e i taken at p q en s code ys one w flag ef zs r v;
+                  on = omega (arith, w .position-is);
+                };
+            as-long = long;
+          }
+
+pub moves-at : {kind first second words tape : List ℕ} {l i : ℕ} {taken : Bool} {at : ℕ} {xs ys : List ℕ} {r : Spot} (s : Spot) → r ≡ s → Moves kind first second words tape l i taken at xs ys s
+    → Moves kind first second words tape l i taken at xs ys r
+moves-at {kind} {first} {second} {words} {tape} {l} {i} {taken} {at} {xs} {ys} s e m = subst (λ r. Moves kind first second words tape l i taken at xs ys r) (sym e) m
+
+pub below-64 : (m l : ℕ) → m ≤ l → l < 64 → m < 64
+below-64 m l h k = omega arith
+
+pub turns-start-at : {kind first second words tape : List ℕ} {l i : ℕ} {taken : Bool} {at : ℕ} (s : Ready kind first second words tape l i taken at) (code : List ℕ) → Going s code code i at
+turns-start-at {taken = taken} s code = record { flag = taken; now = s .it; done = λ zs r w. w; as-long = refl; on = omega arith }

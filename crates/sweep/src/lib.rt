@@ -7,7 +7,7 @@ ghost use Prim.Native.Nat.{_+_, _*_, _≤_, _<_};
 ghost use lib.ListN.{length, getD};
 ghost use Rattle.bits.specs.Bits.{bit, test-bit, bits-of};
 ghost use Rattle.columns.specs.Columns.{Good};
-ghost use Rattle.sweep.specs.Sweeping.{put, Leaf-ready, Leaf-swept, Ready, Swept-all};
+ghost use Rattle.sweep.specs.Sweeping.{put, Leaf-ready, Leaf-swept, Ready, Swept-all, Moves, Advanced};
 use bits::set_bit;
 use bits::set_byte;
 use columns::node_at;
@@ -87,6 +87,102 @@ fn flag_behind(taken: bool, from: usize, to: usize) -> bool
     from < to
 }
 
+// Where a sweep has come to: a node, the position on the tape, the flag there, and the bit behind the bits written.
+pub struct Spot {
+    pub node: usize,
+    pub position: usize,
+    pub taken: bool,
+    pub at: u32,
+}
+
+fn spot_at(node: usize, position: usize, taken: bool, at: u32) -> Spot
+    ensures { λ r. ⌜ r ≡ record { node = node; position = position; taken = taken; at = at } ⌝ }
+{
+    Spot {
+        node,
+        position,
+        taken,
+        at,
+    }
+}
+
+// One move of a sweep that needs no call for a part: an alternative's bit is written, or a leaf in front of a sequence is read. The spot
+// stays at node l where there is no such move.
+fn move_on(
+    kind: &[u8; 64],
+    first: &[u8; 64],
+    second: &[u8; 64],
+    words: &[u64],
+    tape: &[u8],
+    l: usize,
+    i: usize,
+    taken: bool,
+    code: &mut [u8],
+    at: u32,
+) -> Spot
+    requires { ⌜ Good (now kind) (now first) (now second) ⌝ }
+    requires { ⌜ l < 64 ⌝ }
+    requires { ⌜ Ready (now kind) (now first) (now second) (now words) (now tape) l i taken at ⌝ }
+    ensures { λ r.
+        ⌜ Moves (now (kind .entry)) (now (first .entry)) (now (second .entry)) (now (words .entry)) (now (tape .entry)) l i taken at (now (code .entry)) (now (code .exit)) r ⌝ }
+{
+    let node = node_at(kind, first, second, l);
+    match node {
+        Node::Alternative(p, q) => {
+            let left = is_open(words, i, taken, p as usize);
+            put_bit(code, at, !left);
+            let side = side_of(left, p, q);
+            spot_at(side as usize, i, taken, at + 1)
+        }
+        Node::Sequence(p, q) => {
+            let part = node_at(kind, first, second, p as usize);
+            let Node::Leaf(leaf) = part else {
+                return spot_at(l, i, taken, at);
+            };
+            let one = sweep_leaf(leaf, tape, i, code, at);
+            let flag = flag_behind(taken, i, one.position);
+            spot_at(q as usize, one.position, flag, one.at)
+        }
+        Node::Leaf(_) => spot_at(l, i, taken, at),
+        Node::Star(_) => spot_at(l, i, taken, at),
+    }
+}
+
+// All moves from node l on that need no call for a part, in a loop.
+fn advance(
+    kind: &[u8; 64],
+    first: &[u8; 64],
+    second: &[u8; 64],
+    words: &[u64],
+    tape: &[u8],
+    l: usize,
+    i: usize,
+    taken: bool,
+    code: &mut [u8],
+    at: u32,
+) -> Spot
+    requires { ⌜ Good (now kind) (now first) (now second) ⌝ }
+    requires { ⌜ l < 64 ⌝ }
+    requires { ⌜ Ready (now kind) (now first) (now second) (now words) (now tape) l i taken at ⌝ }
+    ensures { λ r.
+        ⌜ Advanced (now (kind .entry)) (now (first .entry)) (now (second .entry)) (now (words .entry)) (now (tape .entry)) l i taken at (now (code .entry)) (now (code .exit)) r ⌝ }
+{
+    let mut here = l;
+    let mut j = i;
+    let mut flag = taken;
+    let mut bit = at;
+    loop {
+        let next = move_on(kind, first, second, words, tape, here, j, flag, code, bit);
+        if next.node == here {
+            return next;
+        }
+        here = next.node;
+        j = next.position;
+        flag = next.taken;
+        bit = next.at;
+    }
+}
+
 // Reads node l from position i on and writes its bits from bit `at` on. `taken` is the flag. Rounds are a loop, so that calls go no
 // deeper than the tree.
 pub fn sweep(
@@ -107,9 +203,10 @@ pub fn sweep(
     ensures { λ r.
         ⌜ Swept-all (now (kind .entry)) (now (first .entry)) (now (second .entry)) (now (words .entry)) (now (tape .entry)) l i taken at (now (code .entry)) (now (code .exit)) r ⌝ }
 {
-    let node = node_at(kind, first, second, l);
+    let spot = advance(kind, first, second, words, tape, l, i, taken, code, at);
+    let node = node_at(kind, first, second, spot.node);
     match node {
-        Node::Leaf(leaf) => sweep_leaf(leaf, tape, i, code, at),
+        Node::Leaf(leaf) => sweep_leaf(leaf, tape, spot.position, code, spot.at),
         Node::Sequence(p, q) => {
             let one = sweep(
                 kind,
@@ -118,12 +215,12 @@ pub fn sweep(
                 words,
                 tape,
                 p as usize,
-                i,
-                taken,
+                spot.position,
+                spot.taken,
                 code,
-                at,
+                spot.at,
             );
-            let flag = flag_behind(taken, i, one.position);
+            let flag = flag_behind(spot.taken, spot.position, one.position);
             sweep(
                 kind,
                 first,
@@ -137,26 +234,14 @@ pub fn sweep(
                 one.at,
             )
         }
-        Node::Alternative(p, q) => {
-            let left = is_open(words, i, taken, p as usize);
-            put_bit(code, at, !left);
-            let side = side_of(left, p, q);
-            sweep(
-                kind,
-                first,
-                second,
-                words,
-                tape,
-                side as usize,
-                i,
-                taken,
-                code,
-                at + 1,
-            )
-        }
+        // `advance` leaves no alternative
+        Node::Alternative(_, _) => Swept {
+            position: spot.position,
+            at: spot.at,
+        },
         Node::Star(p) => {
-            let mut j = i;
-            let mut bit = at;
+            let mut j = spot.position;
+            let mut bit = spot.at;
             loop {
                 if !is_open(words, j, false, p as usize) {
                     put_bit(code, bit, true);
