@@ -42,8 +42,8 @@ static uint64_t parse_of(const uint8_t *what, size_t letters, size_t cells) {
 static void p_parse(void) { sink = parse_of(tape, n, CELLS); }
 static void p_unread(void) { sink = parse_of(unread, n, CELLS); }
 static void p_tests(void) { sink = parse_of(tape, n, 0); }
-static void p_empty(void) { sink = parse_of(tape, 0, CELLS); }
-static void p_empty_tests(void) { sink = parse_of(tape, 0, 0); }
+static void p_one(void) { sink = parse_of(unread, 1, CELLS); }
+static void p_one_tests(void) { sink = parse_of(unread, 1, 0); }
 static void p_walk(void) { sink = bench_flatten(text, size, codes[0], bytes, bits, spelled[0], 0); }
 static void p_spell(void) { sink = bench_flatten(text, size, codes[0], bytes, bits, spelled[0], LETTERS); }
 static void p_total(void) { sink = bench_total(text, size, codes[0], bytes, bits, 1); }
@@ -95,6 +95,8 @@ static Time minus(Time a, Time b) { return (Time){a.shortest - b.shortest, a.med
 
 typedef struct {
   void (*call)(void);
+  void (*call_with)(int);  // where `call` is 0
+  int with;
   Time time;
 } Job;
 
@@ -111,7 +113,8 @@ static void time_jobs(Job *jobs, int count, double budget) {
   while (rounds < ROUNDS && (rounds < 3 || now() - start < budget)) {
     for (int k = 0; k < count; k++) {
       double begun = now();
-      jobs[k].call();
+      if (jobs[k].call) jobs[k].call();
+      else jobs[k].call_with(jobs[k].with);
       took[k][rounds] = now() - begun;
     }
     rounds++;
@@ -175,20 +178,17 @@ static void row(const char *pattern, const char *work, Time p, Time c, double bo
 }
 
 static void against_c(const char *name, double fill_bound) {
-  enum { LOAD, PARSE, PARSE_C, UNREAD, FILL_C, TESTS, EMPTY, MASKS_C, EMPTY_TESTS, MASKS_FILL_C, WALK, WALK_C, SPELL, CHECK_SPELL_C, SPELL_C,
+  enum { LOAD, PARSE, PARSE_C, UNREAD, FILL_C, TESTS, ONE, MASKS_C, ONE_TESTS, MASKS_FILL_C, WALK, WALK_C, SPELL, CHECK_SPELL_C, SPELL_C,
          TOTAL, TOTAL_C, SETTLE, SETTLE_C, COUNT };
-  Job j[COUNT] = {{p_load}, {p_parse}, {c_parse}, {p_unread}, {c_fill}, {p_tests}, {p_empty}, {c_masks}, {p_empty_tests}, {c_masks_fill},
+  Job j[COUNT] = {{p_load}, {p_parse}, {c_parse}, {p_unread}, {c_fill}, {p_tests}, {p_one}, {c_masks}, {p_one_tests}, {c_masks_fill},
                   {p_walk}, {c_walk}, {p_spell}, {c_check_spell}, {c_spell}, {p_total}, {c_total}, {p_settle}, {c_settle}};
-  // p_unread and p_parse write the words and the code anew each time; p_empty leaves a code of no letters, so the code is made again.
-  time_jobs(j, WALK, 2e6);
-  p_parse();
-  time_jobs(j + WALK, COUNT - WALK, 2e6);
-  p_parse();
-  Time load = j[LOAD].time, masks_p = minus(j[EMPTY].time, j[EMPTY_TESTS].time), sweep = minus(j[UNREAD].time, j[TESTS].time);
+  time_jobs(j, COUNT, 5e6);
+  Time load = j[LOAD].time, masks_p = minus(j[ONE].time, j[ONE_TESTS].time), sweep = minus(j[UNREAD].time, j[TESTS].time);
   row(name, "first sweep, letters alone", minus(sweep, masks_p), j[FILL_C].time, fill_bound);
   row(name, "masks", masks_p, j[MASKS_C].time, 0);
   row(name, "first sweep with masks", sweep, j[MASKS_FILL_C].time, fill_bound);
   row(name, "first sweep with masks and tests", minus(j[UNREAD].time, load), j[MASKS_FILL_C].time, 0);
+  row(name, "second sweep (C writes at once)", minus(j[PARSE].time, j[UNREAD].time), minus(j[PARSE_C].time, j[MASKS_FILL_C].time), 0);
   row(name, "parse: both sweeps, masks, all tests", minus(j[PARSE].time, load), j[PARSE_C].time, 2);
   row(name, "walk of a code", minus(j[WALK].time, load), j[WALK_C].time, 3);
   row(name, "spell (C checks the code too)", minus(j[SPELL].time, load), j[CHECK_SPELL_C].time, 0);
@@ -197,17 +197,25 @@ static void against_c(const char *name, double fill_bound) {
   row(name, "settle (C checks the code too)", minus(j[SETTLE].time, load), j[SETTLE_C].time, 0);
 }
 
-static void against_matchers(const char *name) {
-  Job jobs[2 + MATCHERS] = {{p_load}, {p_parse}};
-  int of[MATCHERS], count = 2;
+static void matcher_row(const char *pattern, const char *matcher, Time parse, Time m, int bound) {
+  double ratio = parse.shortest / m.shortest;
+  printf("| %s | %s | %.1f (%.1f) | %.1f (%.1f) | %.2f (%.2f) |%s |\n", pattern, matcher, parse.shortest, parse.median, m.shortest, m.median,
+         ratio, parse.median / m.median, !bound ? "" : ratio < 1 ? " below 1: met" : " below 1: NOT MET");
+  wanting += bound && ratio >= 1;
+}
+
+// `reads` is what a matcher has to say of the tape.
+static void against_matchers(const char *name, int reads) {
+  Job jobs[3 + MATCHERS] = {{p_load}, {p_parse}, {reads ? c_parse : c_masks_fill}};
+  int of[MATCHERS], count = 3;
   write_expression(&table, expression);
   make_matchers(expression, matchers);
   for (int k = 0; k < MATCHERS; k++) {
     if (!matchers[k].made) continue;
-    if (!matchers[k].match(matchers[k].made, tape, n)) {
+    int said = ask(&matchers[k], tape, n);
+    if (said != reads) {
       matchers[k].made = 0;
-      matchers[k].why = *gave_up() ? gave_up() : "says that the tape does not match";
-      matchers[k].why = strdup(matchers[k].why);
+      if (said >= 0) matchers[k].why = "answers wrongly";
       continue;
     }
     of[k] = count;
@@ -215,43 +223,70 @@ static void against_matchers(const char *name) {
   }
   time_jobs(jobs, count, 4e6);
   Time parse = minus(jobs[1].time, jobs[0].time);
+  matcher_row(name, "(C of the same sweeps)", parse, jobs[2].time, 0);
   for (int k = 0; k < MATCHERS; k++) {
-    if (!matchers[k].made) {
-      printf("| %s | %s | %.1f (%.1f) | %s | | |\n", name, matchers[k].name, parse.shortest, parse.median, matchers[k].why);
-      continue;
-    }
-    Time m = jobs[of[k]].time;
-    double ratio = parse.shortest / m.shortest;
-    int bound = k == 2 || k == 4;
-    printf("| %s | %s | %.1f (%.1f) | %.1f (%.1f) | %.2f (%.2f) |%s |\n", name, matchers[k].name, parse.shortest, parse.median, m.shortest,
-           m.median, ratio, parse.median / m.median, !bound ? "" : ratio < 1 ? " below 1: met" : " below 1: NOT MET");
-    wanting += bound && ratio >= 1;
+    if (matchers[k].made) matcher_row(name, matchers[k].name, parse, jobs[of[k]].time, reads && (k == 2 || k == 4));
+    else printf("| %s | %s | %.1f (%.1f) | %s | | |\n", name, matchers[k].name, parse.shortest, parse.median, matchers[k].why);
   }
 }
 
-static Time parse_time(Time *c) {
-  Job j[] = {{p_load}, {p_parse}, {c_parse}};
-  compare();
-  time_jobs(j, 3, 5e5);
-  *c = j[2].time;
-  return minus(j[1].time, j[0].time);
+// Patterns of several sizes with tapes of several lengths, all of them taking turns. Of shorter tapes a turn reads several, 3,600 letters
+// together, so that no case is short enough for the processor to learn by heart.
+enum { CASES = 7 };
+static const int grown_nodes[CASES] = {64, 64, 64, 64, 16, 32, 64}, grown_letters[CASES] = {450, 900, 1800, 3600, 3600, 3600, 3600};
+static struct {
+  Table table;
+  uint8_t text[8192], tapes[LETTERS];
+  size_t size, n;
+} cases[CASES];
+
+static void grown_load(int k) {
+  for (size_t i = 0; i < LETTERS; i += cases[k].n) sink = bench_load(cases[k].text, cases[k].size);
+}
+static void grown_parse(int k) {
+  for (size_t i = 0; i < LETTERS; i += cases[k].n)
+    sink = bench_parse(cases[k].text, cases[k].size, cases[k].tapes + i, cases[k].n, words[0], CELLS, codes[0], BYTES);
+}
+static void grown_c(int k) {
+  for (size_t i = 0; i < LETTERS; i += cases[k].n) {
+    make_masks(&cases[k].table, &masks);
+    fill_words(&masks, cases[k].tapes + i, cases[k].n, words[1]);
+    sink = write_code(&cases[k].table, words[1], cases[k].tapes + i, codes[1]);
+  }
+}
+
+static void grow(int k, void (*pattern)(Table *, int)) {
+  pattern(&table, grown_nodes[k]);
+  cases[k].table = table;
+  cases[k].n = grown_letters[k];
+  for (size_t i = 0; i < LETTERS; i += n) {
+    take(grown_letters[k], 12);
+    compare();
+    memcpy(cases[k].tapes + i, tape, n);
+  }
+  memcpy(cases[k].text, text, size);
+  cases[k].size = size;
 }
 
 static void growth(const char *name, void (*pattern)(Table *, int)) {
-  static const int lengths[] = {450, 900, 1800, 3600}, sizes[] = {16, 32, 64};
-  Time c;
-  for (int k = 0; k < 4; k++) {
-    pattern(&table, 64);
-    take(lengths[k], 12);
-    Time p = parse_time(&c);
-    printf("| %s | 64 | %zu | %.1f (%.1f) | %.1f | | %.1f |\n", name, n, p.shortest, p.median, 1e3 * p.shortest / n, c.shortest);
+  Job jobs[3 * CASES];
+  for (int k = 0; k < CASES; k++) {
+    grow(k, pattern);
+    jobs[3 * k] = (Job){0, grown_load, k, {0, 0}};
+    jobs[3 * k + 1] = (Job){0, grown_parse, k, {0, 0}};
+    jobs[3 * k + 2] = (Job){0, grown_c, k, {0, 0}};
   }
-  for (int k = 0; k < 3; k++) {
-    pattern(&table, sizes[k]);
-    take(LETTERS, 12);
-    Time p = parse_time(&c);
-    printf("| %s | %d | %zu | %.1f (%.1f) | %.1f | %.2f | %.1f |\n", name, sizes[k], n, p.shortest, p.median, 1e3 * p.shortest / n,
-           1e3 * p.shortest / n / sizes[k], c.shortest);
+  time_jobs(jobs, 3 * CASES, 8e6);
+  double before = 0;
+  for (int k = 0; k < CASES; k++) {
+    double tapes = LETTERS / cases[k].n, letters = cases[k].n;
+    Time p = minus(jobs[3 * k + 1].time, jobs[3 * k].time), c = jobs[3 * k + 2].time;
+    double each = p.shortest / tapes;
+    printf("| %s | %d | %zu | %.1f (%.1f) | %.1f |", name, grown_nodes[k], cases[k].n, each, p.median / tapes, 1e3 * each / letters);
+    if (0 < k && k < 4) printf(" %.1f |", 1e3 * (each - before) / (letters / 2));
+    else printf(" |");
+    printf(" %.2f | %.1f (%.1f) |\n", 1e3 * each / letters / grown_nodes[k], c.shortest / tapes, c.median / tapes);
+    before = each;
   }
 }
 
@@ -290,7 +325,7 @@ static const struct {
   void (*make)(void);
   double fill_bound;
   unsigned lefts;
-} patterns[] = {{"meter tape", meter, 2, 12}, {"hostile", hostile, 3, 12}, {"stress", stress, 0, 1}};
+} patterns[] = {{"meter tape", meter, 2, 12}, {"hostile", hostile, 3, 12}, {"stress", stress, 2, 1}};
 
 static void pattern(int k) {
   patterns[k].make();
@@ -298,11 +333,26 @@ static void pattern(int k) {
   compare();
 }
 
+// A tape that the meter's pattern does not read: a restart, and stale litres to the end.
+static void never_closed(void) {
+  pattern(0);
+  memset(tape, '7', n);
+  tape[0] = 'X';
+  memcpy(unread, tape, n);
+  same("cause 5", parse_of(tape, n, CELLS) == 5ull << 32);
+}
+
+// For other tools: `bench text K` and `bench tape K` write pattern K's, `bench loop K` parses its tape for five seconds.
+static int single(const char *what, int k) {
+  pattern(k);
+  for (double start = now(); !strcmp(what, "loop") && now() - start < 5e6;) p_parse();
+  if (!strcmp(what, "text")) fwrite(text, size, 1, stdout);
+  if (!strcmp(what, "tape")) fwrite(tape, n, 1, stdout);
+  return 0;
+}
+
 int main(int argc, char **argv) {
-  if (argc > 1) {  // bench TEXT-OR-TAPE NUMBER: a pattern's text, or its tape, for other tools
-    pattern(argc > 2 ? atoi(argv[2]) % 3 : 0);
-    return !fwrite(argv[1][1] == 'e' ? text : tape, argv[1][1] == 'e' ? size : n, 1, stdout);
-  }
+  if (argc > 2) return single(argv[1], atoi(argv[2]) % 3);
   puts("### Against hand-written C: 64 nodes, 3,600 letters\n");
   puts("| Pattern | Work | Proved, µs | C, µs | Ratio | Bound |");
   puts("|---|---|---|---|---|---|");
@@ -310,10 +360,12 @@ int main(int argc, char **argv) {
   puts("\n### Against matchers: 64 nodes, 3,600 letters\n");
   puts("| Pattern | Matcher | Parse, µs | Matcher, µs | Ratio | Bound |");
   puts("|---|---|---|---|---|---|");
-  for (int k = 0; k < 3; k++) pattern(k), against_matchers(patterns[k].name);
+  for (int k = 0; k < 3; k++) pattern(k), against_matchers(patterns[k].name, 1);
+  never_closed();
+  against_matchers("meter tape, restart never closed", 0);
   puts("\n### Growth of parsing\n");
-  puts("| Pattern | Nodes | Letters | Parse, µs | ns a letter | ns a letter and node | C, µs |");
-  puts("|---|---|---|---|---|---|---|");
+  puts("| Pattern | Nodes | Letters | Parse, µs | ns a letter | ns a letter more than in the row above | ns a letter and node | C, µs |");
+  puts("|---|---|---|---|---|---|---|---|");
   growth("meter tape", meter_pattern);
   growth("hostile", hostile_pattern);
   puts("\n### Stack: bytes that a call changes, with the load before it\n");

@@ -4,8 +4,15 @@
 #include <stdio.h>
 #include <string.h>
 
-static char words[128];
-const char *gave_up(void) { return words; }
+static const char *gave_up;  // how the last match was given up, 0 if it was not
+
+int ask(Matcher *m, const uint8_t *tape, size_t n) {
+  gave_up = 0;
+  int found = m->match(m->made, tape, n);
+  if (!gave_up) return found;
+  m->why = gave_up;
+  return -1;
+}
 
 typedef struct {
   void *code, *data, *context;
@@ -16,14 +23,15 @@ static int (*pcre_match_fn)(void *, const uint8_t *, size_t, size_t, uint32_t, v
 static int pcre_match(void *made, const uint8_t *tape, size_t n) {
   Pcre *p = made;
   int found = pcre_match_fn(p->code, tape, n, 0, 0, p->data, p->context);
-  words[0] = 0;
-  if (found >= 0) return 1;
-  if (found == -46) strcpy(words, "gives up: its JIT stack of 16 MB is full");
-  else if (found == -47) strcpy(words, "gives up: its limit of match steps");
-  else if (found == -53) strcpy(words, "gives up: its limit of depth");
-  else if (found == -63) strcpy(words, "gives up: its limit of heap");
-  else if (found != -1) sprintf(words, "gives up: its error %d", found);
-  return 0;
+  switch (found) {
+    case -1: return 0;
+    case -46: gave_up = "gives up: its JIT stack of 16 MB is full"; return 0;
+    case -47: gave_up = "gives up: its limit of match steps"; return 0;
+    case -53: gave_up = "gives up: its limit of depth"; return 0;
+    case -63: gave_up = "gives up: its limit of heap"; return 0;
+  }
+  if (found < 0) gave_up = "gives up with another error";
+  return found >= 0;
 }
 
 // By name: no header is needed.
@@ -78,7 +86,6 @@ static void make_built(const char *file, const char *prefix, const char *express
 
 void make_matchers(const char *expression, Matcher m[MATCHERS]) {
   memset(m, 0, MATCHERS * sizeof *m);
-  words[0] = 0;
   m[0].name = "PCRE2, groups";
   m[1].name = "PCRE2 with JIT, groups";
   m[2].name = "RE2, groups";

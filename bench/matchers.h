@@ -16,6 +16,6 @@ enum { MATCHERS = 6 };
 // PCRE2, the same with its JIT, RE2 with groups and without, Rust's regex with groups and without.
 void make_matchers(const char *expression, Matcher matchers[MATCHERS]);
 
-// In words: what a matcher that does not match says of it, "" if it says only that it does not.
-const char *gave_up(void);
+// What a matcher says of a tape, 1 or 0; or -1, and `why` says how it gave up.
+int ask(Matcher *m, const uint8_t *tape, size_t n);
 #endif

@@ -152,6 +152,15 @@ size_t write_text(const Table *t, char *text) {
 
 static char *write_byte(char *s, int c) { return s + sprintf(s, isalnum(c) ? "%c" : "\\x%02x", c); }
 
+static char *write_node(const Table *t, char *s, int l);
+
+static char *write_part(const Table *t, char *s, int l) {
+  *s++ = '(';
+  s = write_node(t, s, l);
+  *s++ = ')';
+  return s;
+}
+
 static char *write_node(const Table *t, char *s, int l) {
   Node d = t->node[l];
   switch (d.kind) {
@@ -165,13 +174,13 @@ static char *write_node(const Table *t, char *s, int l) {
       *s++ = ']';
       return s;
   }
-  *s++ = '(';
-  s = write_node(t, s, d.first);
+  s = write_part(t, s, d.first);
+  if (d.kind == 'K') {
+    *s++ = '*';
+    return s;
+  }
   if (d.kind == 'A') *s++ = '|';
-  if (d.kind == 'K') *s++ = '*';
-  else s = write_node(t, s, d.second);
-  *s++ = ')';
-  return s;
+  return write_part(t, s, d.second);
 }
 
 void write_expression(const Table *t, char *expression) { *write_node(t, expression, t->count - 1) = 0; }

@@ -9,7 +9,7 @@ void stress_pattern(Table *t);              // one of 31 letters, in 3 nested st
 
 size_t write_text(const Table *t, char *text);
 
-// The same expression for a matcher: one group for each sequence, choice and star, so that it shows where these were last.
+// The same expression for a matcher, a group around each part, so that it says where each node was last.
 void write_expression(const Table *t, char *expression);
 
 // A random tape of exactly n letters that the pattern reads; 0 if it reads none of that length. Of 16 choices that are free, `lefts` go
