@@ -136,7 +136,10 @@ static void same(const char *what, int equal) {
 static void take(size_t letters, unsigned lefts) {
   n = letters;
   size = write_text(&table, (char *)text);
-  same("no tape of this length", random_tape(&table, n, lefts, tape));
+  if (!random_tape(&table, n, lefts, tape)) {
+    printf("the pattern reads no tape of %zu letters\n", n);
+    exit(1);
+  }
   memcpy(unread, tape, n);
   unread[0] = '~';
 }
@@ -154,7 +157,7 @@ static void compare(void) {
   same("the bit count", bits == sink);
   same("words", !memcmp(words[0], words[1], 16 * (n + 1)));
   same("the code", !memcmp(codes[0], codes[1], bytes));
-  same("the walk", bench_flatten(text, size, codes[0], bytes, bits, 0, 0) == (9ull << 32) + n);
+  same("the walk", bench_flatten(text, size, codes[0], bytes, bits, spelled[0], 0) == (9ull << 32) + n);
   same("C's walk", check_code(&table, codes[0], bytes, bits) == (int)n && check_code(&table, codes[0], bytes, bits - 1) < 0);
   p_spell();
   same("the letter count", sink == n && spell(&table, codes[0], spelled[1]) == n);
