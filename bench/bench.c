@@ -1,73 +1,84 @@
-// Times the proved reader against the hand-written C of reader.c and PCRE2, in one run; prints ratios of the shortest times.
+// Times the proved reader against the C of reader.c and against matchers, all in one run, and prints tables. Before a time is taken all
+// results are compared. Calls that are compared take turns; of each the shortest and the median time are kept.
 #define _GNU_SOURCE
+#include "matchers.h"
+#include "patterns.h"
 #include "reader.h"
-#include <ctype.h>
-#include <dlfcn.h>
 #include <stdio.h>
 #include <stdlib.h>
 #include <string.h>
 #include <time.h>
+#include <ucontext.h>
 
-// Services of the proved reader: a slice is a pointer and a length. 4294967295 is a refusal.
-uint32_t bench_load(const uint8_t *text, size_t size);
-uint32_t bench_parse(const uint8_t *text, size_t size, const uint8_t *tape, size_t n, uint64_t *words, size_t cells,
+// Services of the proved reader on a pattern's text: a slice is a pointer and a length. An answer is told in one number, the number of
+// the cause (0: none) in the high half and the value beside it in the low half.
+uint64_t bench_load(const uint8_t *text, size_t size);
+uint64_t bench_parse(const uint8_t *text, size_t size, const uint8_t *tape, size_t n, uint64_t *words, size_t cells,
                      uint8_t *code, size_t bytes);
-uint32_t bench_flatten(const uint8_t *text, size_t size, const uint8_t *code, size_t bytes, uint32_t count,
+uint64_t bench_flatten(const uint8_t *text, size_t size, const uint8_t *code, size_t bytes, uint32_t count,
                        uint8_t *tape, size_t n);
+uint32_t bench_total(const uint8_t *text, size_t size, const uint8_t *code, size_t bytes, uint32_t count, size_t account);
+uint64_t bench_canonicalize(const uint8_t *text, size_t size, const uint8_t *code, size_t bytes, uint32_t count,
+                            uint8_t *tape, size_t n, uint64_t *words, size_t cells, uint8_t *canonical, size_t room);
 
-enum { LETTERS = 3600, CELLS = 2 * (LETTERS + 1), BYTES = 65536, RUNS = 300 };
+enum { LETTERS = 3600, CELLS = 2 * (LETTERS + 1), BYTES = 65536, ROUNDS = 2000, JOBS = 24 };
 
+// Side 0 is the proved reader's, side 1 C's. The code that walks are given is that of side 0.
 static Table table;
-static uint8_t tape[LETTERS], spelled[2][LETTERS], codes[2][BYTES];
+static Masks masks;
+static uint8_t text[8192], tape[LETTERS], unread[LETTERS], spelled[2][LETTERS], codes[2][BYTES + 8], settled[2][BYTES + 8];
 static uint64_t words[2][CELLS];
-static char text[8192], expression[8192];
-static size_t size;
+static uint32_t litres[10], bits;
+static size_t size, n, bytes;
+static char expression[8192];
+static volatile uint64_t sink;
+static int wanting;  // bounds that are not met
 
-static int add(char kind, int first, int second) {
-  int l = table.count++;
-  table.kind[l] = kind;
-  table.first[l] = first;
-  table.second[l] = second;
-  return l;
+// Calls of the proved reader.
+static void p_load(void) { sink = bench_load(text, size); }
+static uint64_t parse_of(const uint8_t *what, size_t letters, size_t cells) {
+  return bench_parse(text, size, what, letters, words[0], cells, codes[0], BYTES);
+}
+static void p_parse(void) { sink = parse_of(tape, n, CELLS); }
+static void p_unread(void) { sink = parse_of(unread, n, CELLS); }
+static void p_tests(void) { sink = parse_of(tape, n, 0); }
+static void p_one(void) { sink = parse_of(unread, 1, CELLS); }
+static void p_one_tests(void) { sink = parse_of(unread, 1, 0); }
+static void p_walk(void) { sink = bench_flatten(text, size, codes[0], bytes, bits, spelled[0], 0); }
+static void p_spell(void) { sink = bench_flatten(text, size, codes[0], bytes, bits, spelled[0], LETTERS); }
+static void p_total(void) { sink = bench_total(text, size, codes[0], bytes, bits, 1); }
+static void p_settle(void) {
+  sink = bench_canonicalize(text, size, codes[0], bytes, bits, spelled[0], LETTERS, words[0], CELLS, settled[0], BYTES);
 }
 
-static void write_text(void) {
-  char *s = text;
-  for (int l = 0; l < table.count; l++) {
-    s += sprintf(s, "%d\t%c\t-", l, table.kind[l]);
-    int a = table.first[l], b = table.second[l];
-    switch (table.kind[l]) {
-      case 'L': s += sprintf(s, "\t%c", a); break;
-      case 'R': s += sprintf(s, "\t%c\t%c", a, b); break;
-      case 'K': s += sprintf(s, "\t%d", a); break;
-      case 'S':
-      case 'A': s += sprintf(s, "\t%d\t%d", a, b); break;
-    }
-    *s++ = '\n';
-  }
-  size = s - text;
+// The same by hand.
+static void c_masks(void) { make_masks(&table, &masks); }
+static void c_fill(void) { fill_words(&masks, unread, n, words[1]); }
+static void c_masks_fill(void) { c_masks(), c_fill(); }
+static void c_parse(void) {
+  make_masks(&table, &masks);
+  fill_words(&masks, tape, n, words[1]);
+  sink = write_code(&table, words[1], tape, codes[1]);
+}
+static void c_walk(void) { sink = check_code(&table, codes[0], bytes, bits); }
+static void c_spell(void) { sink = spell(&table, codes[0], spelled[1]); }
+static void c_check_spell(void) { c_walk(), c_spell(); }
+static void c_total(void) { c_walk(), charge(&table, codes[0], litres); }
+static void c_settle(void) {
+  c_walk(), c_spell();
+  make_masks(&table, &masks);
+  fill_words(&masks, spelled[1], n, words[1]);
+  sink = write_code(&table, words[1], spelled[1], settled[1]);
 }
 
-// The same expression for a matcher, a group around each sequence, choice and star.
-static char *write_expression(char *s, int l) {
-  int a = table.first[l], b = table.second[l];
-  switch (table.kind[l]) {
-    case 'L': return s + sprintf(s, isalnum(a) ? "%c" : "\\%c", a);
-    case 'R': return s + sprintf(s, isalnum(a) && isalnum(b) ? "[%c-%c]" : "[\\%c-\\%c]", a, b);
-    case 'K':
-      s = write_expression(s + sprintf(s, "("), a);
-      return s + sprintf(s, ")*");
-    case 'S':
-      s = write_expression(s + sprintf(s, "("), a);
-      s = write_expression(s, b);
-      return s + sprintf(s, ")");
-    case 'A':
-      s = write_expression(s + sprintf(s, "("), a);
-      s = write_expression(s + sprintf(s, "|"), b);
-      return s + sprintf(s, ")");
-  }
-  return s;
-}
+static Matcher matchers[MATCHERS];
+static void m_0(void) { sink = matchers[0].match(matchers[0].made, tape, n); }
+static void m_1(void) { sink = matchers[1].match(matchers[1].made, tape, n); }
+static void m_2(void) { sink = matchers[2].match(matchers[2].made, tape, n); }
+static void m_3(void) { sink = matchers[3].match(matchers[3].made, tape, n); }
+static void m_4(void) { sink = matchers[4].match(matchers[4].made, tape, n); }
+static void m_5(void) { sink = matchers[5].match(matchers[5].made, tape, n); }
+static void (*const match_calls[MATCHERS])(void) = {m_0, m_1, m_2, m_3, m_4, m_5};
 
 static double now(void) {
   struct timespec t;
@@ -75,131 +86,295 @@ static double now(void) {
   return t.tv_sec * 1e6 + t.tv_nsec * 1e-3;
 }
 
-#define SHORTEST(into, call)                        \
-  do {                                              \
-    into = 1e18;                                    \
-    for (int run = 0; run < RUNS; run++) {          \
-      double begun = now();                         \
-      call;                                         \
-      __asm__ volatile("" ::: "memory");            \
-      double took = now() - begun;                  \
-      if (took < into) into = took;                 \
-    }                                               \
-  } while (0)
+// Times in microseconds.
+typedef struct {
+  double shortest, median;
+} Time;
+
+static Time minus(Time a, Time b) { return (Time){a.shortest - b.shortest, a.median - b.median}; }
+
+typedef struct {
+  void (*call)(void);
+  void (*call_with)(int);  // where `call` is 0
+  int with;
+  Time time;
+} Job;
+
+static int rising(const void *a, const void *b) {
+  double x = *(const double *)a, y = *(const double *)b;
+  return (x > y) - (x < y);
+}
+
+// Runs the jobs in turns until `budget` microseconds are used up, at least 3 rounds.
+static void time_jobs(Job *jobs, int count, double budget) {
+  static double took[JOBS][ROUNDS];
+  double start = now();
+  int rounds = 0;
+  while (rounds < ROUNDS && (rounds < 3 || now() - start < budget)) {
+    for (int k = 0; k < count; k++) {
+      double begun = now();
+      if (jobs[k].call) jobs[k].call();
+      else jobs[k].call_with(jobs[k].with);
+      took[k][rounds] = now() - begun;
+    }
+    rounds++;
+  }
+  for (int k = 0; k < count; k++) {
+    qsort(took[k], rounds, sizeof(double), rising);
+    jobs[k].time = (Time){took[k][0], took[k][rounds / 2]};
+  }
+}
 
 static void same(const char *what, int equal) {
-  if (!equal) {
-    printf("the two readers differ: %s\n", what);
+  if (equal) return;
+  printf("the two readers differ: %s\n", what);
+  exit(1);
+}
+
+// Takes the table over, with a random tape of so many letters that it reads, and that tape with a first letter that no leaf takes: all
+// words of it are filled, and no code is written.
+static void take(size_t letters, unsigned lefts) {
+  n = letters;
+  size = write_text(&table, (char *)text);
+  if (!random_tape(&table, n, lefts, tape)) {
+    printf("the pattern reads no tape of %zu letters\n", n);
     exit(1);
   }
+  memcpy(unread, tape, n);
+  unread[0] = '~';
 }
 
-// PCRE2 by name, where it is installed: no header is needed.
-static double matcher_time(void) {
-  void *lib = dlopen("libpcre2-8.so.0", RTLD_NOW);
-  if (!lib) return 0;
-  void *(*compile)(const char *, size_t, uint32_t, int *, size_t *, void *) = dlsym(lib, "pcre2_compile_8");
-  void *(*room)(void *, void *) = dlsym(lib, "pcre2_match_data_create_from_pattern_8");
-  int (*match)(void *, const uint8_t *, size_t, size_t, uint32_t, void *, void *) = dlsym(lib, "pcre2_match_8");
-  int error;
-  size_t where;
-  const uint32_t anchored = 0x80000000u, whole = 0x20000000u;
-  void *made = compile(expression, strlen(expression), anchored | whole, &error, &where, 0);
-  if (!made) return 0;
-  void *data = room(made, 0);
-  int found = match(made, tape, LETTERS, 0, 0, data, 0);
-  if (found < 0) {
-    printf("  PCRE2 gives up on this tape with its error %d\n", found);
-    return 0;
+static void compare(void) {
+  same("the line count", bench_load(text, size) == (uint64_t)table.count);
+  c_masks();
+  same("cause 5", parse_of(unread, n, CELLS) == 5ull << 32);
+  fill_words(&masks, unread, n, words[1]);
+  same("words of a tape that does not read", !memcmp(words[0], words[1], 16 * (n + 1)));
+  same("cause 6", parse_of(tape, n, 0) == (6ull << 32) + 2 * (n + 1));
+  bits = parse_of(tape, n, CELLS);
+  bytes = (bits + 7) / 8;
+  c_parse();
+  same("the bit count", bits == sink);
+  same("words", !memcmp(words[0], words[1], 16 * (n + 1)));
+  same("the code", !memcmp(codes[0], codes[1], bytes));
+  same("the walk", bench_flatten(text, size, codes[0], bytes, bits, spelled[0], 0) == (9ull << 32) + n);
+  same("C's walk", check_code(&table, codes[0], bytes, bits) == (int)n && check_code(&table, codes[0], bytes, bits - 1) < 0);
+  p_spell();
+  same("the letter count", sink == n && spell(&table, codes[0], spelled[1]) == n);
+  same("letters", !memcmp(spelled[0], tape, n) && !memcmp(spelled[1], tape, n));
+  c_total();
+  for (int a = 0; a < 10; a++) same("litres", bench_total(text, size, codes[0], bytes, bits, a) == litres[a]);
+  p_settle();
+  same("the settled bit count", sink == bits);
+  c_settle();
+  same("C's settled bit count", sink == bits);
+  same("the settled code", !memcmp(settled[0], codes[0], bytes) && !memcmp(settled[1], codes[0], bytes));
+}
+
+static void row(const char *pattern, const char *work, Time p, Time c, double bound) {
+  double ratio = p.shortest / c.shortest;
+  printf("| %s | %s | %.1f (%.1f) | %.1f (%.1f) | %.2f (%.2f) |", pattern, work, p.shortest, p.median, c.shortest, c.median, ratio,
+         p.median / c.median);
+  if (bound == 0) printf(" |\n");
+  else printf(" at most %g: %s |\n", bound, ratio <= bound ? "met" : "NOT MET");
+  wanting += bound > 0 && ratio > bound;
+}
+
+static void against_c(const char *name, double fill_bound) {
+  enum { LOAD, PARSE, PARSE_C, UNREAD, FILL_C, TESTS, ONE, MASKS_C, ONE_TESTS, MASKS_FILL_C, WALK, WALK_C, SPELL, CHECK_SPELL_C, SPELL_C,
+         TOTAL, TOTAL_C, SETTLE, SETTLE_C, COUNT };
+  Job j[COUNT] = {{p_load}, {p_parse}, {c_parse}, {p_unread}, {c_fill}, {p_tests}, {p_one}, {c_masks}, {p_one_tests}, {c_masks_fill},
+                  {p_walk}, {c_walk}, {p_spell}, {c_check_spell}, {c_spell}, {p_total}, {c_total}, {p_settle}, {c_settle}};
+  time_jobs(j, COUNT, 5e6);
+  Time load = j[LOAD].time, masks_p = minus(j[ONE].time, j[ONE_TESTS].time), sweep = minus(j[UNREAD].time, j[TESTS].time);
+  row(name, "first sweep, letters alone", minus(sweep, masks_p), j[FILL_C].time, fill_bound);
+  row(name, "masks", masks_p, j[MASKS_C].time, 0);
+  row(name, "first sweep with masks", sweep, j[MASKS_FILL_C].time, fill_bound);
+  row(name, "first sweep with masks and tests", minus(j[UNREAD].time, load), j[MASKS_FILL_C].time, 0);
+  row(name, "second sweep (C writes at once)", minus(j[PARSE].time, j[UNREAD].time), minus(j[PARSE_C].time, j[MASKS_FILL_C].time), 0);
+  row(name, "parse: both sweeps, masks, all tests", minus(j[PARSE].time, load), j[PARSE_C].time, 2);
+  row(name, "walk of a code", minus(j[WALK].time, load), j[WALK_C].time, 3);
+  row(name, "spell (C checks the code too)", minus(j[SPELL].time, load), j[CHECK_SPELL_C].time, 0);
+  row(name, "spell (C checks nothing)", minus(j[SPELL].time, load), j[SPELL_C].time, 0);
+  row(name, "totals (C checks the code too)", minus(j[TOTAL].time, load), j[TOTAL_C].time, 0);
+  row(name, "settle (C checks the code too)", minus(j[SETTLE].time, load), j[SETTLE_C].time, 0);
+}
+
+static void matcher_row(const char *pattern, const char *matcher, Time parse, Time m, int bound) {
+  double ratio = parse.shortest / m.shortest;
+  printf("| %s | %s | %.1f (%.1f) | %.1f (%.1f) | %.2f (%.2f) |%s |\n", pattern, matcher, parse.shortest, parse.median, m.shortest, m.median,
+         ratio, parse.median / m.median, !bound ? "" : ratio < 1 ? " below 1: met" : " below 1: NOT MET");
+  wanting += bound && ratio >= 1;
+}
+
+// `reads` is what a matcher has to say of the tape.
+static void against_matchers(const char *name, int reads) {
+  Job jobs[3 + MATCHERS] = {{p_load}, {p_parse}, {reads ? c_parse : c_masks_fill}};
+  int of[MATCHERS], count = 3;
+  write_expression(&table, expression);
+  make_matchers(expression, matchers);
+  for (int k = 0; k < MATCHERS; k++) {
+    if (!matchers[k].made) continue;
+    int said = ask(&matchers[k], tape, n);
+    if (said != reads) {
+      matchers[k].made = 0;
+      if (said >= 0) matchers[k].why = "answers wrongly";
+      continue;
+    }
+    of[k] = count;
+    jobs[count++].call = match_calls[k];
   }
-  double t;
-  SHORTEST(t, match(made, tape, LETTERS, 0, 0, data, 0));
-  return t;
-}
-
-// A tape that reads, the same tape with a first letter that no leaf takes (so that all words are filled, and no code written), and its code.
-static void measure(const char *name) {
-  static Masks masks;
-  uint32_t bits, bits_c = 0;
-  double load, none, parse, fill, flatten, masks_c, parse_c, fill_c, flatten_c;
-  write_text();
-  *write_expression(expression, table.count - 1) = 0;
-  printf("%s: %d nodes, %d letters\n", name, table.count, LETTERS);
-
-  bits = bench_parse((uint8_t *)text, size, tape, LETTERS, words[0], CELLS, codes[0], BYTES);
-  make_masks(&table, &masks);
-  fill_words(&masks, tape, LETTERS, words[1]);
-  bits_c = write_code(&table, words[1], tape, codes[1]);
-  same("words", !memcmp(words[0], words[1], sizeof words[0]));
-  same("bit counts", bits == bits_c);
-  same("codes", !memcmp(codes[0], codes[1], (bits + 7) / 8));
-
-  SHORTEST(load, bench_load((uint8_t *)text, size));
-  SHORTEST(none, bench_parse((uint8_t *)text, size, tape, 0, words[0], CELLS, codes[0], BYTES));
-  SHORTEST(parse, bench_parse((uint8_t *)text, size, tape, LETTERS, words[0], CELLS, codes[0], BYTES));
-  SHORTEST(flatten, bench_flatten((uint8_t *)text, size, codes[0], (bits + 7) / 8, bits, spelled[0], LETTERS));
-  SHORTEST(parse_c, (make_masks(&table, &masks), fill_words(&masks, tape, LETTERS, words[1]),
-                     write_code(&table, words[1], tape, codes[1])));
-  SHORTEST(masks_c, make_masks(&table, &masks));
-  SHORTEST(flatten_c, spell(&table, codes[1], spelled[1]));
-  same("spelling", !memcmp(spelled[0], tape, LETTERS) && !memcmp(spelled[1], tape, LETTERS));
-  double matcher = matcher_time();
-
-  uint8_t kept = tape[0];
-  tape[0] = '~';
-  same("refusal", bench_parse((uint8_t *)text, size, tape, LETTERS, words[0], CELLS, codes[0], BYTES) == 4294967295u);
-  SHORTEST(fill, bench_parse((uint8_t *)text, size, tape, LETTERS, words[0], CELLS, codes[0], BYTES));
-  SHORTEST(fill_c, fill_words(&masks, tape, LETTERS, words[1]));
-  same("words of an unreadable tape", !memcmp(words[0], words[1], sizeof words[0]));
-  tape[0] = kept;
-
-  printf("  load and test %.1f us (taken off below)\n", load);
-  printf("  tests and masks %.1f us, C's masks %.1f us\n", none - load, masks_c);
-  printf("  first sweep, letters alone: %.1f us, C %.1f us: ratio %.2f\n", fill - none, fill_c, (fill - none) / fill_c);
-  printf("  first sweep, tests and masks with it: %.1f us, C %.1f us: ratio %.2f\n", fill - load, fill_c + masks_c,
-         (fill - load) / (fill_c + masks_c));
-  printf("  parse: %.1f us, C %.1f us: ratio %.2f\n", parse - load, parse_c, (parse - load) / parse_c);
-  if (matcher > 0) printf("  PCRE2 match with groups: %.1f us: ratio %.2f\n", matcher, (parse - load) / matcher);
-  printf("  spell: %.1f us, C %.1f us: ratio %.2f\n", flatten - load, flatten_c, (flatten - load) / flatten_c);
-}
-
-static unsigned random_state = 1;
-static unsigned draw(unsigned below) {
-  random_state = random_state * 1103515245u + 12345u;
-  return (random_state >> 16) % below;
-}
-
-// 30 times (a|b), then a, then (a|b)*: every position has many open nodes.
-static void hostile(void) {
-  table.count = 0;
-  int rest = add('K', add('R', 'a', 'b'), 0);
-  int a = add('L', 'a', 0);
-  rest = add('S', a, rest);
-  for (int i = 0; i < 30; i++) {
-    int leaf = add('R', 'a', 'b');
-    rest = add('S', leaf, rest);
+  time_jobs(jobs, count, 4e6);
+  Time parse = minus(jobs[1].time, jobs[0].time);
+  matcher_row(name, "(C of the same sweeps)", parse, jobs[2].time, 0);
+  for (int k = 0; k < MATCHERS; k++) {
+    if (matchers[k].made) matcher_row(name, matchers[k].name, parse, jobs[of[k]].time, reads && (k == 2 || k == 4));
+    else printf("| %s | %s | %.1f (%.1f) | %s | | |\n", name, matchers[k].name, parse.shortest, parse.median, matchers[k].why);
   }
-  for (int i = 0; i < LETTERS; i++) tape[i] = 'a' + draw(2);
-  tape[30] = 'a';
-  measure("hostile");
 }
 
-// Rounds of one of 31 letters, as a tape of readings has them.
-static void records(void) {
-  table.count = 0;
-  int rest = add('L', 'A', 0);
-  for (int i = 1; i < 31; i++) {
-    int leaf = i % 3 ? add('L', 'A' + i, 0) : add('R', 'A' + i, 'A' + i);
-    rest = add('A', leaf, rest);
+// Patterns of several sizes with tapes of several lengths, all of them taking turns. Of shorter tapes a turn reads several, 3,600 letters
+// together, so that no case is short enough for the processor to learn by heart.
+enum { CASES = 7 };
+static const int grown_nodes[CASES] = {64, 64, 64, 64, 16, 32, 64}, grown_letters[CASES] = {450, 900, 1800, 3600, 3600, 3600, 3600};
+static struct {
+  Table table;
+  uint8_t text[8192], tapes[LETTERS];
+  size_t size, n;
+} cases[CASES];
+
+static void grown_load(int k) {
+  for (size_t i = 0; i < LETTERS; i += cases[k].n) sink = bench_load(cases[k].text, cases[k].size);
+}
+static void grown_parse(int k) {
+  for (size_t i = 0; i < LETTERS; i += cases[k].n)
+    sink = bench_parse(cases[k].text, cases[k].size, cases[k].tapes + i, cases[k].n, words[0], CELLS, codes[0], BYTES);
+}
+static void grown_c(int k) {
+  for (size_t i = 0; i < LETTERS; i += cases[k].n) {
+    make_masks(&cases[k].table, &masks);
+    fill_words(&masks, cases[k].tapes + i, cases[k].n, words[1]);
+    sink = write_code(&cases[k].table, words[1], cases[k].tapes + i, codes[1]);
   }
-  while (table.count < 63) rest = add('K', rest, 0);
-  add('K', rest, 0);
-  for (int i = 0; i < LETTERS; i++) tape[i] = 'A' + draw(26);
-  measure("one of 31 letters, in nested stars");
 }
 
-int main(void) {
-  hostile();
-  records();
+static void grow(int k, void (*pattern)(Table *, int)) {
+  pattern(&table, grown_nodes[k]);
+  cases[k].table = table;
+  cases[k].n = grown_letters[k];
+  for (size_t i = 0; i < LETTERS; i += n) {
+    take(grown_letters[k], 12);
+    compare();
+    memcpy(cases[k].tapes + i, tape, n);
+  }
+  memcpy(cases[k].text, text, size);
+  cases[k].size = size;
+}
+
+static void growth(const char *name, void (*pattern)(Table *, int)) {
+  Job jobs[3 * CASES];
+  for (int k = 0; k < CASES; k++) {
+    grow(k, pattern);
+    jobs[3 * k] = (Job){0, grown_load, k, {0, 0}};
+    jobs[3 * k + 1] = (Job){0, grown_parse, k, {0, 0}};
+    jobs[3 * k + 2] = (Job){0, grown_c, k, {0, 0}};
+  }
+  time_jobs(jobs, 3 * CASES, 8e6);
+  double before = 0;
+  for (int k = 0; k < CASES; k++) {
+    double tapes = LETTERS / cases[k].n, letters = cases[k].n;
+    Time p = minus(jobs[3 * k + 1].time, jobs[3 * k].time), c = jobs[3 * k + 2].time;
+    double each = p.shortest / tapes;
+    printf("| %s | %d | %zu | %.1f (%.1f) | %.1f |", name, grown_nodes[k], cases[k].n, each, p.median / tapes, 1e3 * each / letters);
+    if (0 < k && k < 4) printf(" %.1f |", 1e3 * (each - before) / (letters / 2));
+    else printf(" |");
+    printf(" %.2f | %.1f (%.1f) |\n", 1e3 * each / letters / grown_nodes[k], c.shortest / tapes, c.median / tapes);
+    before = each;
+  }
+}
+
+enum { STACK = 1 << 20, PAINT = 0xa5 };
+
+// The bytes of a painted stack that a call changes.
+static size_t stack_of(void (*call)(void)) {
+  static uint8_t stack[STACK] __attribute__((aligned(64)));
+  ucontext_t here, there;
+  memset(stack, PAINT, STACK);
+  getcontext(&there);
+  there.uc_stack.ss_sp = stack;
+  there.uc_stack.ss_size = STACK;
+  there.uc_link = &here;
+  makecontext(&there, call, 0);
+  swapcontext(&here, &there);
+  size_t i = 0;
+  while (i < STACK && stack[i] == PAINT) i++;
+  return STACK - i;
+}
+
+static void no_call(void) {}
+
+static void stacks(const char *name) {
+  size_t none = stack_of(no_call);
+  printf("| %s | %zu | %zu | %zu | %zu | %zu | %zu | %zu |\n", name, stack_of(p_load) - none, stack_of(p_parse) - none, stack_of(p_walk) - none,
+         stack_of(p_spell) - none, stack_of(p_total) - none, stack_of(p_settle) - none, stack_of(c_parse) - none);
+}
+
+static void meter(void) { meter_pattern(&table, 64); }
+static void hostile(void) { hostile_pattern(&table, 64); }
+static void stress(void) { stress_pattern(&table); }
+
+static const struct {
+  const char *name;
+  void (*make)(void);
+  double fill_bound;
+  unsigned lefts;
+} patterns[] = {{"meter tape", meter, 2, 12}, {"hostile", hostile, 3, 12}, {"stress", stress, 2, 1}};
+
+static void pattern(int k) {
+  patterns[k].make();
+  take(LETTERS, patterns[k].lefts);
+  compare();
+}
+
+// A tape that the meter's pattern does not read: a restart, and stale litres to the end.
+static void never_closed(void) {
+  pattern(0);
+  memset(tape, '7', n);
+  tape[0] = 'X';
+  memcpy(unread, tape, n);
+  same("cause 5", parse_of(tape, n, CELLS) == 5ull << 32);
+}
+
+// For other tools: `bench text K` and `bench tape K` write pattern K's, `bench loop K` parses its tape for five seconds.
+static int single(const char *what, int k) {
+  pattern(k);
+  for (double start = now(); !strcmp(what, "loop") && now() - start < 5e6;) p_parse();
+  if (!strcmp(what, "text")) fwrite(text, size, 1, stdout);
+  if (!strcmp(what, "tape")) fwrite(tape, n, 1, stdout);
+  return 0;
+}
+
+int main(int argc, char **argv) {
+  if (argc > 2) return single(argv[1], atoi(argv[2]) % 3);
+  puts("### Against hand-written C: 64 nodes, 3,600 letters\n");
+  puts("| Pattern | Work | Proved, µs | C, µs | Ratio | Bound |");
+  puts("|---|---|---|---|---|---|");
+  for (int k = 0; k < 3; k++) pattern(k), against_c(patterns[k].name, patterns[k].fill_bound);
+  puts("\n### Against matchers: 64 nodes, 3,600 letters\n");
+  puts("| Pattern | Matcher | Parse, µs | Matcher, µs | Ratio | Bound |");
+  puts("|---|---|---|---|---|---|");
+  for (int k = 0; k < 3; k++) pattern(k), against_matchers(patterns[k].name, 1);
+  never_closed();
+  against_matchers("meter tape, restart never closed", 0);
+  puts("\n### Growth of parsing\n");
+  puts("| Pattern | Nodes | Letters | Parse, µs | ns a letter | ns a letter more than in the row above | ns a letter and node | C, µs |");
+  puts("|---|---|---|---|---|---|---|---|");
+  growth("meter tape", meter_pattern);
+  growth("hostile", hostile_pattern);
+  puts("\n### Stack: bytes that a call changes, with the load before it\n");
+  puts("| Pattern | Load | Parse | Walk | Spell | Totals | Settle | C's parse |");
+  puts("|---|---|---|---|---|---|---|---|");
+  for (int k = 0; k < 3; k++) pattern(k), stacks(patterns[k].name);
+  printf("\nBounds not met: %d.\n", wanting);
   return 0;
 }

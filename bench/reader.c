@@ -4,26 +4,25 @@
 typedef struct {
   const Table *t;
   Masks *m;
-  uint64_t inside[64];  // the nodes of a star whose follower is that star
   uint64_t leaves[2][64];
   uint8_t known[2][64], ends[2][64];
 } Making;
 
 static void followers(Making *g, int l, int behind, int in_star) {
-  const Table *t = g->t;
+  const Node *d = &g->t->node[l];
   g->m->follower[l] = behind;
-  g->inside[l] = in_star;
-  switch (t->kind[l]) {
+  g->m->in_star[l] = in_star;
+  switch (d->kind) {
     case 'S':
-      followers(g, t->first[l], t->second[l], 0);
-      followers(g, t->second[l], behind, in_star);
+      followers(g, d->first, d->second, 0);
+      followers(g, d->second, behind, in_star);
       break;
     case 'A':
-      followers(g, t->first[l], behind, in_star);
-      followers(g, t->second[l], behind, in_star);
+      followers(g, d->first, behind, in_star);
+      followers(g, d->second, behind, in_star);
       break;
     case 'K':
-      followers(g, t->first[l], l, 1);
+      followers(g, d->first, l, 1);
       break;
   }
 }
@@ -32,7 +31,7 @@ static uint64_t reached(Making *g, int l, int flag);
 
 static uint64_t onward(Making *g, int l, int flag, uint8_t *ends) {
   int f = g->m->follower[l];
-  if (g->inside[l] && !flag) return 0;
+  if (g->m->in_star[l] && !flag) return 0;
   if (f == 64) {
     *ends |= flag;
     return 0;
@@ -50,16 +49,16 @@ static uint64_t into(Making *g, int part, int flag, uint8_t *ends) {
 
 static uint64_t reached(Making *g, int l, int flag) {
   if (g->known[flag][l]) return g->leaves[flag][l];
-  const Table *t = g->t;
+  const Node *d = &g->t->node[l];
   uint64_t s = 0;
   uint8_t ends = 0;
-  switch (t->kind[l]) {
+  switch (d->kind) {
     case 'E': s = onward(g, l, flag, &ends); break;
     case 'L':
     case 'R': s = 1ull << l; break;
-    case 'S': s = into(g, t->first[l], flag, &ends); break;
-    case 'A': s = into(g, t->first[l], flag, &ends) | into(g, t->second[l], flag, &ends); break;
-    case 'K': s = into(g, t->first[l], 0, &ends) | onward(g, l, flag, &ends); break;
+    case 'S': s = into(g, d->first, flag, &ends); break;
+    case 'A': s = into(g, d->first, flag, &ends) | into(g, d->second, flag, &ends); break;
+    case 'K': s = into(g, d->first, 0, &ends) | onward(g, l, flag, &ends); break;
   }
   g->known[flag][l] = 1;
   g->ends[flag][l] = ends;
@@ -68,139 +67,236 @@ static uint64_t reached(Making *g, int l, int flag) {
 
 void make_masks(const Table *t, Masks *m) {
   Making g;
-  memset(&g, 0, sizeof g);
-  memset(m, 0, sizeof *m);
   g.t = t;
   g.m = m;
+  memset(g.known, 0, sizeof g.known);
+  memset(m, 0, sizeof *m);
   followers(&g, t->count - 1, 64, 0);
   for (int l = 0; l < t->count; l++) {
-    for (int flag = 0; flag < 2; flag++)
-      for (uint64_t s = reached(&g, l, flag); s; s &= s - 1) m->reach[flag][__builtin_ctzll(s)] |= 1ull << l;
-    if (g.ends[1][l]) m->end |= 1ull << l;
-    if (t->kind[l] == 'L') m->takers[t->first[l]] |= 1ull << l;
-    if (t->kind[l] == 'R')
-      for (int c = t->first[l]; c <= t->second[l]; c++) m->takers[c] |= 1ull << l;
+    const Node *d = &t->node[l];
+    uint64_t bit = 1ull << l;
+    for (uint64_t s = reached(&g, l, 0); s; s &= s - 1) m->leaf[__builtin_ctzll(s)].zero |= bit;
+    for (uint64_t s = reached(&g, l, 1); s; s &= s - 1) m->leaf[__builtin_ctzll(s)].one |= bit;
+    if (g.ends[1][l]) m->end |= bit;
+    if (m->follower[l] < 64) m->leaf[l].behind = 1ull << m->follower[l];
+    if (d->kind == 'L') m->takers[d->first] |= bit;
+    if (d->kind == 'R')
+      for (int c = d->first; c <= d->second; c++) m->takers[c] |= bit;
   }
 }
 
 void fill_words(const Masks *m, const uint8_t *tape, size_t n, uint64_t *words) {
-  uint64_t next = m->end, last = 1;
+  uint64_t next = m->end;
   words[2 * n] = 0;
-  words[2 * n + 1] = m->end;
-  for (size_t i = n; i-- > 0;) {
-    uint64_t zero = 0, one = 0;
+  words[2 * n + 1] = next;
+  if (n == 0) return;
+  uint64_t zero = 0, one = 0;
+  for (uint64_t left = m->takers[tape[n - 1]]; left; left &= left - 1) {
+    const LeafMasks *x = &m->leaf[__builtin_ctzll(left)];
+    if (x->behind && !(next & x->behind)) continue;
+    zero |= x->zero;
+    one |= x->one;
+  }
+  words[2 * n - 2] = zero;
+  words[2 * n - 1] = next = one;
+  for (size_t i = n - 1; i-- > 0;) {
+    zero = one = 0;
     for (uint64_t left = m->takers[tape[i]]; left; left &= left - 1) {
-      int leaf = __builtin_ctzll(left);
-      int f = m->follower[leaf];
-      uint64_t open = f < 64 ? (next >> f) & 1 : last;
-      zero |= m->reach[0][leaf] & -open;
-      one |= m->reach[1][leaf] & -open;
+      const LeafMasks *x = &m->leaf[__builtin_ctzll(left)];
+      uint64_t open = -(uint64_t)((next & x->behind) != 0);
+      zero |= x->zero & open;
+      one |= x->one & open;
     }
     words[2 * i] = zero;
-    words[2 * i + 1] = one;
-    next = one;
-    last = 0;
+    words[2 * i + 1] = next = one;
   }
 }
 
 typedef struct {
-  const Table *t;
-  const uint64_t *words;
+  const Node *node;
+  const uint64_t *words;  // of the present position
   const uint8_t *tape;
   uint8_t *code;
-  uint32_t bits, at;
-  int flag;
+  uint64_t held;  // bits not yet stored, `filled` of them
+  int filled, flag;
 } Writing;
 
-static void put(Writing *w, int bit) {
-  if (w->bits % 8 == 0) w->code[w->bits / 8] = 0;
-  w->code[w->bits / 8] |= bit << (7 - w->bits % 8);
-  w->bits++;
-}
-
-static int open_at(const Writing *w, int l, int flag) {
-  return (w->words[2 * w->at + flag] >> l) & 1;
+static void put(Writing *w, unsigned bits, int n) {
+  w->held = w->held << n | bits;
+  w->filled += n;
+  if (w->filled >= 32) {
+    w->filled -= 32;
+    uint32_t big = __builtin_bswap32(w->held >> w->filled);
+    memcpy(w->code, &big, 4);
+    w->code += 4;
+  }
 }
 
 static void write_node(Writing *w, int l) {
-  const Table *t = w->t;
-  switch (t->kind[l]) {
-    case 'L':
-      w->at++;
-      w->flag = 1;
-      break;
-    case 'R':
-      for (int k = 7; k >= 0; k--) put(w, (w->tape[w->at] >> k) & 1);
-      w->at++;
-      w->flag = 1;
-      break;
-    case 'S':
-      write_node(w, t->first[l]);
-      write_node(w, t->second[l]);
-      break;
-    case 'A': {
-      int right = !open_at(w, t->first[l], w->flag);
-      put(w, right);
-      write_node(w, right ? t->second[l] : t->first[l]);
-      break;
-    }
-    case 'K': {
-      int flag = w->flag;
-      while (open_at(w, t->first[l], 0)) {
-        put(w, 0);
-        w->flag = 0;
-        write_node(w, t->first[l]);
-        flag = 1;
+  for (;;) {
+    Node d = w->node[l];
+    switch (d.kind) {
+      case 'E': return;
+      case 'R': put(w, *w->tape, 8);  // fall through
+      case 'L':
+        w->tape++;
+        w->words += 2;
+        w->flag = 1;
+        return;
+      case 'S':
+        write_node(w, d.first);
+        l = d.second;
+        break;
+      case 'A': {
+        int left = w->words[w->flag] >> d.first & 1;
+        put(w, !left, 1);
+        l = left ? d.first : d.second;
+        break;
       }
-      w->flag = flag;
-      put(w, 1);
-      break;
+      default: {
+        int flag = w->flag;
+        while (w->words[0] >> d.first & 1) {
+          put(w, 0, 1);
+          w->flag = 0;
+          write_node(w, d.first);
+          flag = 1;
+        }
+        w->flag = flag;
+        put(w, 1, 1);
+        return;
+      }
     }
   }
 }
 
 uint32_t write_code(const Table *t, const uint64_t *words, const uint8_t *tape, uint8_t *code) {
-  Writing w = {t, words, tape, code, 0, 0, 1};
+  Writing w = {t->node, words, tape, code, 0, 0, 1};
   write_node(&w, t->count - 1);
-  return w.bits;
+  uint32_t bits = 8 * (w.code - code) + w.filled;
+  for (; w.filled > 0; w.filled -= 8) *w.code++ = w.filled >= 8 ? w.held >> (w.filled - 8) : w.held << (8 - w.filled);
+  return bits;
+}
+
+static int bit_at(const uint8_t *code, uint32_t at) { return code[at / 8] >> (7 - at % 8) & 1; }
+
+// The eight bits from `at` on; the code has a byte to spare behind them, or they end with a byte.
+static int byte_at(const uint8_t *code, uint32_t at) {
+  uint32_t r = at % 8;
+  const uint8_t *p = code + at / 8;
+  return r ? (uint8_t)(p[0] << r | p[1] >> (8 - r)) : p[0];
 }
 
 typedef struct {
-  const Table *t;
+  const Node *node;
   const uint8_t *code;
-  uint8_t *tape;
-  uint32_t at, n;
-} Spelling;
+  uint32_t count, letters;
+} Checking;
 
-static int get(Spelling *s) {
-  int bit = (s->code[s->at / 8] >> (7 - s->at % 8)) & 1;
-  s->at++;
-  return bit;
+enum { BAD = 0xffffffff };
+
+static uint32_t check_node(Checking *w, int l, uint32_t at) {
+  for (;;) {
+    Node d = w->node[l];
+    switch (d.kind) {
+      case 'E': return at;
+      case 'L': w->letters++; return at;
+      case 'R': {
+        if (w->count - at < 8) return BAD;
+        int c = byte_at(w->code, at);
+        if (c < d.first || c > d.second) return BAD;
+        w->letters++;
+        return at + 8;
+      }
+      case 'S':
+        at = check_node(w, d.first, at);
+        if (at == BAD) return BAD;
+        l = d.second;
+        break;
+      case 'A':
+        if (at >= w->count) return BAD;
+        l = bit_at(w->code, at++) ? d.second : d.first;
+        break;
+      default:
+        for (;;) {
+          if (at >= w->count) return BAD;
+          if (bit_at(w->code, at++)) return at;
+          at = check_node(w, d.first, at);
+          if (at == BAD) return BAD;
+        }
+    }
+  }
 }
 
-static void spell_node(Spelling *s, int l) {
-  const Table *t = s->t;
-  switch (t->kind[l]) {
-    case 'L': s->tape[s->n++] = t->first[l]; break;
-    case 'R': {
-      int c = 0;
-      for (int k = 0; k < 8; k++) c = 2 * c + get(s);
-      s->tape[s->n++] = c;
-      break;
+int check_code(const Table *t, const uint8_t *code, size_t bytes, uint32_t count) {
+  if (bytes > 65536 || bytes != ((size_t)count + 7) / 8) return -1;
+  if (count % 8 && (uint8_t)(code[bytes - 1] << count % 8)) return -1;
+  Checking w = {t->node, code, count, 0};
+  return check_node(&w, t->count - 1, 0) == count ? (int)w.letters : -1;
+}
+
+typedef struct {
+  const Node *node;
+  const uint8_t *code;
+  uint8_t *tape;
+} Spelling;
+
+static uint32_t spell_node(Spelling *w, int l, uint32_t at) {
+  for (;;) {
+    Node d = w->node[l];
+    switch (d.kind) {
+      case 'E': return at;
+      case 'L': *w->tape++ = d.first; return at;
+      case 'R': *w->tape++ = byte_at(w->code, at); return at + 8;
+      case 'S':
+        at = spell_node(w, d.first, at);
+        l = d.second;
+        break;
+      case 'A': l = bit_at(w->code, at++) ? d.second : d.first; break;
+      default:
+        while (!bit_at(w->code, at++)) at = spell_node(w, d.first, at);
+        return at;
     }
-    case 'S':
-      spell_node(s, t->first[l]);
-      spell_node(s, t->second[l]);
-      break;
-    case 'A': spell_node(s, get(s) ? t->second[l] : t->first[l]); break;
-    case 'K':
-      while (!get(s)) spell_node(s, t->first[l]);
-      break;
   }
 }
 
 uint32_t spell(const Table *t, const uint8_t *code, uint8_t *tape) {
-  Spelling s = {t, code, tape, 0, 0};
-  spell_node(&s, t->count - 1);
-  return s.n;
+  Spelling w = {t->node, code, tape};
+  spell_node(&w, t->count - 1, 0);
+  return w.tape - tape;
+}
+
+typedef struct {
+  const Node *node;
+  const uint8_t *code;
+  uint32_t *litres;
+} Charging;
+
+static void add(const Charging *w, int account, unsigned c) {
+  if (c - '0' < 10) w->litres[account] += c - '0';
+}
+
+static uint32_t charge_node(const Charging *w, int l, int account, uint32_t at) {
+  for (;;) {
+    Node d = w->node[l];
+    if (d.account) account = d.account;
+    switch (d.kind) {
+      case 'E': return at;
+      case 'L': add(w, account, d.first); return at;
+      case 'R': add(w, account, byte_at(w->code, at)); return at + 8;
+      case 'S':
+        at = charge_node(w, d.first, account, at);
+        l = d.second;
+        break;
+      case 'A': l = bit_at(w->code, at++) ? d.second : d.first; break;
+      default:
+        while (!bit_at(w->code, at++)) at = charge_node(w, d.first, account, at);
+        return at;
+    }
+  }
+}
+
+void charge(const Table *t, const uint8_t *code, uint32_t litres[10]) {
+  memset(litres, 0, 10 * sizeof *litres);
+  Charging w = {t->node, code, litres};
+  charge_node(&w, t->count - 1, 0, 0);
 }

@@ -1,21 +1,41 @@
-// The two sweeps by hand, without a test of what is handed over: what the proved reader is measured against.
+// The reader by hand in C: the same masks, words, codes and walks as the proved one, which is measured against it.
+#ifndef READER_H
+#define READER_H
 #include <stddef.h>
 #include <stdint.h>
 
+// first and second: the parts, or a range's limits, or a letter
+typedef struct {
+  uint8_t kind, first, second, account;  // kind: E L R S A K; account: 0 for none
+} Node;
+
 typedef struct {
   int count;
-  char kind[64];            // E L R S A K
-  uint8_t first[64], second[64];  // parts, or a range's limits, or a letter
+  Node node[64];
 } Table;
 
+// Of a leaf: the nodes that reach it without a letter, with flag 0 and 1, and its follower as a bit (0 for the tape's end).
 typedef struct {
-  uint64_t reach[2][64];    // by flag and leaf: the nodes that reach the leaf without a letter
-  uint64_t takers[127];     // by letter: the leaves that take it
-  uint64_t end;             // the nodes that reach the tape's end with flag 1
-  uint8_t follower[64];     // the node behind a node; 64 for the tape's end
+  uint64_t behind, zero, one;
+} LeafMasks;
+
+typedef struct {
+  LeafMasks leaf[64];
+  uint64_t takers[127];  // by letter: the leaves that take it
+  uint64_t end;          // the nodes that reach the tape's end with flag 1
+  uint8_t follower[64];  // the node behind a node; 64 for the tape's end
+  uint8_t in_star[64];   // whether that follower is a star that the node is in
 } Masks;
 
+// The two sweeps: no test of what is handed over. A code is written in whole words, so its buffer has 8 bytes to spare.
 void make_masks(const Table *t, Masks *m);
 void fill_words(const Masks *m, const uint8_t *tape, size_t n, uint64_t *words);
 uint32_t write_code(const Table *t, const uint64_t *words, const uint8_t *tape, uint8_t *code);
+
+// One walk that tests everything about a code: bytes, padding, bits left, ranges, that all bits are used. The letters, or -1.
+int check_code(const Table *t, const uint8_t *code, size_t bytes, uint32_t count);
+
+// Walks over a code that is known to be whole.
 uint32_t spell(const Table *t, const uint8_t *code, uint8_t *tape);
+void charge(const Table *t, const uint8_t *code, uint32_t litres[10]);
+#endif

@@ -1,0 +1,18 @@
+// Patterns of the bench, as table, text and expression, and random tapes that they read.
+#ifndef PATTERNS_H
+#define PATTERNS_H
+#include "reader.h"
+
+void meter_pattern(Table *t, int nodes);    // a month of a meter's tape; 16, 32 or 64 nodes
+void hostile_pattern(Table *t, int nodes);  // (nodes - 4) / 2 times a or b, then a, then the star of a or b
+void stress_pattern(Table *t);              // one of 31 letters, in 3 nested stars
+
+size_t write_text(const Table *t, char *text);
+
+// The same expression for a matcher, a group around each part, so that it says where each node was last.
+void write_expression(const Table *t, char *expression);
+
+// A random tape of exactly n letters that the pattern reads; 0 if it reads none of that length. Of 16 choices that are free, `lefts` go
+// left; of 16 stars that may stop, 15 go on.
+int random_tape(const Table *t, size_t n, unsigned lefts, uint8_t *tape);
+#endif
