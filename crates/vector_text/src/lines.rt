@@ -96,7 +96,7 @@ fn refill(chunk: &mut [u8], input: Input) -> Input
 // One step on: what is left of the chunk is held up to the next byte 10, or a new chunk is read where nothing is left.
 pub fn advance(line: &mut [u8], chunk: &mut [u8], input: Input) -> Input
     ensures { λ r.
-        ⌜ (input .from < input .to → Holds (now (line .entry)) (now (chunk .entry)) input (now (line .exit)) r) ⌝ }
+        ⌜ (input .from < input .to → Holds (now (line .entry)) (now (chunk .entry)) input (now (line .exit)) r × (now (chunk .exit) ≡ now (chunk .entry))) ⌝ }
     ensures { λ r.
         ⌜ (input .to ≤ input .from → (now (line .exit) ≡ now (line .entry)) × Refills (now (chunk .exit)) input r) ⌝ }
 {

@@ -15,7 +15,7 @@ same-length-2 : tie.Need-same-length-2
 same-length-2 c = search needs
 
 returns : tie.Need-returns
-returns c = (λ h. c .before .before .hold .ensures, λ h. absurd (omega (arith, h, c .before .before .before .before .before .if1 .taken)))
+returns c = (λ h. (c .before .before .hold .ensures, refl), λ h. absurd (omega (arith, h, c .before .before .before .before .before .if1 .taken)))
 
 refill-requires : tie.Need-refill-requires
 refill-requires c κs = search needs
