@@ -7,82 +7,20 @@ use syntax::Loaded;
 use syntax::Node;
 use syntax::Outcome;
 use syntax::Pattern;
-use syntax::Refusal;
-
-fn put_byte(out: &mut [u8], at: usize, byte: u8) -> usize
-    ensures { λ r. ⌜ Counts r (now (out .exit)) ⌝ }
-{
-    if at < out.len() {
-        out[at] = byte;
-        return at + 1;
-    }
-    out.len()
-}
-
-fn put_bytes(out: &mut [u8], at: usize, bytes: &[u8]) -> usize {
-    let mut end = at;
-    let mut i = 0;
-    while i < bytes.len() {
-        end = put_byte(out, end, bytes[i]);
-        i += 1;
-    }
-    end
-}
-
-fn put_number(out: &mut [u8], at: usize, x: u32) -> usize {
-    let mut digits = [0u8; 20];
-    let n = io::decimal(x as u64, &mut digits);
-    put_bytes(out, at, &digits[..n])
-}
+use vector_text::put_answer;
+use vector_text::put_byte;
+use vector_text::put_parted;
+use vector_text::put_refused;
 
 // A field that is not the first of its line.
-fn put_field(out: &mut [u8], at: usize, x: u32) -> usize {
-    let end = put_byte(out, at, b'\t');
-    put_number(out, end, x)
+fn put_field(out: &mut [u8], at: usize, x: u8) -> usize {
+    put_parted(out, at, b'\t', x as u64)
 }
 
-// The number of a refusal's cause.
-fn number_of(why: Refusal) -> u32 {
-    match why {
-        Refusal::LineForm(_) => 1,
-        Refusal::Tree(_) => 2,
-        Refusal::TapeTooLong => 3,
-        Refusal::TapeByte(_) => 4,
-        Refusal::Unreadable => 5,
-        Refusal::WordsTooShort(_) => 6,
-        Refusal::CodeTooShort(_) => 7,
-        Refusal::NotACode => 8,
-        Refusal::TapeTooShort(_) => 9,
-        Refusal::NoSuchVisit => 10,
-    }
-}
-
-// The value returned beside the number.
-fn value_of(why: Refusal) -> u32 {
-    match why {
-        Refusal::LineForm(line) => line,
-        Refusal::Tree(line) => line,
-        Refusal::TapeTooLong => 0,
-        Refusal::TapeByte(position) => position,
-        Refusal::Unreadable => 0,
-        Refusal::WordsTooShort(words) => words,
-        Refusal::CodeTooShort(bytes) => bytes,
-        Refusal::NotACode => 0,
-        Refusal::TapeTooShort(letters) => letters,
-        Refusal::NoSuchVisit => 0,
-    }
-}
-
-fn put_outcome(out: &mut [u8], at: usize, outcome: Outcome) -> usize {
+fn put_outcome(out: &mut [u8], outcome: Outcome) -> usize {
     match outcome {
-        Outcome::Lines(count) => {
-            let end = put_number(out, at, 0);
-            put_field(out, end, count)
-        }
-        Outcome::Refused(why) => {
-            let end = put_number(out, at, number_of(why));
-            put_field(out, end, value_of(why))
-        }
+        Outcome::Lines(count) => put_answer(out, 0, count),
+        Outcome::Refused(why) => put_refused(out, why),
     }
 }
 
@@ -90,9 +28,9 @@ fn put_outcome(out: &mut [u8], at: usize, outcome: Outcome) -> usize {
 fn put_row(out: &mut [u8], at: usize, kind: u8, account: u8, x: u8, y: u8) -> usize {
     let start = put_byte(out, at, b'\n');
     let a = put_byte(out, start, kind);
-    let b = put_field(out, a, account as u32);
-    let c = put_field(out, b, x as u32);
-    put_field(out, c, y as u32)
+    let b = put_field(out, a, account);
+    let c = put_field(out, b, x);
+    put_field(out, c, y)
 }
 
 fn put_leaf(out: &mut [u8], at: usize, account: u8, leaf: Leaf) -> usize {
@@ -134,7 +72,7 @@ pub fn put_loaded(out: &mut [u8], loaded: Loaded) -> usize
 {
     let outcome = loaded.outcome;
     let pattern = loaded.pattern;
-    let head = put_outcome(out, 0, outcome);
+    let head = put_outcome(out, outcome);
     let end = put_lines(out, head, pattern);
     put_byte(out, end, b'\n')
 }

@@ -3,20 +3,19 @@
 // hexadecimal, and how many mark words and code bytes are lent, in decimal. The lent parts are the starts of larger
 // arrays, whose cells are set before each case. Byte 10 ends each line of the input; what stands after the last one is
 // left out.
-mod digest; // digest.rt: digests of cells
-mod fields; // fields.rt: the fields of a case's line
-mod hex; // hex.rt: bytes from hexadecimal digits
 mod report; // report.rt: what reading answers and leaves, as text
 
-use fields::field_end;
-use fields::number;
-use hex::decode;
-use libc::STDIN_FILENO;
 use libc::STDOUT_FILENO;
 use parser::Parsed;
 use parser::parse;
 use report::put_case;
 use syntax::Pattern;
+use vector_text::Input;
+use vector_text::advance;
+use vector_text::decode;
+use vector_text::field_end;
+use vector_text::no_input;
+use vector_text::number;
 
 // Bytes held of a line.
 const MAX_LINE: usize = 10240;
@@ -34,12 +33,6 @@ const ALL_BYTES: usize = 8192;
 const WORD_BEFORE: u64 = 0x5555555555555555;
 
 const BYTE_BEFORE: u8 = 0xAA;
-
-// What a read of standard input leaves: how many bytes of an unfinished line are held, or that the input has ended.
-enum Step {
-    More(usize),
-    End,
-}
 
 fn say_bad() {
     io::write_all(STDOUT_FILENO, b"not a case\n");
@@ -93,8 +86,8 @@ fn run_sizes(p: Pattern, tape: &[u8], line: &[u8]) {
         return;
     }
     let start = end + 1;
-    let lent = number(&line[..end]);
-    let bytes = number(&line[start..]);
+    let lent = number(&line[..end]) as usize;
+    let bytes = number(&line[start..]) as usize;
     run_lent(p, tape, lent, bytes);
 }
 
@@ -132,8 +125,12 @@ fn run_case(line: &[u8]) {
     run_tape(p, &line[start..]);
 }
 
-// The line is the first `size` bytes of `line`. A size above that of `line` marks one that did not fit.
-fn run_line(line: &[u8], size: usize) {
+// Runs the line that is complete, if one is. A size above that of `line` marks one that did not fit.
+fn run_line(line: &[u8], input: Input) {
+    if !input.complete {
+        return;
+    }
+    let size = input.size;
     if line.len() < size {
         io::write_all(STDOUT_FILENO, b"too long\n");
         return;
@@ -141,54 +138,23 @@ fn run_line(line: &[u8], size: usize) {
     run_case(&line[..size]);
 }
 
-// Holds one byte more of a line, or runs the line that it ends. Answers how many bytes are held.
-fn take_byte(line: &mut [u8], size: usize, byte: u8) -> usize {
-    if byte == b'\n' {
-        run_line(line, size);
-        return 0;
-    }
-    if size < line.len() {
-        line[size] = byte;
-        return size + 1;
-    }
-    usize::MAX
-}
-
-fn take_bytes(line: &mut [u8], size: usize, bytes: &[u8]) -> usize {
-    let mut held = size;
-    let mut i = 0;
-    while i < bytes.len() {
-        held = take_byte(line, held, bytes[i]);
-        i += 1;
-    }
-    held
-}
-
-fn read_some(line: &mut [u8], size: usize) -> Step {
-    let mut chunk = io::buffer();
-    let got = libc::read(STDIN_FILENO, &mut chunk);
-    // 0 is the input's end, and a read that fails ends it too.
-    if got <= 0 {
-        return Step::End;
-    }
-    let n = io::count(got, &chunk);
-    Step::More(take_bytes(line, size, &chunk[..n]))
-}
-
 // Nothing says that the input ends, so the loop counts its turns down from a number that no run uses up.
-fn run_all(line: &mut [u8]) {
-    let mut size = 0;
+fn run_all(line: &mut [u8], chunk: &mut [u8]) {
+    let mut input = no_input();
     let mut turns = u64::MAX;
     while turns > 0 {
-        let Step::More(held) = read_some(line, size) else {
+        let next = advance(line, chunk, input);
+        if next.ended {
             return;
-        };
-        size = held;
+        }
+        run_line(line, next);
+        input = next;
         turns -= 1;
     }
 }
 
 fn main() {
     let mut line = [0u8; MAX_LINE];
-    run_all(&mut line);
+    let mut chunk = io::buffer();
+    run_all(&mut line, &mut chunk);
 }

@@ -19,4 +19,5 @@ pub mod table;
 pub mod tapes;
 pub mod two_pass;
 pub mod value;
+pub mod visits;
 pub mod walk;

@@ -3,7 +3,7 @@
 use std::io::{self, BufWriter, Write};
 use std::path::Path;
 use std::process::ExitCode;
-use wumbyra_reference::{cases, codes, hex, listing, load, tapes};
+use wumbyra_reference::{cases, codes, hex, listing, load, tapes, visits};
 
 fn main() -> ExitCode {
     let arguments: Vec<String> = std::env::args().skip(1).collect();
@@ -19,11 +19,15 @@ fn main() -> ExitCode {
         ["code-cases"] => code_cases(&mut out),
         ["code-names"] => code_names(&mut out),
         ["code-expected"] => code_expected(&mut out),
+        ["span-cases"] => span_cases(&mut out),
+        ["span-names"] => span_names(&mut out),
+        ["span-expected"] => span_expected(&mut out),
         ["listing", folder] => print_listing(Path::new(folder), &mut out),
         _ => {
             eprintln!("usage: reference load-cases | load-names | load-expected");
             eprintln!("       reference parse-cases | parse-names | parse-expected");
-            eprintln!("       reference code-cases | code-names | code-expected | listing FOLDER");
+            eprintln!("       reference code-cases | code-names | code-expected");
+            eprintln!("       reference span-cases | span-names | span-expected | listing FOLDER");
             return ExitCode::from(2);
         }
     };
@@ -116,6 +120,31 @@ fn code_expected(out: &mut impl Write) -> io::Result<()> {
         for answer in case.answers() {
             writeln!(out, "{answer}")?;
         }
+    }
+    Ok(())
+}
+
+/// One line a case: pattern, tape and code in hexadecimal, bit count, node
+/// and visit.
+fn span_cases(out: &mut impl Write) -> io::Result<()> {
+    for case in visits::all() {
+        writeln!(out, "{}", case.line())?;
+    }
+    Ok(())
+}
+
+/// The names of the same cases in the same order, for a person to look up.
+fn span_names(out: &mut impl Write) -> io::Result<()> {
+    for case in visits::all() {
+        writeln!(out, "{}", case.name)?;
+    }
+    Ok(())
+}
+
+/// One line a case: the answer, start and length, and the piece.
+fn span_expected(out: &mut impl Write) -> io::Result<()> {
+    for case in visits::all() {
+        writeln!(out, "{}", case.answer())?;
     }
     Ok(())
 }

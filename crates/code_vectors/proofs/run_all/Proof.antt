@@ -1,4 +1,4 @@
--- `code_vectors::run_all` is safe and ends. The length of `line` stays; the measure is the number of turns that are left. Assumes nothing.
+-- `code_vectors::run_all` is safe and ends. The lengths of `line` and `chunk` stay; the measure is the number of turns that are left. Assumes nothing.
 use mathlib.Core.Path.{_≡_}
 use lib.ListN.{length}
 use borrow.Author.Needs.{needs}
@@ -6,28 +6,31 @@ use Rattle.code_vectors.proofs.run_all.Statement.{statement}
 use Rattle.code_vectors.proofs.run_all.Tie as tie
 
 abbrev Inv-loop : tie.InvT-loop
-Inv-loop line₀ size₀ turns₀ line size turns = length line ≡ length line₀
+Inv-loop line₀ chunk₀ input₀ turns₀ line chunk input turns = (length line ≡ length line₀) × (length chunk ≡ length chunk₀)
 
 abbrev μ-loop : tie.MeasureT-loop
-μ-loop line₀ size₀ turns₀ line size turns = turns
+μ-loop line₀ chunk₀ input₀ turns₀ line chunk input turns = turns
+
+no-input-requires : tie.Need-no-input-requires Inv-loop μ-loop
+no-input-requires c κs = search needs
 
 loop-holds : tie.Need-loop-holds Inv-loop μ-loop
 loop-holds c = search needs
 
-read-some-requires : tie.Need-read-some-requires Inv-loop μ-loop
-read-some-requires c κs = search needs
-
-enum-known-held : tie.Need-enum-known-held Inv-loop μ-loop
-enum-known-held c = search needs
-
-enum-told : tie.Need-enum-told Inv-loop μ-loop
-enum-told c = search needs
+advance-requires : tie.Need-advance-requires Inv-loop μ-loop
+advance-requires c κs = search needs
 
 same-length : tie.Need-same-length Inv-loop μ-loop
 same-length c = search needs
 
+same-length-2 : tie.Need-same-length-2 Inv-loop μ-loop
+same-length-2 c = search needs
+
 returns : tie.Need-returns Inv-loop μ-loop
 returns c = search needs
+
+run-line-requires : tie.Need-run-line-requires Inv-loop μ-loop
+run-line-requires c κs = search needs
 
 sub-turns : tie.Need-sub-turns Inv-loop μ-loop
 sub-turns c = search needs
@@ -38,8 +41,11 @@ loop-less c = search needs
 loop-again : tie.Need-loop-again Inv-loop μ-loop
 loop-again c = search needs
 
-same-length-2 : tie.Need-same-length-2 Inv-loop μ-loop
-same-length-2 c = search needs
+same-length-3 : tie.Need-same-length-3 Inv-loop μ-loop
+same-length-3 c = search needs
+
+same-length-4 : tie.Need-same-length-4 Inv-loop μ-loop
+same-length-4 c = search needs
 
 returns-2 : tie.Need-returns-2 Inv-loop μ-loop
 returns-2 c = search needs
@@ -50,14 +56,16 @@ run-all-spec =
     (tie.spec
     Inv-loop
     μ-loop
+    no-input-requires
     loop-holds
-    read-some-requires
-    enum-known-held
-    enum-told
+    advance-requires
     same-length
+    same-length-2
     returns
+    run-line-requires
     sub-turns
     loop-less
     loop-again
-    same-length-2
+    same-length-3
+    same-length-4
     returns-2)

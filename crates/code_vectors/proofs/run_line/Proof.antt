@@ -5,14 +5,17 @@ use borrow.Author.Needs.{needs}
 use Rattle.code_vectors.proofs.run_line.Statement.{statement}
 use Rattle.code_vectors.proofs.run_line.Tie as tie
 
+returns : tie.Need-returns
+returns c = search needs
+
 slice-aggregate-write-all : tie.Need-slice-aggregate-write-all
 slice-aggregate-write-all c = search needs
 
 write-all-requires : tie.Need-write-all-requires
 write-all-requires c κs = search needs
 
-returns : tie.Need-returns
-returns c = search needs
+returns-2 : tie.Need-returns-2
+returns-2 c = search needs
 
 slice-aggregate-run-case : tie.Need-slice-aggregate-run-case
 slice-aggregate-run-case c = simp length-take (omega arith)
@@ -20,16 +23,17 @@ slice-aggregate-run-case c = simp length-take (omega arith)
 run-case-requires : tie.Need-run-case-requires
 run-case-requires c κs = search needs
 
-returns-2 : tie.Need-returns-2
-returns-2 c = search needs
+returns-3 : tie.Need-returns-3
+returns-3 c = search needs
 
 pub run-line-spec : {M : Type 1} → statement M
 run-line-spec =
     tie.close
     (tie.spec
+    returns
     slice-aggregate-write-all
     write-all-requires
-    returns
+    returns-2
     slice-aggregate-run-case
     run-case-requires
-    returns-2)
+    returns-3)

@@ -72,7 +72,7 @@ fn case(rng: &mut Prng, sort: &str, index: usize, table: &Table, value: &Value) 
 }
 
 /// A pattern and a value of it that holds an empty round.
-fn with_empty_round(rng: &mut Prng, index: usize) -> (Table, Value) {
+pub fn with_empty_round(rng: &mut Prng, index: usize) -> (Table, Value) {
     loop {
         let table = pattern(rng, index);
         for _ in 0..20 {
@@ -105,7 +105,7 @@ fn same_tape(rng: &mut Prng, table: &Table, one: &Value) -> Value {
 }
 
 /// A value of another tape; patterns of one tape keep theirs.
-fn other_tape(rng: &mut Prng, table: &Table, one: &Value) -> Value {
+pub fn other_tape(rng: &mut Prng, table: &Table, one: &Value) -> Value {
     let letters = spell(one);
     let mut other = one.clone();
     for _ in 0..200 {

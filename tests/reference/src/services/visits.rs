@@ -62,6 +62,11 @@ fn visits(table: &Table, code: &[u8], bits: u64, node: usize) -> Vec<Span> {
     found
 }
 
+/// How often a whole code visits a node.
+pub fn count_of_visits(table: &Table, code: &[u8], bits: u64, node: usize) -> u64 {
+    visits(table, code, bits, node).len() as u64
+}
+
 /// "The piece is a part of the caller's tape", with the refusal if there is
 /// one; "a refused piece is empty".
 pub fn piece<'a>(

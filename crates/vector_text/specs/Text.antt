@@ -1,0 +1,136 @@
+-- Cases and answers as text: what is read from a case's line, and what is put into a buffer. Definitions only.
+use mathlib.Core.Path.{_≡_}
+use mathlib.Core.Bool.{Bool, true, false, _&&_, cond}
+use mathlib.Core.List.{List, [], _∷_, _++_}
+use Prim.Native.Nat.{ℕ, zero, suc, _+_, _-_, _*_, _/_, _%_, _≤_, min}
+use lib.Dec.{eqb, leb, ltb}
+use lib.ListN.{length, take, drop}
+use lib.Seq.{sets}
+use Rattle.io.specs.Digits.{glyph, digits}
+use Rattle.vector_text.specs.declared.lines.Input.{Input}
+
+-- the cells from `from` to before `to`, as far as there are any
+abbrev pub part : (from to : ℕ) → List ℕ → List ℕ
+part from to xs = take (to - from) (drop from xs)
+
+-- Bytes put into a buffer from `at` on: what does not fit is left out. Answered is where they end, at most `most`.
+pub record Puts-to (most : ℕ) (out : List ℕ) (at : ℕ) (bytes after : List ℕ) (r : ℕ) : Type 0 where
+  pub leaves : after ≡ sets out at bytes
+  pub ends : r ≡ min (at + length bytes) most
+
+-- the same with the buffer's own length as the most
+abbrev pub Puts : (out : List ℕ) → (at : ℕ) → (bytes after : List ℕ) → (r : ℕ) → Type 0
+Puts out at bytes after r = Puts-to (length out) out at bytes after r
+
+-- how many digits a number has in decimal
+abbrev pub width-by : (fuel n : ℕ) → ℕ
+width-by zero n = 1
+width-by (suc f) n = cond (ltb n 10) 1 (suc (width-by f (n / 10)))
+
+-- a number of 64 bits has at most 20 digits
+unfoldable pub decimal-text : ℕ → List ℕ
+decimal-text n = digits 10 (width-by 20 n) n
+
+-- a number behind the byte that parts it from what stands before it
+abbrev pub parted-text : (by n : ℕ) → List ℕ
+parted-text by n = by ∷ decimal-text n
+
+-- number and value of an answer, parted by a tab
+abbrev pub answer-text : (number value : ℕ) → List ℕ
+answer-text n v = decimal-text n ++ parted-text 9 v
+
+-- bytes in hexadecimal
+abbrev pub hex-byte-text : ℕ → List ℕ
+hex-byte-text b = glyph (b / 16) ∷ glyph (b % 16) ∷ []
+
+abbrev pub hex-text : List ℕ → List ℕ
+hex-text [] = []
+hex-text (b ∷ bs) = hex-byte-text b ++ hex-text bs
+
+-- the value of a hexadecimal digit in lower case, 16 for any other byte
+abbrev pub hex-value : ℕ → ℕ
+hex-value c = cond (leb 48 c && leb c 57) (c - 48) (cond (leb 97 c && leb c 102) (c - 87) 16)
+
+-- what two hexadecimal digits write, 256 where one is none
+abbrev pub hex-pair : (high low : ℕ) → ℕ
+hex-pair h l = cond (leb (hex-value h) 15 && leb (hex-value l) 15) (16 * hex-value h + hex-value l) 256
+
+-- the bytes that pairs of hexadecimal digits write, up to the first pair that writes none
+abbrev pub hex-bytes : List ℕ → List ℕ
+hex-bytes [] = []
+hex-bytes (h ∷ []) = []
+hex-bytes (h ∷ l ∷ cs) = cond (leb (hex-pair h l) 255) (hex-pair h l ∷ hex-bytes cs) []
+
+-- a number with one decimal digit more; other bytes are left out
+abbrev pub appended : (n c : ℕ) → ℕ
+appended n c = cond (leb 48 c && leb c 57) (10 * n + (c - 48)) n
+
+abbrev pub decimal-from : (n : ℕ) → List ℕ → ℕ
+decimal-from n [] = n
+decimal-from n (c ∷ cs) = decimal-from (appended n c) cs
+
+-- the greatest number of 32 bits stands for every number above it too
+abbrev pub most-number : ℕ
+most-number = 4294967295
+
+unfoldable pub number-of-text : List ℕ → ℕ
+number-of-text cs = min (decimal-from 0 cs) most-number
+
+-- Digests: each value below 2^32 in turn is added to the digest before it, multiplied by 65,599, modulo the largest
+-- prime below 2^32.
+unfoldable pub digest-step : (digest value : ℕ) → ℕ
+digest-step d v = (d % 4294967291 * 65599 + v % 4294967296) % 4294967291
+
+abbrev pub bytes-digest : (digest : ℕ) → List ℕ → ℕ
+bytes-digest d [] = d
+bytes-digest d (b ∷ bs) = bytes-digest (digest-step d b) bs
+
+-- a tab and the first cells: up to 64 whole, more as # and a digest that starts from 1
+unfoldable pub shown-text : (count : ℕ) → List ℕ → List ℕ
+shown-text n xs = 9 ∷ cond (leb n 64) (hex-text (part 0 n xs)) (parted-text 35 (bytes-digest 1 (part 0 n xs)))
+
+-- a word counts as two halves, the low one first
+abbrev pub words-digest : (digest : ℕ) → List ℕ → ℕ
+words-digest d [] = d
+words-digest d (w ∷ ws) = words-digest (digest-step (digest-step d w) (w / 4294967296)) ws
+
+-- what stands before the first byte `stop`, and whether there is one
+abbrev pub before-byte : (stop : ℕ) → List ℕ → List ℕ
+before-byte stop [] = []
+before-byte stop (c ∷ cs) = cond (eqb c stop) [] (c ∷ before-byte stop cs)
+
+abbrev pub has-byte : (stop : ℕ) → List ℕ → Bool
+has-byte stop [] = false
+has-byte stop (c ∷ cs) = cond (eqb c stop) true (has-byte stop cs)
+
+-- Lines: the input comes in chunks, and `line` holds the first bytes of the line that is being read. A size one above
+-- the line's length marks a line that does not fit.
+abbrev pub most-held : (line : List ℕ) → ℕ
+most-held line = length line + 1
+
+-- nothing is read yet
+abbrev pub before-input : Input
+before-input = record { from = 0; to = 0; size = 0; complete = false; ended = false }
+
+-- a line that was complete is no longer held
+abbrev pub kept-size : Input → ℕ
+kept-size i = cond (i .complete) 0 (i .size)
+
+abbrev pub chunk-left : Input → (chunk : List ℕ) → List ℕ
+chunk-left i chunk = part (i .from) (i .to) chunk
+
+-- The bytes of the chunk up to the next byte 10 are held; byte 10 itself is passed.
+pub record Holds (line chunk : List ℕ) (i : Input) (after : List ℕ) (r : Input) : Type 0 where
+  pub held : Puts-to (most-held line) line (kept-size i) (before-byte 10 (chunk-left i chunk)) after (r .size)
+  pub completes : r .complete ≡ has-byte 10 (chunk-left i chunk)
+  pub passes : r .from ≡ i .from + length (before-byte 10 (chunk-left i chunk)) + cond (has-byte 10 (chunk-left i chunk)) 1 0
+  pub same-end : r .to ≡ i .to
+  pub goes-on : r .ended ≡ false
+
+-- A new chunk, of whose bytes nothing can be said; the input has ended where it has none.
+pub record Refills (chunk : List ℕ) (i r : Input) : Type 0 where
+  pub keeps : r .size ≡ kept-size i
+  pub starts : r .from ≡ 0
+  pub lies : r .to ≤ length chunk
+  pub incomplete : r .complete ≡ false
+  pub says-end : r .ended ≡ eqb (r .to) 0

@@ -1,0 +1,25 @@
+// What the vector programs share: the lines of the input, the fields of a case's line, and answers as text.
+mod cells; // cells.rt: bytes shown whole or as a digest
+mod digest; // digest.rt: digests of cells
+mod fields; // fields.rt: the fields of a case's line
+mod hex; // hex.rt: bytes from and to hexadecimal digits
+mod lines; // lines.rt: the lines of the input
+mod put; // put.rt: bytes, numbers and answers put into a buffer
+
+pub use cells::put_shown;
+pub use digest::START;
+pub use digest::of_bytes;
+pub use digest::of_words;
+pub use fields::field_end;
+pub use fields::number;
+pub use hex::decode;
+pub use hex::put_hex;
+pub use lines::Input;
+pub use lines::advance;
+pub use lines::no_input;
+pub use put::put_answer;
+pub use put::put_byte;
+pub use put::put_bytes;
+pub use put::put_number;
+pub use put::put_parted;
+pub use put::put_refused;
