@@ -10,5 +10,6 @@ pub mod Fronts
 pub mod Follows
 pub mod Masks
 pub mod Scatter
+pub mod Memo
 pub mod Fill
 pub mod Meaning

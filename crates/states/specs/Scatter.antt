@@ -38,7 +38,7 @@ pub record Marking (chosen : ℕ → Bool) (i : ℕ) (before : List ℕ) (rest :
   pub long : length now ≡ length before
   pub together : (x : ℕ) → x < length before → (l : ℕ) → (test-bit (entry now x) l || (rest x && eqb i l)) ≡ (test-bit (entry before x) l || (chosen x && eqb i l))
 
-equal : (m n : ℕ) → Dec (m ≡ n)
+pub equal : (m n : ℕ) → Dec (m ≡ n)
 equal m n = go (eqb m n) refl
   where
     go : (b : Bool) → eqb m n ≡ b → Dec (m ≡ n)

@@ -1,10 +1,11 @@
 // The first sweep: the state sets of a tape's positions (01: marks), from the tape's end to its start.
 ghost use mathlib.Core.Path.{_≡_};
-ghost use Prim.Native.Nat.{_≤_};
+ghost use Prim.Native.Nat.{_≤_, _<_};
 ghost use Rattle.bits.specs.Bits.{bit, in-front};
 ghost use Rattle.states.specs.StateSets.{words as words-of};
-ghost use Rattle.states.specs.Steps.{behind, step-of};
+ghost use Rattle.states.specs.Steps.{behind, entry, step-of};
 ghost use Rattle.states.specs.Sweep.{Sweepable, sweep-of};
+ghost use Rattle.states.specs.Memo.{Remembers};
 ghost use Rattle.syntax.specs.TreeLaws.{Rules};
 ghost use Rattle.states.specs.Masks.{Masks-of};
 ghost use Rattle.states.specs.Fill.{Fillable};
@@ -76,6 +77,39 @@ pub fn step(
     Words { zero: a, one: b }
 }
 
+// The step for a letter, from what was remembered of the last one where that was from the same state set. Three cells of the memo are the
+// letter's: the state set of the next position, and the two that the step gave.
+fn recall(
+    zero: &[u64; 64],
+    one: &[u64; 64],
+    followers: &[u8; 64],
+    takers: &[u64; 128],
+    c: usize,
+    next: u64,
+    last: bool,
+    memo: &mut [u64],
+) -> Words
+    requires { ⌜ (c < 128) × Remembers (now zero) (now one) (now followers) (now takers) (now memo) ⌝ }
+    ensures { λ r.
+        ⌜ (r ≡ step-of (now (zero .entry)) (now (one .entry)) (now (followers .entry)) (entry (now (takers .entry)) c) next last) × Remembers (now (zero .entry)) (now (one .entry)) (now (followers .entry)) (now (takers .entry)) (now (memo .exit)) ⌝ }
+{
+    if last {
+        return step(zero, one, followers, takers[c], next, last);
+    }
+    let k = 3 * c;
+    if memo[k] == next {
+        return Words {
+            zero: memo[k + 1],
+            one: memo[k + 2],
+        };
+    }
+    let r = step(zero, one, followers, takers[c], next, last);
+    memo[k] = next;
+    memo[k + 1] = r.zero;
+    memo[k + 2] = r.one;
+    r
+}
+
 // The state sets of all positions, over the masks of a pattern: from the tape's end to its start.
 fn sweep(
     zero: &[u64; 64],
@@ -93,13 +127,14 @@ fn sweep(
     let n = tape.len();
     words[2 * n] = 0;
     words[2 * n + 1] = end;
+    let mut memo = [0u64; 384];
     let mut next = end;
     let mut last = true;
     let mut i = n;
     while 0 < i {
         i -= 1;
         let c = tape[i] as usize;
-        let r = step(zero, one, followers, takers[c], next, last);
+        let r = recall(zero, one, followers, takers, c, next, last, &mut memo);
         words[2 * i] = r.zero;
         words[2 * i + 1] = r.one;
         next = r.one;
