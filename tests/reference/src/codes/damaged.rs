@@ -46,7 +46,7 @@ pub fn cases() -> Vec<Case> {
     cases
 }
 
-fn damage(rng: &mut Prng, which: usize, bits: &[bool]) -> Code {
+pub fn damage(rng: &mut Prng, which: usize, bits: &[bool]) -> Code {
     let mut changed = bits.to_vec();
     let position = rng.below(bits.len());
     match which {

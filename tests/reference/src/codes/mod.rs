@@ -2,9 +2,9 @@
 //! then random codes, whole and damaged.
 
 mod by_hand;
-mod damaged;
+pub mod damaged;
 mod long;
-mod random;
+pub mod random;
 
 use crate::code::{pack, MOST_CODE_BYTES};
 use crate::hex;
