@@ -42,8 +42,8 @@ const STAR: &str = "0\tL\t4\t7\n1\tK\t-\t0\n";
 pub fn random_case(rng: &mut Prng) -> Case {
     let sort = rng.below(1_000);
     let table = match sort {
-        0..=2 => return long_case(rng),
-        3..=99 => by_hand(rng),
+        0..=4 => return long_case(rng),
+        5..=99 => by_hand(rng),
         100..=299 => nested(rng),
         _ => sampled_pattern(rng),
     };

@@ -9,12 +9,20 @@ use wumbyra_reference::table::{Refusal, Table};
 
 /// Cells on each side of a lent buffer that no call may touch.
 const CANARIES: usize = 8;
+/// Bytes of a code that is walked for every node.
+const SHORT: usize = 64;
 
 pub const CALLS: [&str; 6] = ["load", "parse", "flatten", "canonicalize", "span", "total"];
 
 /// How often each call answered each number, 0 to 10.
 #[derive(Clone, Default)]
 pub struct Counts(pub [[u64; 11]; 6]);
+
+impl Counts {
+    pub fn calls(&self) -> u64 {
+        self.0.iter().flatten().sum()
+    }
+}
 
 fn packed(answer: Result<u64, Refusal>) -> u64 {
     match answer {
@@ -174,29 +182,37 @@ impl Run<'_> {
             false => None,
         };
         let tape = own.as_deref().unwrap_or(&case.tape);
-        let proved = calls::span(
-            &case.text, tape, &case.code, case.count, case.node, case.visit,
-        );
-        let expected = visits::span(
-            &self.table,
-            tape,
-            &case.code,
-            bits,
-            u64::from(case.node),
-            u64::from(case.visit),
-        );
-        self.answered(
-            4,
-            proved,
-            packed(expected.map(|span| span.start << 16 | span.length)),
-        )
+        // Of short codes, every node at this visit.
+        let more = if case.code.len() < SHORT {
+            self.table.count as u32
+        } else {
+            0
+        };
+        for node in (0..more).chain([case.node]) {
+            let proved = calls::span(&case.text, tape, &case.code, case.count, node, case.visit);
+            let expected = visits::span(
+                &self.table,
+                tape,
+                &case.code,
+                bits,
+                u64::from(node),
+                u64::from(case.visit),
+            );
+            let shown = expected.map(|span| span.start << 16 | span.length);
+            self.answered(4, proved, packed(shown))?;
+        }
+        Ok(())
     }
 
     fn total(&mut self) -> Result<(), String> {
         let case = self.case;
-        let proved = calls::total(&case.text, &case.code, case.count, case.account);
         let expected = totals::totals(&self.table, &case.code, u64::from(case.count));
-        let litres = |totals: [u64; 10]| totals.get(case.account as usize).copied().unwrap_or(0);
-        self.answered(5, proved, packed(expected.map(litres)))
+        // Every account, the first that there is not, and the case's own.
+        for account in (0..=10).chain([case.account]) {
+            let proved = calls::total(&case.text, &case.code, case.count, account);
+            let litres = |totals: [u64; 10]| totals.get(account as usize).copied().unwrap_or(0);
+            self.answered(5, proved, packed(expected.map(litres)))?;
+        }
+        Ok(())
     }
 }

@@ -33,7 +33,10 @@ fn main() {
         }
     }
     show(&counts);
-    println!("{cases} cases, {} calls, seed {seed}: all equal", 6 * cases);
+    println!(
+        "{cases} cases, {} calls, seed {seed}: all equal",
+        counts.calls()
+    );
 }
 
 /// How often each call answered each number.
