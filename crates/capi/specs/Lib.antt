@@ -1,3 +1,4 @@
 pub mod Packed
 pub mod PackedLaws
 pub mod Unloaded
+pub mod SpanParts

@@ -38,6 +38,10 @@ unpack n v h =
     let b : (n * 4294967296 + v) % 4294967296 ≡ v = omega arith in
     ap₂ (λ x y. answer x y) a b
 
+-- an answer is nothing but its two parts: number << 32 | value
+pub repack : (r : ℕ) → r ≡ unpacked r .number * 4294967296 + unpacked r .value
+repack r = omega arith
+
 -- ── a service's promise on the loaded table ──
 module _ (text : List ℕ) (l : Loaded) (h : Loads text l) where
   pub load-packed : (r : ℕ) → unpacked r ≡ outcome-answer (l .outcome) → unpacked r ≡ load-answer text

@@ -23,8 +23,8 @@ fn main() {
     let mut counts = Counts::default();
     let mut seeds = Prng::new(seed);
     for index in 0..cases {
-        // Each case has a seed of its own, so that one can be made again alone.
-        let own = seeds.number();
+        // Each case has a seed of its own: with it, and 1 for the number of cases, it is made again alone.
+        let own = if cases == 1 { seed } else { seeds.number() };
         let case = random_case(&mut Prng::new(own));
         if let Err(words) = compare(&case, &mut counts) {
             println!("case {index} (seed {own}): {words}");
