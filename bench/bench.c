@@ -4,22 +4,12 @@
 #include "matchers.h"
 #include "patterns.h"
 #include "reader.h"
+#include "wumbyra.h"
 #include <stdio.h>
 #include <stdlib.h>
 #include <string.h>
 #include <time.h>
 #include <ucontext.h>
-
-// Services of the proved reader on a pattern's text: a slice is a pointer and a length. An answer is told in one number, the number of
-// the cause (0: none) in the high half and the value beside it in the low half.
-uint64_t bench_load(const uint8_t *text, size_t size);
-uint64_t bench_parse(const uint8_t *text, size_t size, const uint8_t *tape, size_t n, uint64_t *words, size_t cells,
-                     uint8_t *code, size_t bytes);
-uint64_t bench_flatten(const uint8_t *text, size_t size, const uint8_t *code, size_t bytes, uint32_t count,
-                       uint8_t *tape, size_t n);
-uint32_t bench_total(const uint8_t *text, size_t size, const uint8_t *code, size_t bytes, uint32_t count, size_t account);
-uint64_t bench_canonicalize(const uint8_t *text, size_t size, const uint8_t *code, size_t bytes, uint32_t count,
-                            uint8_t *tape, size_t n, uint64_t *words, size_t cells, uint8_t *canonical, size_t room);
 
 enum { LETTERS = 3600, CELLS = 2 * (LETTERS + 1), BYTES = 65536, ROUNDS = 2000, JOBS = 24 };
 
@@ -35,20 +25,20 @@ static volatile uint64_t sink;
 static int wanting;  // bounds that are not met
 
 // Calls of the proved reader.
-static void p_load(void) { sink = bench_load(text, size); }
+static void p_load(void) { sink = wumbyra_load(text, size); }
 static uint64_t parse_of(const uint8_t *what, size_t letters, size_t cells) {
-  return bench_parse(text, size, what, letters, words[0], cells, codes[0], BYTES);
+  return wumbyra_parse(text, size, what, letters, words[0], cells, codes[0], BYTES);
 }
 static void p_parse(void) { sink = parse_of(tape, n, CELLS); }
 static void p_unread(void) { sink = parse_of(unread, n, CELLS); }
 static void p_tests(void) { sink = parse_of(tape, n, 0); }
 static void p_one(void) { sink = parse_of(unread, 1, CELLS); }
 static void p_one_tests(void) { sink = parse_of(unread, 1, 0); }
-static void p_walk(void) { sink = bench_flatten(text, size, codes[0], bytes, bits, spelled[0], 0); }
-static void p_spell(void) { sink = bench_flatten(text, size, codes[0], bytes, bits, spelled[0], LETTERS); }
-static void p_total(void) { sink = bench_total(text, size, codes[0], bytes, bits, 1); }
+static void p_walk(void) { sink = wumbyra_flatten(text, size, codes[0], bytes, bits, spelled[0], 0); }
+static void p_spell(void) { sink = wumbyra_flatten(text, size, codes[0], bytes, bits, spelled[0], LETTERS); }
+static void p_total(void) { sink = wumbyra_total(text, size, codes[0], bytes, bits, 1); }
 static void p_settle(void) {
-  sink = bench_canonicalize(text, size, codes[0], bytes, bits, spelled[0], LETTERS, words[0], CELLS, settled[0], BYTES);
+  sink = wumbyra_canonicalize(text, size, codes[0], bytes, bits, spelled[0], LETTERS, words[0], CELLS, settled[0], BYTES);
 }
 
 // The same by hand.
@@ -145,7 +135,7 @@ static void take(size_t letters, unsigned lefts) {
 }
 
 static void compare(void) {
-  same("the line count", bench_load(text, size) == (uint64_t)table.count);
+  same("the line count", wumbyra_load(text, size) == (uint64_t)table.count);
   c_masks();
   same("cause 5", parse_of(unread, n, CELLS) == 5ull << 32);
   fill_words(&masks, unread, n, words[1]);
@@ -157,13 +147,13 @@ static void compare(void) {
   same("the bit count", bits == sink);
   same("words", !memcmp(words[0], words[1], 16 * (n + 1)));
   same("the code", !memcmp(codes[0], codes[1], bytes));
-  same("the walk", bench_flatten(text, size, codes[0], bytes, bits, spelled[0], 0) == (9ull << 32) + n);
+  same("the walk", wumbyra_flatten(text, size, codes[0], bytes, bits, spelled[0], 0) == (9ull << 32) + n);
   same("C's walk", check_code(&table, codes[0], bytes, bits) == (int)n && check_code(&table, codes[0], bytes, bits - 1) < 0);
   p_spell();
   same("the letter count", sink == n && spell(&table, codes[0], spelled[1]) == n);
   same("letters", !memcmp(spelled[0], tape, n) && !memcmp(spelled[1], tape, n));
   c_total();
-  for (int a = 0; a < 10; a++) same("litres", bench_total(text, size, codes[0], bytes, bits, a) == litres[a]);
+  for (int a = 0; a < 10; a++) same("litres", wumbyra_total(text, size, codes[0], bytes, bits, a) == litres[a]);
   p_settle();
   same("the settled bit count", sink == bits);
   c_settle();
@@ -244,11 +234,11 @@ static struct {
 } cases[CASES];
 
 static void grown_load(int k) {
-  for (size_t i = 0; i < LETTERS; i += cases[k].n) sink = bench_load(cases[k].text, cases[k].size);
+  for (size_t i = 0; i < LETTERS; i += cases[k].n) sink = wumbyra_load(cases[k].text, cases[k].size);
 }
 static void grown_parse(int k) {
   for (size_t i = 0; i < LETTERS; i += cases[k].n)
-    sink = bench_parse(cases[k].text, cases[k].size, cases[k].tapes + i, cases[k].n, words[0], CELLS, codes[0], BYTES);
+    sink = wumbyra_parse(cases[k].text, cases[k].size, cases[k].tapes + i, cases[k].n, words[0], CELLS, codes[0], BYTES);
 }
 static void grown_c(int k) {
   for (size_t i = 0; i < LETTERS; i += cases[k].n) {

@@ -3,7 +3,7 @@
 //! changed trees, and random good patterns.
 
 mod by_hand;
-mod mutated;
+pub mod mutated;
 
 pub struct Case {
     pub name: String,

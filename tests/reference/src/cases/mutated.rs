@@ -101,7 +101,7 @@ fn good_text(rng: &mut Prng, index: usize) -> Vec<u8> {
     }
 }
 
-fn change(rng: &mut Prng, mut text: Vec<u8>) -> Vec<u8> {
+pub fn change(rng: &mut Prng, mut text: Vec<u8>) -> Vec<u8> {
     if text.is_empty() {
         return vec![*rng.pick(LIKELY_BYTES)];
     }

@@ -171,7 +171,7 @@ fn empty(rng: &mut Prng, table: &Table, place: usize) -> Option<Value> {
 }
 
 /// The value with empty rounds put in; it spells the same.
-fn put_in(rng: &mut Prng, table: &Table, place: usize, value: &Value) -> Value {
+pub fn put_in(rng: &mut Prng, table: &Table, place: usize, value: &Value) -> Value {
     let node = table.node(place);
     let (x, y) = (node.x as usize, node.y as usize);
     match value {

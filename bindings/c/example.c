@@ -1,0 +1,57 @@
+/* The listing of the scope's example, through include/wumbyra.h, and each call's answers. It is C and C++. */
+#include "wumbyra.h"
+
+#include <stdio.h>
+#include <string.h>
+
+static const char pattern[] = "0\tR\t-\t0\t9\n1\tL\t-\tW\n2\tS\t9\t1\t0\n3\tR\t1\t0\t9\n4\tA\t-\t2\t3\n5\tK\t-\t4\n";
+static const char tape[] = "3W2";
+static int failed = 0;
+
+static void expect(const char *what, uint64_t answer, uint32_t number, uint32_t value)
+{
+    if (wumbyra_number(answer) != number || wumbyra_value(answer) != value) {
+        printf("%s: %u and %u, expected %u and %u\n", what, wumbyra_number(answer), wumbyra_value(answer), number, value);
+        failed = 1;
+    }
+}
+
+int main(void)
+{
+    enum { letters = 3 };
+    const uint8_t *text = (const uint8_t *)pattern;
+    const uint8_t *read = (const uint8_t *)tape;
+    const size_t len = sizeof pattern - 1;
+    uint64_t words[2 * (letters + 1)], again[2 * (letters + 1)];
+    uint8_t code[17 * letters], canonical[17 * letters], spelled[letters];
+    uint64_t answer;
+    uint32_t bits, i;
+
+    expect("load", wumbyra_load(text, len), WUMBYRA_OK, 6);
+    expect("load no text", wumbyra_load(text, 0), WUMBYRA_LINE_FORM, 0);
+    answer = wumbyra_parse(text, len, read, letters, words, WUMBYRA_WORDS(letters), code, WUMBYRA_CODE_BYTES(letters));
+    expect("parse", answer, WUMBYRA_OK, 21);
+    bits = wumbyra_value(answer);
+    printf("tape\t%d\t%u\t%02x%02x%02x\n", letters, bits, code[0], code[1], code[2]);
+    for (i = 1; i < WUMBYRA_ACCOUNTS; i++) {
+        uint32_t litres = wumbyra_value(wumbyra_total(text, len, code, 3, bits, i));
+        if (litres > 0)
+            printf("account\t%u\t%u\n", i, litres);
+    }
+    expect("total of no account", wumbyra_total(text, len, code, 3, bits, 10), WUMBYRA_OK, 0);
+    expect("flatten", wumbyra_flatten(text, len, code, 3, bits, spelled, letters), WUMBYRA_OK, letters);
+    if (memcmp(spelled, tape, letters) != 0)
+        failed = 1;
+    expect("flatten short", wumbyra_flatten(text, len, code, 3, bits, spelled, letters - 1), WUMBYRA_TAPE_TOO_SHORT, 3);
+    answer = wumbyra_canonicalize(text, len, code, 3, bits, spelled, letters, again, WUMBYRA_WORDS(letters), canonical,
+                                  sizeof canonical);
+    expect("canonicalize", answer, WUMBYRA_OK, bits);
+    if (memcmp(canonical, code, 3) != 0 || memcmp(again, words, sizeof words) != 0)
+        failed = 1;
+    answer = wumbyra_span(text, len, read, letters, code, 3, bits, 2, 0);
+    expect("span", answer, WUMBYRA_OK, 1 << 16 | 2);
+    printf("span\t%u\t%u\n", wumbyra_span_start(answer), wumbyra_span_length(answer));
+    expect("span of no node", wumbyra_span(text, len, read, letters, code, 3, bits, 6, 0), WUMBYRA_NO_SUCH_VISIT, 0);
+    expect("count past the bytes", wumbyra_total(text, len, code, 3, 25, 1), WUMBYRA_NOT_A_CODE, 0);
+    return failed;
+}

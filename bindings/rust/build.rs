@@ -1,0 +1,12 @@
+//! Links libcapi.a, which `rt staticlib capi` writes to target/staticlib of the repository; WUMBYRA_LIB names another folder.
+
+fn main() {
+    println!("cargo:rerun-if-env-changed=WUMBYRA_LIB");
+    let folder = std::env::var("WUMBYRA_LIB").unwrap_or_else(|_| {
+        let here = std::env::var("CARGO_MANIFEST_DIR").expect("set by cargo");
+        format!("{here}/../../target/staticlib")
+    });
+    println!("cargo:rerun-if-changed={folder}/libcapi.a");
+    println!("cargo:rustc-link-search=native={folder}");
+    println!("cargo:rustc-link-lib=static=capi");
+}

@@ -1,0 +1,151 @@
+//! The calls of include/wumbyra.h, on slices.
+
+mod c {
+    extern "C" {
+        pub fn wumbyra_load(text: *const u8, text_len: usize) -> u64;
+        pub fn wumbyra_parse(
+            text: *const u8,
+            text_len: usize,
+            tape: *const u8,
+            tape_len: usize,
+            words: *mut u64,
+            words_len: usize,
+            code: *mut u8,
+            code_len: usize,
+        ) -> u64;
+        pub fn wumbyra_flatten(
+            text: *const u8,
+            text_len: usize,
+            code: *const u8,
+            code_len: usize,
+            count: u32,
+            tape: *mut u8,
+            tape_len: usize,
+        ) -> u64;
+        pub fn wumbyra_canonicalize(
+            text: *const u8,
+            text_len: usize,
+            code: *const u8,
+            code_len: usize,
+            count: u32,
+            tape: *mut u8,
+            tape_len: usize,
+            words: *mut u64,
+            words_len: usize,
+            canonical: *mut u8,
+            canonical_len: usize,
+        ) -> u64;
+        pub fn wumbyra_span(
+            text: *const u8,
+            text_len: usize,
+            tape: *const u8,
+            tape_len: usize,
+            code: *const u8,
+            code_len: usize,
+            count: u32,
+            node: u32,
+            visit: u32,
+        ) -> u64;
+        pub fn wumbyra_total(
+            text: *const u8,
+            text_len: usize,
+            code: *const u8,
+            code_len: usize,
+            count: u32,
+            account: u32,
+        ) -> u64;
+    }
+}
+
+/// A number in the upper 32 bits, a value in the lower 32.
+pub struct Answer(pub u64);
+
+// Each pointer below comes from a slice and is passed with its length. The
+// calls keep none of them and write only to those that are `*mut`.
+
+pub fn load(text: &[u8]) -> Answer {
+    Answer(unsafe { c::wumbyra_load(text.as_ptr(), text.len()) })
+}
+
+pub fn parse(text: &[u8], tape: &[u8], words: &mut [u64], code: &mut [u8]) -> Answer {
+    Answer(unsafe {
+        c::wumbyra_parse(
+            text.as_ptr(),
+            text.len(),
+            tape.as_ptr(),
+            tape.len(),
+            words.as_mut_ptr(),
+            words.len(),
+            code.as_mut_ptr(),
+            code.len(),
+        )
+    })
+}
+
+pub fn flatten(text: &[u8], code: &[u8], count: u32, tape: &mut [u8]) -> Answer {
+    Answer(unsafe {
+        c::wumbyra_flatten(
+            text.as_ptr(),
+            text.len(),
+            code.as_ptr(),
+            code.len(),
+            count,
+            tape.as_mut_ptr(),
+            tape.len(),
+        )
+    })
+}
+
+pub fn canonicalize(
+    text: &[u8],
+    code: &[u8],
+    count: u32,
+    tape: &mut [u8],
+    words: &mut [u64],
+    canonical: &mut [u8],
+) -> Answer {
+    Answer(unsafe {
+        c::wumbyra_canonicalize(
+            text.as_ptr(),
+            text.len(),
+            code.as_ptr(),
+            code.len(),
+            count,
+            tape.as_mut_ptr(),
+            tape.len(),
+            words.as_mut_ptr(),
+            words.len(),
+            canonical.as_mut_ptr(),
+            canonical.len(),
+        )
+    })
+}
+
+pub fn span(text: &[u8], tape: &[u8], code: &[u8], count: u32, node: u32, visit: u32) -> Answer {
+    Answer(unsafe {
+        c::wumbyra_span(
+            text.as_ptr(),
+            text.len(),
+            tape.as_ptr(),
+            tape.len(),
+            code.as_ptr(),
+            code.len(),
+            count,
+            node,
+            visit,
+        )
+    })
+}
+
+pub fn total(text: &[u8], code: &[u8], count: u32, account: u32) -> Answer {
+    Answer(unsafe {
+        c::wumbyra_total(
+            text.as_ptr(),
+            text.len(),
+            code.as_ptr(),
+            code.len(),
+            count,
+            account,
+        )
+    })
+}

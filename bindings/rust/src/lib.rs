@@ -1,0 +1,188 @@
+//! A safe interface to the verified reader of water meter tapes.
+//!
+//! ```
+//! let pattern = wumbyra::Pattern::load(b"0\tL\t1\t7\n1\tK\t-\t0\n").unwrap();
+//! let parsed = pattern.parse(b"77").unwrap();
+//! assert_eq!(parsed.code.bits, 3);
+//! assert_eq!(pattern.total(&parsed.code, 1), Ok(14));
+//! ```
+//!
+//! The functions that end in `_into` take buffers from the caller and leave in them what include/wumbyra.h says; the others
+//! make buffers that suffice. A slice is never null, is aligned, and a `&mut` slice overlaps nothing else, so every rule of the
+//! header holds by the types.
+
+mod calls;
+mod refusal;
+
+use calls::Answer;
+pub use refusal::Refusal;
+use std::ops::Range;
+
+/// Letters of a tape at most.
+pub const MAX_LETTERS: usize = 3_600;
+/// Bytes of a code at most.
+pub const MAX_CODE_BYTES: usize = 65_536;
+
+/// Words that a tape of so many letters takes.
+pub const fn words_for(letters: usize) -> usize {
+    2 * (letters + 1)
+}
+
+/// Bytes that suffice for the code that is written for so many letters, whatever the pattern.
+pub const fn code_bytes_for(letters: usize) -> usize {
+    if letters == 0 {
+        8
+    } else {
+        17 * letters
+    }
+}
+
+/// Bits, from the highest of each byte.
+#[derive(Clone, Debug, PartialEq, Eq, Hash)]
+pub struct Code {
+    pub bytes: Vec<u8>,
+    pub bits: u32,
+}
+
+/// What reading a tape gives: the code, and the two words of each position.
+#[derive(Clone, Debug, PartialEq, Eq)]
+pub struct Parsed {
+    pub code: Code,
+    pub words: Vec<u64>,
+}
+
+/// A pattern text that loads.
+#[derive(Clone, Debug, PartialEq, Eq)]
+pub struct Pattern {
+    text: Vec<u8>,
+    lines: u32,
+}
+
+impl Pattern {
+    pub fn load(text: &[u8]) -> Result<Pattern, Refusal> {
+        let lines = calls::load(text).value()?;
+        Ok(Pattern {
+            text: text.to_vec(),
+            lines,
+        })
+    }
+
+    /// The number of its nodes.
+    pub fn lines(&self) -> u32 {
+        self.lines
+    }
+
+    pub fn text(&self) -> &[u8] {
+        &self.text
+    }
+
+    /// The code of the greedy reading of a tape.
+    pub fn parse(&self, tape: &[u8]) -> Result<Parsed, Refusal> {
+        // A longer tape is refused before a buffer is looked at.
+        let letters = tape.len().min(MAX_LETTERS);
+        let mut words = vec![0; words_for(letters)];
+        let mut bytes = vec![0; code_bytes_for(letters)];
+        let bits = self.parse_into(tape, &mut words, &mut bytes)?;
+        Ok(Parsed {
+            code: code_of(bytes, bits),
+            words,
+        })
+    }
+
+    /// The bit count; words and code are left in the buffers.
+    pub fn parse_into(
+        &self,
+        tape: &[u8],
+        words: &mut [u64],
+        code: &mut [u8],
+    ) -> Result<u32, Refusal> {
+        calls::parse(&self.text, tape, words, code).value()
+    }
+
+    /// The letters that a code spells.
+    pub fn flatten(&self, code: &Code) -> Result<Vec<u8>, Refusal> {
+        let mut tape = vec![0; MAX_LETTERS];
+        let letters = self.flatten_into(code, &mut tape)?;
+        tape.truncate(letters as usize);
+        Ok(tape)
+    }
+
+    /// The number of letters; they are left at the front of the buffer.
+    pub fn flatten_into(&self, code: &Code, tape: &mut [u8]) -> Result<u32, Refusal> {
+        calls::flatten(&self.text, &code.bytes, code.bits, tape).value()
+    }
+
+    /// The canonical code of what a code spells: equal for two codes exactly if they spell the same tape.
+    pub fn canonicalize(&self, code: &Code) -> Result<Code, Refusal> {
+        let mut tape = vec![0; MAX_LETTERS];
+        let letters = self.flatten_into(code, &mut tape)? as usize;
+        let mut words = vec![0; words_for(letters)];
+        let mut bytes = vec![0; code_bytes_for(letters)];
+        let bits = self.canonicalize_into(code, &mut tape, &mut words, &mut bytes)?;
+        Ok(code_of(bytes, bits))
+    }
+
+    /// The bit count; letters, words and canonical code are left in the buffers.
+    pub fn canonicalize_into(
+        &self,
+        code: &Code,
+        tape: &mut [u8],
+        words: &mut [u64],
+        canonical: &mut [u8],
+    ) -> Result<u32, Refusal> {
+        calls::canonicalize(&self.text, &code.bytes, code.bits, tape, words, canonical).value()
+    }
+
+    /// Where the piece lies that visit `visit` of a node covers.
+    pub fn span(
+        &self,
+        tape: &[u8],
+        code: &Code,
+        node: u32,
+        visit: u32,
+    ) -> Result<Range<usize>, Refusal> {
+        let value = calls::span(&self.text, tape, &code.bytes, code.bits, node, visit).value()?;
+        let (start, length) = ((value >> 16) as usize, (value & 0xffff) as usize);
+        Ok(start..start + length)
+    }
+
+    /// The piece itself.
+    pub fn piece<'a>(
+        &self,
+        tape: &'a [u8],
+        code: &Code,
+        node: u32,
+        visit: u32,
+    ) -> Result<&'a [u8], Refusal> {
+        Ok(&tape[self.span(tape, code, node, visit)?])
+    }
+
+    /// The litres of an account; 0 for an account above 9.
+    pub fn total(&self, code: &Code, account: u32) -> Result<u32, Refusal> {
+        calls::total(&self.text, &code.bytes, code.bits, account).value()
+    }
+
+    /// The litres of accounts 0 to 9.
+    pub fn totals(&self, code: &Code) -> Result<[u32; 10], Refusal> {
+        let mut litres = [0; 10];
+        for (account, cell) in (0..).zip(&mut litres) {
+            *cell = self.total(code, account)?;
+        }
+        Ok(litres)
+    }
+}
+
+fn code_of(mut bytes: Vec<u8>, bits: u32) -> Code {
+    bytes.truncate(bits.div_ceil(8) as usize);
+    Code { bytes, bits }
+}
+
+impl Answer {
+    fn value(self) -> Result<u32, Refusal> {
+        let (number, value) = ((self.0 >> 32) as u32, self.0 as u32);
+        match Refusal::of(number, value) {
+            None => Ok(value),
+            Some(refusal) => Err(refusal),
+        }
+    }
+}

@@ -1,0 +1,138 @@
+//! The worked examples of the scope, and each refusal with what is left in the buffers.
+
+use wumbyra::{code_bytes_for, words_for, Code, Pattern, Refusal};
+
+const LISTING: &[u8] =
+    b"0\tR\t-\t0\t9\n1\tL\t-\tW\n2\tS\t9\t1\t0\n3\tR\t1\t0\t9\n4\tA\t-\t2\t3\n5\tK\t-\t4\n";
+const P1: &[u8] = b"0\tL\t-\ta\n1\tE\t-\n2\tA\t-\t0\t1\n3\tK\t-\t2\n";
+const P2: &[u8] = b"0\tE\t-\n1\tL\t-\ta\n2\tA\t-\t0\t1\n3\tK\t-\t2\n";
+const P3: &[u8] = b"0\tL\t-\ta\n1\tK\t-\t0\n2\tL\t-\tb\n3\tK\t-\t2\n4\tS\t-\t1\t3\n5\tK\t-\t4\n";
+const P4: &[u8] = b"0\tL\t-\ta\n1\tL\t-\ta\n2\tL\t-\tb\n3\tS\t-\t1\t2\n4\tA\t-\t0\t3\n5\tL\t-\tb\n6\tE\t-\n7\tA\t-\t5\t6\n8\tS\t-\t4\t7\n";
+const P5: &[u8] = b"0\tL\t-\ta\n1\tK\t-\t0\n2\tL\t-\ta\n3\tS\t-\t1\t2\n";
+
+fn pattern(text: &[u8]) -> Pattern {
+    Pattern::load(text).expect("a good pattern")
+}
+
+/// A code of bits written as 0 and 1.
+fn code(bits: &str) -> Code {
+    let mut bytes = vec![0; bits.len().div_ceil(8)];
+    for (at, _) in bits.bytes().enumerate().filter(|(_, bit)| *bit == b'1') {
+        bytes[at / 8] |= 0x80 >> (at % 8);
+    }
+    Code {
+        bytes,
+        bits: bits.len() as u32,
+    }
+}
+
+#[test]
+fn tapes_to_try() {
+    for (text, tape, bits) in [
+        (P1, "", "1"),
+        (P1, "a", "001"),
+        (P2, "a", "011"),
+        (P3, "ab", "001011"),
+        (P3, "ba", "010100111"),
+        (P4, "ab", "00"),
+        (P4, "abb", "10"),
+        (P5, "aa", "01"),
+    ] {
+        let parsed = pattern(text).parse(tape.as_bytes()).expect("it is read");
+        assert_eq!(parsed.code, code(bits));
+        assert_eq!(
+            pattern(text).flatten(&parsed.code).as_deref(),
+            Ok(tape.as_bytes())
+        );
+    }
+    assert_eq!(pattern(P5).parse(b""), Err(Refusal::Unreadable));
+    assert_eq!(pattern(P4).canonicalize(&code("11")), Ok(code("00")));
+    assert_eq!(pattern(P1).canonicalize(&code("011")), Ok(code("1")));
+    assert_eq!(pattern(P1).canonicalize(&code("01001")), Ok(code("001")));
+}
+
+#[test]
+fn a_whole_listing() {
+    let listing = pattern(LISTING);
+    assert_eq!(listing.lines(), 6);
+    let parsed = listing.parse(b"3W2").expect("it is read");
+    assert_eq!(parsed.code.bits, 21);
+    assert_eq!(parsed.code.bytes, [0x4c, 0xc3, 0x28]);
+    let open: Vec<u32> = parsed
+        .words
+        .chunks(2)
+        .map(|two| two[1].count_ones())
+        .collect();
+    assert_eq!(open, [4, 4, 4, 1]);
+    assert_eq!(
+        listing.totals(&parsed.code),
+        Ok([0, 3, 0, 0, 0, 0, 0, 0, 0, 2])
+    );
+    assert_eq!(listing.total(&parsed.code, 10), Ok(0));
+    assert_eq!(listing.span(b"3W2", &parsed.code, 2, 0), Ok(1..3));
+    assert_eq!(listing.piece(b"3W2", &parsed.code, 4, 1), Ok(&b"W2"[..]));
+}
+
+#[test]
+fn refusals() {
+    assert_eq!(Pattern::load(b""), Err(Refusal::LineForm { line: 0 }));
+    assert_eq!(
+        Pattern::load(b"0\tE\t-\n1\tK\t-\t1\n"),
+        Err(Refusal::Tree { line: 1 })
+    );
+    let p1 = pattern(P1);
+    assert_eq!(p1.parse(&[b'a'; 3_601]), Err(Refusal::TapeTooLong));
+    assert_eq!(p1.parse(b"aa a"), Err(Refusal::TapeByte { position: 2 }));
+    assert_eq!(p1.flatten(&code("0")), Err(Refusal::NotACode));
+    assert_eq!(p1.span(b"aa", &code("001"), 0, 0), Err(Refusal::NotACode));
+    assert_eq!(p1.span(b"a", &code("001"), 0, 1), Err(Refusal::NoSuchVisit));
+    assert_eq!(Refusal::NoSuchVisit.number(), 10);
+    assert_eq!((Refusal::CodeTooShort { needed: 3 }).value(), 3);
+    assert!(p1.parse(&[b'a'; 3_600]).is_ok());
+}
+
+#[test]
+fn buffers_that_are_one_short_are_left_as_they_were() {
+    let p1 = pattern(P1);
+    let tape = [b'a'; 8];
+    let (mut words, mut code) = ([7; 19], [7; 4]);
+    assert_eq!(
+        p1.parse_into(&tape, &mut words[..17], &mut code),
+        Err(Refusal::WordsTooShort { needed: 18 })
+    );
+    assert_eq!(words, [7; 19]);
+    assert_eq!(
+        p1.parse_into(&tape, &mut words, &mut code[..2]),
+        Err(Refusal::CodeTooShort { needed: 3 })
+    );
+    assert_eq!((words[18], code), (7, [7; 4]));
+    assert_eq!(
+        p1.parse_into(&tape, &mut words[..18], &mut code[..3]),
+        Ok(17)
+    );
+    assert_eq!(code, [0, 0, 0x80, 7]);
+    let read = Code {
+        bytes: code[..3].to_vec(),
+        bits: 17,
+    };
+    let mut letters = [7; 9];
+    assert_eq!(
+        p1.flatten_into(&read, &mut letters[..7]),
+        Err(Refusal::TapeTooShort { needed: 8 })
+    );
+    assert_eq!(letters, [7; 9]);
+    assert_eq!(
+        p1.canonicalize_into(&read, &mut letters, &mut [0; 17], &mut [0; 3]),
+        Err(Refusal::WordsTooShort { needed: 18 })
+    );
+    assert_eq!(letters, *b"aaaaaaaa\x07");
+}
+
+#[test]
+fn bounds_suffice() {
+    assert_eq!((words_for(0), words_for(3)), (2, 8));
+    assert_eq!((code_bytes_for(0), code_bytes_for(3)), (8, 51));
+    for letters in [0, 1, 100, 3_600] {
+        assert!(pattern(P2).parse(&vec![b'a'; letters]).is_ok());
+    }
+}

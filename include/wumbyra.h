@@ -1,0 +1,134 @@
+/* Wumbyra: a verified reader of water meter tapes, for C and C++ (x86-64 Linux).
+ *
+ * Link with target/staticlib/libcapi.a, which `rt staticlib capi` writes; it needs memcpy and memset and nothing else.
+ * Every function is proved to answer, and to leave in every buffer, what the definitions of the services give on the table
+ * that its pattern text loads as (crates/capi, specs/Packed). What is not proved: this header, the compiler's back end, and
+ * how deep the stack goes; recursion follows the pattern's tree, at most 64 calls, and never the tape's length.
+ *
+ * Rules for every call
+ *  - A buffer is passed as a pointer and a length in elements. No pointer is NULL, even where the length is 0.
+ *  - `words` is aligned for uint64_t.
+ *  - A buffer that is written (not const) overlaps no other argument. Those that are read may overlap each other.
+ *  - Whatever bytes the arguments hold, the call returns an answer. It keeps no pointer and has no state: calls on different
+ *    buffers may run at the same time.
+ *  - Buffer cells past the written ones never change.
+ *
+ * Answers
+ *  An answer is number << 32 | value. Number 0 is success; any other is the cause of a refusal:
+ *
+ *   number                        cause                                                        value
+ *   WUMBYRA_LINE_FORM        1    a line of the pattern text has not the form of a line        line, from 0
+ *   WUMBYRA_TREE             2    the lines are no tree; in all calls but wumbyra_load:        line; else 0
+ *                                 the text does not load, for whatever reason
+ *   WUMBYRA_TAPE_TOO_LONG    3    a tape of over 3,600 letters                                 0
+ *   WUMBYRA_TAPE_BYTE        4    a byte of the tape is outside 33 to 126                      first such position
+ *   WUMBYRA_UNREADABLE       5    no reading of the pattern spells the tape                    0
+ *   WUMBYRA_WORDS_TOO_SHORT  6    fewer than 2 * (n + 1) words for n letters                   words needed
+ *   WUMBYRA_CODE_TOO_SHORT   7    the code buffer is shorter than this code                    bytes needed
+ *   WUMBYRA_NOT_A_CODE       8    not a whole code of the pattern: bits, range, count or       0
+ *                                 padding; in wumbyra_span also a code of another tape
+ *   WUMBYRA_TAPE_TOO_SHORT   9    the tape buffer is shorter than what the code spells         letters needed
+ *   WUMBYRA_NO_SUCH_VISIT   10    no such node, or it is visited at most `visit` times         0
+ *
+ *  Where several causes hold, the first in the order that is given with the call is answered.
+ *
+ * Codes
+ *  A code is bytes and a bit count. Bits fill bytes from the highest; the bytes are exactly enough for the count, unused bits
+ *  are 0, and there are at most 65,536 bytes. */
+#ifndef WUMBYRA_H
+#define WUMBYRA_H
+
+#include <stddef.h>
+#include <stdint.h>
+
+#ifdef __cplusplus
+extern "C" {
+#endif
+
+enum {
+    WUMBYRA_OK = 0,
+    WUMBYRA_LINE_FORM = 1,
+    WUMBYRA_TREE = 2,
+    WUMBYRA_TAPE_TOO_LONG = 3,
+    WUMBYRA_TAPE_BYTE = 4,
+    WUMBYRA_UNREADABLE = 5,
+    WUMBYRA_WORDS_TOO_SHORT = 6,
+    WUMBYRA_CODE_TOO_SHORT = 7,
+    WUMBYRA_NOT_A_CODE = 8,
+    WUMBYRA_TAPE_TOO_SHORT = 9,
+    WUMBYRA_NO_SUCH_VISIT = 10
+};
+
+/* Limits: lines of a pattern, letters of a tape, bytes of a code, accounts 0 to 9. */
+#define WUMBYRA_MAX_LINES 64
+#define WUMBYRA_MAX_LETTERS 3600
+#define WUMBYRA_MAX_CODE_BYTES 65536
+#define WUMBYRA_ACCOUNTS 10
+
+/* Words that a tape of n letters takes. */
+#define WUMBYRA_WORDS(n) (2 * ((size_t)(n) + 1))
+
+/* Bytes that suffice for the code that wumbyra_parse or wumbyra_canonicalize writes for n letters, whatever the pattern: it has
+ * at most 64 bits if n is 0, and at most 2 * 64 * n + 8 * n otherwise. The code itself is mostly far shorter. */
+#define WUMBYRA_CODE_BYTES(n) ((n) == 0 ? (size_t)8 : 17 * (size_t)(n))
+
+/* The parts of an answer. */
+static inline uint32_t wumbyra_number(uint64_t answer)
+{
+    return (uint32_t)(answer >> 32);
+}
+
+static inline uint32_t wumbyra_value(uint64_t answer)
+{
+    return (uint32_t)(answer & 0xffffffffu);
+}
+
+/* The parts of the value of a span that is shown. */
+static inline uint32_t wumbyra_span_start(uint64_t answer)
+{
+    return wumbyra_value(answer) >> 16;
+}
+
+static inline uint32_t wumbyra_span_length(uint64_t answer)
+{
+    return wumbyra_value(answer) & 0xffffu;
+}
+
+/* Whether a pattern text loads. Order 1, 2. Value: the line count; at 1 and 2 the first line at fault. */
+uint64_t wumbyra_load(const uint8_t *text, size_t text_len);
+
+/* The code of the greedy reading of a tape. Order 2, 3, 4, 6, 5, 7. Value: the code's bit count.
+ * Written: words[0] to words[2 * n + 1], where bit l of words[2 * i + b] says that the letters from i on can be read from
+ * node l on with flag b; and the code's bytes, (bits + 7) / 8 of them.
+ * Left as they were: words and code at 2, 3, 4, 6; code at 5 and 7, where the words are filled. */
+uint64_t wumbyra_parse(const uint8_t *text, size_t text_len, const uint8_t *tape, size_t tape_len, uint64_t *words,
+                       size_t words_len, uint8_t *code, size_t code_len);
+
+/* What a code spells. Order 2, 8, 3, 9. Value: the number of letters.
+ * Written: the letters, from tape[0] on. Left as it was: tape, at every refusal. */
+uint64_t wumbyra_flatten(const uint8_t *text, size_t text_len, const uint8_t *code, size_t code_len, uint32_t count,
+                         uint8_t *tape, size_t tape_len);
+
+/* The canonical code of what a code spells: two codes of a pattern spell the same tape exactly if their canonical codes are
+ * equal. Order 2, 8, 3, 9, 6, 5, 7. Value: the canonical code's bit count.
+ * Written: the letters to tape, their words to words, the canonical code to canonical.
+ * Left as they were: all at 2, 8, 3, 9; words and canonical at 6, where the tape is filled; canonical at 7, where tape and
+ * words are filled. (5 does not occur: the code is itself a reading of what it spells.) */
+uint64_t wumbyra_canonicalize(const uint8_t *text, size_t text_len, const uint8_t *code, size_t code_len, uint32_t count,
+                              uint8_t *tape, size_t tape_len, uint64_t *words, size_t words_len, uint8_t *canonical,
+                              size_t canonical_len);
+
+/* The piece of the tape that a visit of a node covers; visits are counted from 0 as the code enters them, and a K with all its
+ * rounds is one visit. Order 2, 3, 4, 8, 10. Value: start << 16 | length. */
+uint64_t wumbyra_span(const uint8_t *text, size_t text_len, const uint8_t *tape, size_t tape_len, const uint8_t *code,
+                      size_t code_len, uint32_t count, uint32_t node, uint32_t visit);
+
+/* The litres of an account, 0 to 9; of an account above 9, 0. Order 2, 8, 3. Value: the litres, at a refusal 0. */
+uint64_t wumbyra_total(const uint8_t *text, size_t text_len, const uint8_t *code, size_t code_len, uint32_t count,
+                       uint32_t account);
+
+#ifdef __cplusplus
+}
+#endif
+
+#endif

@@ -1,0 +1,285 @@
+//! Random cases: a pattern text, a tape, a code and the buffers lent.
+
+use wumbyra_reference::cases::mutated::change;
+use wumbyra_reference::code::{encode, pack};
+use wumbyra_reference::codes::damaged::damage;
+use wumbyra_reference::codes::random::{put_in, sample};
+use wumbyra_reference::codes::Code;
+use wumbyra_reference::load::load;
+use wumbyra_reference::memo::greedy_reading;
+use wumbyra_reference::patterns::{random, text_of, LISTING, P1, P2, P3, P4, P5};
+use wumbyra_reference::prng::Prng;
+use wumbyra_reference::services::spelling::letters_of;
+use wumbyra_reference::table::{Kind, Node, Table};
+use wumbyra_reference::tapes::random::{METER, NULLABLE};
+use wumbyra_reference::value::{spell, Value};
+
+#[derive(Clone, Debug, PartialEq, Eq)]
+pub struct Case {
+    pub text: Vec<u8>,
+    pub tape: Vec<u8>,
+    pub code: Vec<u8>,
+    pub count: u32,
+    /// The tape handed to `span`: the code's own where there is one, else `tape`.
+    pub own_tape: bool,
+    pub node: u32,
+    pub visit: u32,
+    pub account: u32,
+    /// Cells lent: to `parse` words and bytes, to `flatten` and `canonicalize` letters, to `canonicalize` words and bytes.
+    pub parse_words: usize,
+    pub parse_bytes: usize,
+    pub letters: usize,
+    pub words: usize,
+    pub bytes: usize,
+    /// What the buffers hold before a call.
+    pub filling: u64,
+}
+
+/// Letters of a sampled tape; longer ones are made of simple patterns only, since the reference is slow.
+const MOST_SAMPLED: usize = 60;
+const STAR: &str = "0\tL\t4\t7\n1\tK\t-\t0\n";
+
+pub fn random_case(rng: &mut Prng) -> Case {
+    let sort = rng.below(1_000);
+    let table = match sort {
+        0..=4 => return long_case(rng),
+        5..=99 => by_hand(rng),
+        100..=299 => nested(rng),
+        _ => sampled_pattern(rng),
+    };
+    let value = sampled_value(rng, &table);
+    let tape = tape_of(rng, &table, &value);
+    let code = code_of(rng, &table, &value, &tape);
+    let mut text = text_of(&table);
+    if rng.below(6) == 0 {
+        for _ in 0..1 + rng.below(3) {
+            text = change(rng, text);
+        }
+    }
+    finished(rng, text, tape, code)
+}
+
+fn by_hand(rng: &mut Prng) -> Table {
+    let text = *rng.pick(&[LISTING, P1, P2, P3, P4, P5, STAR]);
+    load(text.as_bytes()).expect("a good pattern")
+}
+
+fn sampled_pattern(rng: &mut Prng) -> Table {
+    let taste = *rng.pick(&[&NULLABLE, &NULLABLE, &METER]);
+    let count = match rng.below(40) {
+        0 => 64,
+        1 => 40 + rng.below(24),
+        _ => 1 + rng.below(24),
+    };
+    random(rng, count, taste)
+}
+
+/// Stars in stars over parts that may be empty, and repeated optional parts: what a search that goes back takes longest for.
+fn nested(rng: &mut Prng) -> Table {
+    let mut nodes: Vec<Node> = Vec::new();
+    let mut add = |kind, x: usize, y: usize| {
+        nodes.push(Node::new(kind, (x + y) as u64 % 10, x as u64, y as u64));
+        nodes.len() - 1
+    };
+    let mut whole = add(Kind::Letter, usize::from(b'0') + rng.below(3), 0);
+    for _ in 0..1 + rng.below(9) {
+        whole = match rng.below(6) {
+            0 | 1 => add(Kind::Rounds, whole, 0),
+            2 => {
+                let empty = add(Kind::Nothing, 0, 0);
+                add(Kind::Either, whole, empty)
+            }
+            3 => {
+                let empty = add(Kind::Nothing, 0, 0);
+                add(Kind::Either, empty, whole)
+            }
+            4 => {
+                let other = add(Kind::Range, usize::from(b'0'), usize::from(b'2'));
+                let other = add(Kind::Rounds, other, 0);
+                add(Kind::Sequence, whole, other)
+            }
+            _ => {
+                let other = add(Kind::Letter, usize::from(b'0') + rng.below(3), 0);
+                let empty = add(Kind::Nothing, 0, 0);
+                let other = add(Kind::Either, other, empty);
+                add(Kind::Sequence, other, whole)
+            }
+        };
+    }
+    Table::of_nodes(&nodes)
+}
+
+/// A value that is not too long, with empty rounds put in half of the time.
+fn sampled_value(rng: &mut Prng, table: &Table) -> Value {
+    let root = table.root();
+    let mut value = sample(rng, table, root, &mut 0);
+    for _ in 0..rng.below(4) {
+        let other = sample(rng, table, root, &mut 0);
+        let letters = spell(&other).len();
+        if letters <= MOST_SAMPLED && letters > spell(&value).len() {
+            value = other;
+        }
+    }
+    if rng.below(2) == 0 {
+        value = put_in(rng, table, root, &value);
+    }
+    value
+}
+
+fn tape_of(rng: &mut Prng, table: &Table, value: &Value) -> Vec<u8> {
+    let mut tape = spell(value);
+    let letters: &[u8] = if table.lines().iter().any(|node| node.x == u64::from(b'a')) {
+        b"ab"
+    } else {
+        b"0123W"
+    };
+    match rng.below(12) {
+        0 => tape.clear(),
+        // A byte that is no letter, at either end of the letters.
+        1 => {
+            let at = rng.below(tape.len() + 1);
+            tape.insert(at, *rng.pick(&[0, 9, 10, 32, 127, 128, 255]));
+        }
+        2 => {
+            let at = rng.below(tape.len() + 1);
+            tape.insert(at, *rng.pick(&[33, 126]));
+        }
+        3 | 4 => {
+            for _ in 0..1 + rng.below(3) {
+                let at = rng.below(tape.len() + 1);
+                match rng.below(3) {
+                    0 if at < tape.len() => tape[at] = *rng.pick(letters),
+                    1 if at < tape.len() => drop(tape.remove(at)),
+                    _ => tape.insert(at, *rng.pick(letters)),
+                }
+            }
+        }
+        5 => tape = (0..rng.below(20)).map(|_| *rng.pick(letters)).collect(),
+        _ => {}
+    }
+    tape
+}
+
+fn code_of(rng: &mut Prng, table: &Table, value: &Value, tape: &[u8]) -> Code {
+    let bits = encode(table, value);
+    match rng.below(20) {
+        0..=2 if bits.len() >= 2 => {
+            let which = rng.below(8);
+            damage(rng, which, &bits)
+        }
+        3 => {
+            let bytes: Vec<u8> = (0..rng.below(9)).map(|_| rng.number() as u8).collect();
+            let count = rng.below(8 * bytes.len() + 2) as u64;
+            Code { bytes, count }
+        }
+        // Counts that wrap or are far past the bytes.
+        4 => Code {
+            bytes: pack(&bits),
+            count: *rng.pick(&[
+                0,
+                524_288,
+                524_289,
+                u64::from(u32::MAX),
+                u64::from(u32::MAX) - 6,
+            ]),
+        },
+        5 => match greedy_reading(table, tape) {
+            Some(reading) => Code::of_bits(&encode(table, &reading)),
+            None => Code::of_bits(&bits),
+        },
+        _ => Code::of_bits(&bits),
+    }
+}
+
+/// Tapes and codes about 3,600 letters, and codes about 65,536 bytes.
+fn long_case(rng: &mut Prng) -> Case {
+    let (text, round, letter) = *rng.pick(&[
+        (STAR, "0", b'7'),
+        (P1, "00", b'a'),
+        (P2, "01", b'a'),
+        (P3, "0001", b'b'),
+    ]);
+    let count = *rng.pick(&[3_599, 3_600, 3_601, 3_602]);
+    let mut tape = vec![letter; count];
+    if rng.below(4) == 0 {
+        tape[rng.below(count)] = 32;
+    }
+    let rounds = match rng.below(3) {
+        0 => *rng.pick(&[27_000, 524_287, 524_288]) / round.len(),
+        _ => *rng.pick(&[3_599, 3_600, 3_601]),
+    };
+    let mut bits: Vec<bool> = round
+        .repeat(rounds)
+        .bytes()
+        .map(|bit| bit == b'1')
+        .collect();
+    bits.push(true);
+    finished(rng, text.into(), tape, Code::of_bits(&bits))
+}
+
+/// A buffer exact, one short, one longer, empty or a little longer than what is needed.
+fn lent(rng: &mut Prng, needed: usize) -> usize {
+    match rng.below(10) {
+        0 | 1 => needed.saturating_sub(1),
+        2 => needed + 1,
+        3 => needed + rng.below(40),
+        4 => rng.below(needed + 1),
+        _ => needed,
+    }
+}
+
+fn finished(rng: &mut Prng, text: Vec<u8>, tape: Vec<u8>, code: Code) -> Case {
+    let mut case = Case {
+        text,
+        tape,
+        code: code.bytes,
+        count: u32::try_from(code.count).expect("a count of 32 bits"),
+        own_tape: rng.below(6) != 0,
+        node: 0,
+        visit: 0,
+        account: 0,
+        parse_words: 0,
+        parse_bytes: 0,
+        letters: 0,
+        words: 0,
+        bytes: 0,
+        filling: rng.number(),
+    };
+    let mut nodes = 64;
+    let (mut parse_bytes, mut letters, mut bytes) = (0, 0, 0);
+    if let Ok(table) = load(&case.text) {
+        nodes = table.count as usize;
+        let needed = |tape: &[u8]| match greedy_reading(&table, tape) {
+            Some(reading) if tape.len() <= 3_600 => encode(&table, &reading).len().div_ceil(8),
+            _ => 0,
+        };
+        parse_bytes = needed(&case.tape);
+        if let Ok(spelled) = letters_of(&table, &case.code, u64::from(case.count)) {
+            letters = spelled.len();
+            bytes = if letters <= 3_600 {
+                needed(&spelled)
+            } else {
+                0
+            };
+        }
+    }
+    let letters_needed = letters.min(3_700);
+    case.parse_words = lent(rng, 2 * (case.tape.len() + 1));
+    case.parse_bytes = lent(rng, parse_bytes);
+    case.letters = lent(rng, letters_needed);
+    case.words = lent(rng, 2 * (letters_needed + 1));
+    case.bytes = lent(rng, bytes);
+    case.node = match rng.below(12) {
+        0 => *rng.pick(&[64, 65, 256, u32::MAX]),
+        _ => rng.below(nodes + 1) as u32,
+    };
+    case.visit = match rng.below(12) {
+        0 => *rng.pick(&[256, 3_600, u32::MAX]),
+        _ => (rng.below(4) * rng.below(4)) as u32,
+    };
+    case.account = match rng.below(12) {
+        0 => *rng.pick(&[10, 16, 64, u32::MAX]),
+        _ => rng.below(11) as u32,
+    };
+    case
+}

@@ -1,0 +1,218 @@
+//! One case, through the C interface and through the reference: every answer and every cell of every buffer.
+
+use crate::calls;
+use crate::case::Case;
+use wumbyra_reference::load::load;
+use wumbyra_reference::prng::Prng;
+use wumbyra_reference::services::{reading, settling, spelling, totals, visits};
+use wumbyra_reference::table::{Refusal, Table};
+
+/// Cells on each side of a lent buffer that no call may touch.
+const CANARIES: usize = 8;
+/// Bytes of a code that is walked for every node.
+const SHORT: usize = 64;
+
+pub const CALLS: [&str; 6] = ["load", "parse", "flatten", "canonicalize", "span", "total"];
+
+/// How often each call answered each number, 0 to 10.
+#[derive(Clone, Default)]
+pub struct Counts(pub [[u64; 11]; 6]);
+
+impl Counts {
+    pub fn calls(&self) -> u64 {
+        self.0.iter().flatten().sum()
+    }
+}
+
+fn packed(answer: Result<u64, Refusal>) -> u64 {
+    match answer {
+        Ok(value) => value,
+        Err(refusal) => refusal.number << 32 | refusal.value,
+    }
+}
+
+/// A buffer with canaries around the part that is lent, and the same for the reference.
+struct Lent<T> {
+    proved: Vec<T>,
+    expected: Vec<T>,
+    length: usize,
+}
+
+impl<T: Copy + PartialEq> Lent<T> {
+    fn new(length: usize, mut cell: impl FnMut() -> T) -> Lent<T> {
+        let all: Vec<T> = (0..length + 2 * CANARIES).map(|_| cell()).collect();
+        Lent {
+            proved: all.clone(),
+            expected: all,
+            length,
+        }
+    }
+
+    fn proved(&mut self) -> &mut [T] {
+        &mut self.proved[CANARIES..CANARIES + self.length]
+    }
+
+    fn expected(&mut self) -> &mut [T] {
+        &mut self.expected[CANARIES..CANARIES + self.length]
+    }
+
+    fn same(&self, call: &str, name: &str) -> Result<(), String> {
+        match (0..self.proved.len()).find(|&at| self.proved[at] != self.expected[at]) {
+            None => Ok(()),
+            Some(at) => Err(format!(
+                "{call}: cell {} of {name} ({} lent) differs",
+                at as i64 - CANARIES as i64,
+                self.length
+            )),
+        }
+    }
+}
+
+struct Run<'a> {
+    case: &'a Case,
+    table: Table,
+    fill: Prng,
+    counts: &'a mut Counts,
+}
+
+/// What differs, if anything does.
+pub fn compare(case: &Case, counts: &mut Counts) -> Result<(), String> {
+    let loaded = load(&case.text);
+    let mut run = Run {
+        case,
+        table: loaded.clone().unwrap_or_else(|_| Table::of_no_lines()),
+        fill: Prng::new(case.filling),
+        counts,
+    };
+    let before = (case.text.clone(), case.tape.clone(), case.code.clone());
+    let answer = calls::load(&case.text);
+    run.answered(0, answer, packed(loaded.map(|table| table.count)))?;
+    run.parse()?;
+    run.flatten()?;
+    run.canonicalize()?;
+    run.span()?;
+    run.total()?;
+    if before != (case.text.clone(), case.tape.clone(), case.code.clone()) {
+        return Err("text, tape or code was changed".into());
+    }
+    Ok(())
+}
+
+impl Run<'_> {
+    fn answered(&mut self, call: usize, proved: u64, expected: u64) -> Result<(), String> {
+        if proved != expected {
+            return Err(format!(
+                "{}: answered {} and {}, expected {} and {}",
+                CALLS[call],
+                proved >> 32,
+                proved as u32,
+                expected >> 32,
+                expected as u32
+            ));
+        }
+        self.counts.0[call][(proved >> 32) as usize] += 1;
+        Ok(())
+    }
+
+    fn bytes(&mut self, length: usize) -> Lent<u8> {
+        Lent::new(length, || self.fill.number() as u8)
+    }
+
+    fn words(&mut self, length: usize) -> Lent<u64> {
+        Lent::new(length, || self.fill.number())
+    }
+
+    fn parse(&mut self) -> Result<(), String> {
+        let case = self.case;
+        let mut words = self.words(case.parse_words);
+        let mut code = self.bytes(case.parse_bytes);
+        let proved = calls::parse(&case.text, &case.tape, words.proved(), code.proved());
+        let expected = reading::parse(&self.table, &case.tape, words.expected(), code.expected());
+        self.answered(1, proved, packed(expected))?;
+        words.same("parse", "words")?;
+        code.same("parse", "code")
+    }
+
+    fn flatten(&mut self) -> Result<(), String> {
+        let case = self.case;
+        let mut tape = self.bytes(case.letters);
+        let proved = calls::flatten(&case.text, &case.code, case.count, tape.proved());
+        let expected = spelling::flatten(
+            &self.table,
+            &case.code,
+            u64::from(case.count),
+            tape.expected(),
+        );
+        self.answered(2, proved, packed(expected))?;
+        tape.same("flatten", "tape")
+    }
+
+    fn canonicalize(&mut self) -> Result<(), String> {
+        let case = self.case;
+        let mut tape = self.bytes(case.letters);
+        let mut words = self.words(case.words);
+        let mut canonical = self.bytes(case.bytes);
+        let proved = calls::canonicalize(
+            &case.text,
+            &case.code,
+            case.count,
+            tape.proved(),
+            words.proved(),
+            canonical.proved(),
+        );
+        let expected = settling::canonicalize(
+            &self.table,
+            &case.code,
+            u64::from(case.count),
+            tape.expected(),
+            words.expected(),
+            canonical.expected(),
+        );
+        self.answered(3, proved, packed(expected))?;
+        tape.same("canonicalize", "tape")?;
+        words.same("canonicalize", "words")?;
+        canonical.same("canonicalize", "canonical")
+    }
+
+    fn span(&mut self) -> Result<(), String> {
+        let case = self.case;
+        let bits = u64::from(case.count);
+        let own = match case.own_tape && self.table.count > 0 {
+            true => spelling::letters_of(&self.table, &case.code, bits).ok(),
+            false => None,
+        };
+        let tape = own.as_deref().unwrap_or(&case.tape);
+        // Of short codes, every node at this visit.
+        let more = if case.code.len() < SHORT {
+            self.table.count as u32
+        } else {
+            0
+        };
+        for node in (0..more).chain([case.node]) {
+            let proved = calls::span(&case.text, tape, &case.code, case.count, node, case.visit);
+            let expected = visits::span(
+                &self.table,
+                tape,
+                &case.code,
+                bits,
+                u64::from(node),
+                u64::from(case.visit),
+            );
+            let shown = expected.map(|span| span.start << 16 | span.length);
+            self.answered(4, proved, packed(shown))?;
+        }
+        Ok(())
+    }
+
+    fn total(&mut self) -> Result<(), String> {
+        let case = self.case;
+        let expected = totals::totals(&self.table, &case.code, u64::from(case.count));
+        // Every account, the first that there is not, and the case's own.
+        for account in (0..=10).chain([case.account]) {
+            let proved = calls::total(&case.text, &case.code, case.count, account);
+            let litres = |totals: [u64; 10]| totals.get(account as usize).copied().unwrap_or(0);
+            self.answered(5, proved, packed(expected.map(litres)))?;
+        }
+        Ok(())
+    }
+}

@@ -1,0 +1,91 @@
+//! Random calls of the C interface, each compared with the reference.
+//! Arguments: the number of cases, the seed, and the folder for a failing case.
+
+mod calls;
+mod case;
+mod compare;
+mod shrink;
+
+use case::{random_case, Case};
+use compare::{compare, Counts, CALLS};
+use std::path::Path;
+use wumbyra_reference::prng::Prng;
+
+fn main() {
+    let words: Vec<String> = std::env::args().skip(1).collect();
+    let [cases, seed, folder] = &words[..] else {
+        eprintln!("usage: wumbyra-differential CASES SEED FOLDER");
+        std::process::exit(2);
+    };
+    let cases: u64 = cases.parse().expect("a number of cases");
+    let seed: u64 = seed.parse().expect("a seed, in decimal");
+    println!("cases {cases}, seed {seed}");
+    let mut counts = Counts::default();
+    let mut seeds = Prng::new(seed);
+    for index in 0..cases {
+        // Each case has a seed of its own: with it, and 1 for the number of cases, it is made again alone.
+        let own = if cases == 1 { seed } else { seeds.number() };
+        let case = random_case(&mut Prng::new(own));
+        if let Err(words) = compare(&case, &mut counts) {
+            println!("case {index} (seed {own}): {words}");
+            report(&case, Path::new(folder));
+            std::process::exit(1);
+        }
+    }
+    show(&counts);
+    println!(
+        "{cases} cases, {} calls, seed {seed}: all equal",
+        counts.calls()
+    );
+}
+
+/// How often each call answered each number.
+fn show(counts: &Counts) {
+    print!("{:13}", "number");
+    (0..=10).for_each(|number| print!("{number:>8}"));
+    println!();
+    for (name, row) in CALLS.iter().zip(&counts.0) {
+        print!("{name:13}");
+        row.iter().for_each(|count| print!("{count:>8}"));
+        println!();
+    }
+}
+
+/// The case made small, printed and written as files.
+fn report(case: &Case, folder: &Path) {
+    let fails = |case: &Case| compare(case, &mut Counts::default()).is_err();
+    let small = shrink::shrink(case, &fails);
+    let words = compare(&small, &mut Counts::default()).expect_err("it still fails");
+    let hex: String = small
+        .code
+        .iter()
+        .map(|byte| format!("{byte:02x}"))
+        .collect();
+    let rest = format!(
+        "{words}\nbits {}\nown tape {}\nnode {} visit {} account {}\n\
+         parse: words {} bytes {}\nletters {} words {} bytes {}\nfilling {}\n",
+        small.count,
+        small.own_tape,
+        small.node,
+        small.visit,
+        small.account,
+        small.parse_words,
+        small.parse_bytes,
+        small.letters,
+        small.words,
+        small.bytes,
+        small.filling
+    );
+    let files: [(&str, Vec<u8>); 4] = [
+        ("pattern.tsv", small.text.clone()),
+        ("tape.txt", [&small.tape[..], b"\n"].concat()),
+        ("code.hex", format!("{hex}\n").into_bytes()),
+        ("case.txt", rest.into_bytes()),
+    ];
+    std::fs::create_dir_all(folder).expect("a folder for the case");
+    for (name, bytes) in files {
+        let path = folder.join(name);
+        std::fs::write(&path, &bytes).expect("a file of the case");
+        println!("-- {}\n{}", path.display(), String::from_utf8_lossy(&bytes));
+    }
+}

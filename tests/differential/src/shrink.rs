@@ -1,0 +1,298 @@
+//! Makes a failing case smaller for as long as it still fails.
+
+use crate::case::Case;
+use wumbyra_reference::code::{decode, encode, pack, unpack};
+use wumbyra_reference::load::load;
+use wumbyra_reference::patterns::text_of;
+use wumbyra_reference::table::{Node, Table};
+use wumbyra_reference::value::Value;
+
+/// Calls of the test; a case that shrinks on is left as it is then.
+const MOST_TRIES: usize = 20_000;
+/// Candidates of one kind, since all of them are made before one is tried.
+const MOST_PARTS: usize = 256;
+
+pub fn shrink(case: &Case, fails: &dyn Fn(&Case) -> bool) -> Case {
+    let mut best = case.clone();
+    let mut tries = 0;
+    loop {
+        let smaller = candidates(&best).into_iter().find(|candidate| {
+            tries += 1;
+            tries <= MOST_TRIES && fails(candidate)
+        });
+        match smaller {
+            Some(case) => best = case,
+            None => return best,
+        }
+    }
+}
+
+/// Cases that are smaller in one respect, those that leave out most first.
+fn candidates(case: &Case) -> Vec<Case> {
+    let mut found = Vec::new();
+    let mut add = |change: &dyn Fn(&mut Case)| {
+        let mut smaller = case.clone();
+        change(&mut smaller);
+        if smaller != *case {
+            found.push(smaller);
+        }
+    };
+    for (text, code) in smaller_patterns(case) {
+        add(&|smaller| {
+            smaller.text = text.clone();
+            if let Some(bits) = &code {
+                smaller.count = bits.len() as u32;
+                smaller.code = pack(bits);
+            }
+        });
+    }
+    for tape in shorter(&case.tape) {
+        add(&|smaller| smaller.tape = tape.clone());
+    }
+    let bits: Vec<u8> = (0..(case.count as usize).min(8 * case.code.len()))
+        .map(|at| case.code[at / 8] >> (7 - at % 8) & 1)
+        .collect();
+    for bits in shorter(&bits) {
+        add(&|smaller| {
+            smaller.count = bits.len() as u32;
+            smaller.code = vec![0; bits.len().div_ceil(8)];
+            for (at, bit) in bits.iter().enumerate() {
+                smaller.code[at / 8] |= bit << (7 - at % 8);
+            }
+        });
+    }
+    for code in shorter(&case.code) {
+        add(&|smaller| smaller.code = code.clone());
+    }
+    let fields: [fn(&mut Case) -> &mut usize; 5] = [
+        |case| &mut case.parse_words,
+        |case| &mut case.parse_bytes,
+        |case| &mut case.letters,
+        |case| &mut case.words,
+        |case| &mut case.bytes,
+    ];
+    for field in fields {
+        add(&|smaller| *field(smaller) = 0);
+        add(&|smaller| *field(smaller) /= 2);
+        add(&|smaller| *field(smaller) = field(smaller).saturating_sub(1));
+    }
+    let numbers: [fn(&mut Case) -> &mut u32; 3] = [
+        |case| &mut case.node,
+        |case| &mut case.visit,
+        |case| &mut case.account,
+    ];
+    for number in numbers {
+        add(&|smaller| *number(smaller) = 0);
+        add(&|smaller| *number(smaller) = number(smaller).saturating_sub(1));
+    }
+    found
+}
+
+/// The list without a half, a quarter, and so on down to one element, or to a part in MOST_PARTS of a long one.
+fn shorter(list: &[u8]) -> Vec<Vec<u8>> {
+    let mut found = Vec::new();
+    let mut length = list.len();
+    while length > 0 && list.len() / length <= MOST_PARTS {
+        for start in (0..list.len()).step_by(length) {
+            let end = (start + length).min(list.len());
+            found.push([&list[..start], &list[end..]].concat());
+        }
+        length /= 2;
+    }
+    found
+}
+
+/// A good pattern with a node replaced by one of its parts or by nothing, and a whole code cut down with it or left as it is;
+/// a code with fewer rounds; of a text that does not load, fewer bytes.
+fn smaller_patterns(case: &Case) -> Vec<(Vec<u8>, Option<Vec<bool>>)> {
+    let Ok(table) = load(&case.text) else {
+        return shorter(&case.text)
+            .into_iter()
+            .map(|text| (text, None))
+            .collect();
+    };
+    let bits = unpack(&case.code, u64::from(case.count));
+    let value = bits.and_then(|bits| decode(&table, &bits));
+    let mut found = Vec::new();
+    for place in (0..table.lines().len()).rev() {
+        let node = table.node(place);
+        let mut ways: Vec<Option<u64>> = node.parts().into_iter().map(Some).collect();
+        if node.kind != Node::unused().kind {
+            ways.push(None);
+        }
+        for to in ways {
+            let by = to.map_or(Node::unused(), |part| table.node(part as usize));
+            let small = without(&table, place, by);
+            let cut = value
+                .as_ref()
+                .and_then(|value| cut(&table, table.root(), value, place, to));
+            if let Some(value) = cut {
+                found.push((text_of(&small), Some(encode(&small, &value))));
+            }
+            found.push((text_of(&small), None));
+        }
+        if node.account != 0 {
+            let mut plain = table.clone();
+            plain.nodes[place].account = 0;
+            found.push((text_of(&plain), None));
+        }
+    }
+    for round in 0..value.as_ref().map_or(0, rounds).min(MOST_PARTS) {
+        let value = value.as_ref().expect("it has rounds");
+        let fewer = encode(&table, &without_round(value, &mut (round as i64)));
+        found.push((case.text.clone(), Some(fewer)));
+    }
+    found
+}
+
+/// What a value becomes where the node `target` gives way to its part `to`, or to nothing; none if it went another way there.
+fn cut(
+    table: &Table,
+    place: usize,
+    value: &Value,
+    target: usize,
+    to: Option<u64>,
+) -> Option<Value> {
+    let node = table.node(place);
+    let part = |part: u64, value: &Value| cut(table, part as usize, value, target, to);
+    if place == target {
+        return match (to, value) {
+            (None, _) => Some(Value::Nothing),
+            (Some(to), Value::Pair(pair)) if to == node.x => Some(pair.0.clone()),
+            (Some(_), Value::Pair(pair)) => Some(pair.1.clone()),
+            (Some(to), Value::Left(side)) if to == node.x => Some((**side).clone()),
+            (Some(to), Value::Right(side)) if to == node.y => Some((**side).clone()),
+            (Some(_), Value::Rounds(rounds)) if rounds.len() == 1 => Some(rounds[0].clone()),
+            _ => None,
+        };
+    }
+    match value {
+        Value::Nothing | Value::Letter(_) => Some(value.clone()),
+        Value::Pair(pair) => Some(Value::pair(part(node.x, &pair.0)?, part(node.y, &pair.1)?)),
+        Value::Left(side) => Some(Value::Left(Box::new(part(node.x, side)?))),
+        Value::Right(side) => Some(Value::Right(Box::new(part(node.y, side)?))),
+        Value::Rounds(rounds) => {
+            let rounds: Option<Vec<Value>> =
+                rounds.iter().map(|round| part(node.x, round)).collect();
+            Some(Value::Rounds(rounds?))
+        }
+    }
+}
+
+fn rounds(value: &Value) -> usize {
+    match value {
+        Value::Nothing | Value::Letter(_) => 0,
+        Value::Pair(pair) => rounds(&pair.0) + rounds(&pair.1),
+        Value::Left(side) | Value::Right(side) => rounds(side),
+        Value::Rounds(list) => list.iter().map(|round| 1 + rounds(round)).sum(),
+    }
+}
+
+/// The value without the round of this number, counted as the code goes.
+fn without_round(value: &Value, number: &mut i64) -> Value {
+    match value {
+        Value::Nothing | Value::Letter(_) => value.clone(),
+        Value::Pair(pair) => {
+            let first = without_round(&pair.0, number);
+            Value::pair(first, without_round(&pair.1, number))
+        }
+        Value::Left(side) => Value::Left(Box::new(without_round(side, number))),
+        Value::Right(side) => Value::Right(Box::new(without_round(side, number))),
+        Value::Rounds(list) => {
+            let mut kept = Vec::new();
+            for round in list {
+                *number -= 1;
+                if *number != -1 {
+                    kept.push(without_round(round, number));
+                }
+            }
+            Value::Rounds(kept)
+        }
+    }
+}
+
+/// The table with another node at this place, and only the lines that the root still comes to.
+fn without(table: &Table, place: usize, by: Node) -> Table {
+    let mut changed = table.clone();
+    changed.nodes[place] = by;
+    let mut kept = vec![false; table.lines().len()];
+    kept[table.root()] = true;
+    for line in (0..kept.len()).rev() {
+        if kept[line] {
+            for part in changed.node(line).parts() {
+                kept[part as usize] = true;
+            }
+        }
+    }
+    let mut numbers = vec![0; kept.len()];
+    let mut nodes: Vec<Node> = Vec::new();
+    for line in (0..kept.len()).filter(|&line| kept[line]) {
+        let mut node = changed.node(line);
+        match node.parts().len() {
+            1 => node.x = numbers[node.x as usize],
+            2 => {
+                node.x = numbers[node.x as usize];
+                node.y = numbers[node.y as usize];
+            }
+            _ => {}
+        }
+        numbers[line] = nodes.len() as u64;
+        nodes.push(node);
+    }
+    Table::of_nodes(&nodes)
+}
+
+#[cfg(test)]
+mod tests {
+    use super::*;
+    use crate::case::random_case;
+    use wumbyra_reference::prng::Prng;
+    use wumbyra_reference::table::Kind;
+    use wumbyra_reference::value::has_empty_round;
+
+    /// A fault in codes with an empty round comes down to one star and one round.
+    #[test]
+    fn a_code_is_cut_down_with_its_pattern() {
+        let fails = |case: &Case| {
+            let value = load(&case.text).ok().and_then(|table| {
+                let bits = unpack(&case.code, u64::from(case.count))?;
+                decode(&table, &bits)
+            });
+            value.is_some_and(|value| has_empty_round(&value))
+        };
+        let mut rng = Prng::new(5);
+        let mut seen = 0;
+        while seen < 20 {
+            let case = random_case(&mut rng);
+            // Long codes take too many tries.
+            if case.code.len() < 100 && fails(&case) {
+                seen += 1;
+                let small = shrink(&case, &fails);
+                assert_eq!(small.text, b"0\tE\t-\n1\tK\t-\t0\n");
+                assert_eq!((&small.code[..], small.count), (&[0x40][..], 2));
+            }
+        }
+    }
+
+    /// A fault that needs a star, two letters on the tape and a code becomes a case with these alone.
+    #[test]
+    fn a_fault_is_made_small() {
+        let fails = |case: &Case| {
+            let star = load(&case.text)
+                .is_ok_and(|table| table.lines().iter().any(|node| node.kind == Kind::Rounds));
+            star && case.tape.len() >= 2 && case.count >= 1
+        };
+        let mut rng = Prng::new(3);
+        let mut seen = 0;
+        while seen < 20 {
+            let case = random_case(&mut rng);
+            if fails(&case) {
+                seen += 1;
+                let small = shrink(&case, &fails);
+                assert_eq!(small.text, b"0\tE\t-\n1\tK\t-\t0\n");
+                assert_eq!(small.tape.len(), 2);
+                assert_eq!(small.count, 1);
+            }
+        }
+    }
+}
