@@ -3,3 +3,5 @@ pub mod CanonicalLaws
 pub mod RoundTrip
 pub mod Demand
 pub mod Demanded
+pub mod Agree
+pub mod AgreeLaws
