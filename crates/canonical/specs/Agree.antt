@@ -12,12 +12,13 @@ use Rattle.syntax.specs.Table.{obeys}
 use Rattle.syntax.specs.Trees.{root}
 use Rattle.bits.specs.Bits.{cell-count, pack, in-front}
 use Rattle.semantics.specs.Code.{Canonical}
+use Rattle.states.specs.StateSets.{words}
 use Rattle.canonical.specs.declared.Canonicalized.{Canonicalized}
 use Rattle.canonical.specs.declared.Canonicalized.the-variants.{Bits, Refused}
 use Rattle.canonical.specs.declared.agree.Agreement.{Agreement}
 use Rattle.canonical.specs.declared.agree.Agreement.the-variants.{Same, Different, Refused as Not-settled}
 use Rattle.canonical.specs.Canonicalize.{Canonicalizes}
-use Rattle.canonical.specs.Demand.{Code, spells, Run, Equal, Demand}
+use Rattle.canonical.specs.Demand.{tape-of, Code, spells, Run, Equal, Demand}
 
 -- a refusal of settling, passed on
 abbrev pub passed-on : Canonicalized → Agreement
@@ -50,18 +51,35 @@ pub record Compares (one : List ℕ) (n : ℕ) (two : List ℕ) (m : ℕ) (r : A
   pub same : (r ≡ Same) ↔ Equal one two n m
   pub different : (r ≡ Different) ↔ (Equal one two n m → ⊥)
 
--- each comes back as itself, in front of the buffer that is lent for it, the first before the second; a buffer that is too short for it is 7,
--- with the bytes needed. Then the two are compared.
-abbrev pub Settled-again : (short short' : Bool) → (one : List ℕ) → (n : ℕ) → (two : List ℕ) → (m : ℕ) → (again again-now : List ℕ) → Agreement → Type 0
-Settled-again true short' one n two m gs us r = (r ≡ Not-settled (CodeTooShort (length one))) × (us ≡ gs)
-Settled-again false true one n two m gs us r = (r ≡ Not-settled (CodeTooShort (length two))) × (us ≡ in-front one gs)
-Settled-again false false one n two m gs us r = Compares one n two m r × (us ≡ in-front two (in-front one gs))
+-- the buffers that are worked in: tape, mark words, and the one for a code that is settled again
+pub record Worked : Type 0 where
+  pub tape : List ℕ
+  pub words : List ℕ
+  pub again : List ℕ
 
-abbrev pub Settles-again : (one : List ℕ) → (n : ℕ) → (two : List ℕ) → (m : ℕ) → (again again-now : List ℕ) → Agreement → Type 0
-Settles-again one n two m gs us r = Settled-again (ltb (length gs) (length one)) (ltb (length gs) (length two)) one n two m gs us r
+abbrev pub worked : (tape words again : List ℕ) → Worked
+worked ts ws gs = record { tape = ts; words = ws; again = gs }
 
-abbrev pub Comes-back : Pattern → (one : List ℕ) → (n : ℕ) → (two : List ℕ) → (m : ℕ) → (tape words : ℕ) → (again again-now : List ℕ) → Agreement → Type 0
-Comes-back p one n two m nt nw gs us r = Is-settled p one n nt nw → Is-settled p two m nt nw → Settles-again one n two m gs us r
+-- a settled code is spelled and read: tape and words are filled, whatever is answered, and the code is written where it fits
+abbrev pub filled : Pattern → (code : List ℕ) → (count : ℕ) → Worked → Worked
+filled p code count w = worked (in-front (tape-of p code count) (w .tape)) (in-front (words p (tape-of p code count)) (w .words)) (w .again)
+
+abbrev pub written : Pattern → (code : List ℕ) → (count : ℕ) → Worked → Worked
+written p code count w = worked (filled p code count w .tape) (filled p code count w .words) (in-front code (w .again))
+
+-- each comes back as itself, the first before the second; a buffer that is too short for it is 7, with the bytes needed. Then the two are
+-- compared.
+abbrev pub Settled-again : (short short' : Bool) → Pattern → (one : List ℕ) → (n : ℕ) → (two : List ℕ) → (m : ℕ) → (lent left : Worked) → Agreement → Type 0
+Settled-again true short' p one n two m w v r = (r ≡ Not-settled (CodeTooShort (length one))) × (v ≡ filled p one n w)
+Settled-again false true p one n two m w v r = (r ≡ Not-settled (CodeTooShort (length two))) × (v ≡ filled p two m (written p one n w))
+Settled-again false false p one n two m w v r = Compares one n two m r × (v ≡ written p two m (written p one n w))
+
+abbrev pub Settles-again : Pattern → (one : List ℕ) → (n : ℕ) → (two : List ℕ) → (m : ℕ) → (lent left : Worked) → Agreement → Type 0
+Settles-again p one n two m w v r = Settled-again (ltb (length (w .again)) (length one)) (ltb (length (w .again)) (length two)) p one n two m w v r
+
+abbrev pub Comes-back : Pattern → (one : List ℕ) → (n : ℕ) → (two : List ℕ) → (m : ℕ) → (lent left : Worked) → Agreement → Type 0
+Comes-back p one n two m w v r =
+    Is-settled p one n (length (w .tape)) (length (w .words)) → Is-settled p two m (length (w .tape)) (length (w .words)) → Settles-again p one n two m w v r
 
 -- ── the run ──
 
@@ -76,11 +94,11 @@ pub record Call (p : Pattern) (code : List ℕ) (count : ℕ) (tape words out ou
 abbrev pub front : (buffer : List ℕ) → (count : ℕ) → List ℕ
 front buffer n = take (cell-count 8 n) buffer
 
--- the answer, by what the two calls answered: of refusals the first is passed on
-abbrev pub Verdict : (first second : Canonicalized) → (xs ys again again-now : List ℕ) → Agreement → Type 0
-Verdict (Refused why) second xs ys gs us r = (r ≡ Not-settled why) × (us ≡ gs)
-Verdict (Bits k) (Refused why) xs ys gs us r = (r ≡ Not-settled why) × (us ≡ gs)
-Verdict (Bits k) (Bits l) xs ys gs us r = Settles-again (front xs k) k (front ys l) l gs us r
+-- the answer and the buffers worked in, by what the two calls answered: of refusals the first is passed on
+abbrev pub Verdict : (first second : Canonicalized) → Pattern → (xs ys : List ℕ) → (lent left : Worked) → Agreement → Type 0
+Verdict (Refused why) second p xs ys w v r = (r ≡ Not-settled why) × (v ≡ w)
+Verdict (Bits k) (Refused why) p xs ys w v r = (r ≡ Not-settled why) × (v ≡ w)
+Verdict (Bits k) (Bits l) p xs ys w v r = Settles-again p (front xs k) k (front ys l) l w v r
 
 -- 01: "buffers suffice with at least n tape cells, 2 × (n + 1) mark words, and as many code bytes as the code of the greedy reading of those
 -- letters fills"
@@ -106,10 +124,10 @@ Demands p one n two m nt nw na nb ng xs ys r =
     → Suffice p (spells c) nt nw na → Suffice p (spells d) nt nw nb → Suffice p (spells c) nt nw ng → Suffice p (spells d) nt nw ng
     → On-run p c d xs ys r
 
--- THE PROMISE of running the demand: two calls of settling, one after the other, the answer for every input, and the demand on this run.
--- Tape and words are worked in: what they hold in the end is left open.
-pub record Agrees (p : Pattern) (one : List ℕ) (n : ℕ) (two : List ℕ) (m : ℕ) (tape words a a-now b b-now again again-now : List ℕ) (r : Agreement) : Type 0 where
-  pub first : Call p one n tape words a a-now
+-- THE PROMISE of running the demand: two calls of settling, one after the other, then the answer and all buffers for every input, and the
+-- demand on this run
+pub record Agrees (p : Pattern) (one : List ℕ) (n : ℕ) (two : List ℕ) (m : ℕ) (lent left : Worked) (a a-now b b-now : List ℕ) (r : Agreement) : Type 0 where
+  pub first : Call p one n (lent .tape) (lent .words) a a-now
   pub second : Call p two m (first .tape-now) (first .words-now) b b-now
-  pub answers : Verdict (first .result) (second .result) a-now b-now again again-now r
-  pub demands : Demands p one n two m (length tape) (length words) (length a) (length b) (length again) a-now b-now r
+  pub answers : Verdict (first .result) (second .result) p a-now b-now (worked (second .tape-now) (second .words-now) (lent .again)) left r
+  pub demands : Demands p one n two m (length (lent .tape)) (length (lent .words)) (length a) (length b) (length (lent .again)) a-now b-now r

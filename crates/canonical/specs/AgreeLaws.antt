@@ -36,7 +36,7 @@ use Rattle.canonical.specs.CanonicalLaws.{Spelled, spelled}
 use Rattle.canonical.specs.RoundTrip.{canonical-whole, canonical-spells}
 use Rattle.canonical.specs.Demand.{Code, spells, Run, Settled, Equal, Demand, Third-demand}
 use Rattle.canonical.specs.Demanded.{third-demand}
-use Rattle.canonical.specs.Agree.{passed-on, concluded, Is-settled, Compares, Settled-again, Settles-again, Comes-back, Call, front, Verdict, Suffice, On-run, Demands, Agrees}
+use Rattle.canonical.specs.Agree.{passed-on, concluded, Is-settled, Compares, Worked, worked, filled, written, Settled-again, Settles-again, Comes-back, Call, front, Verdict, Suffice, On-run, Demands, Agrees}
 
 -- ── an answer in numbers fixes the answer ──
 pub bits-only : (r : Canonicalized) (n : ℕ) → canonicalized-answer r ≡ answer 0 n → r ≡ Bits n
@@ -176,13 +176,16 @@ module _ (p : Pattern) (code : List ℕ) (count k : ℕ) (ts us ws vs xs ys : Li
       ap length (l .words-are) ∙ length-in-front (words p (letters-of (root p) code count)) ws (subst (λ n. n ≤ length ws) (sym (words-length p (letters-of (root p) code count))) (l .words-enough))
 
 -- ── a settled code, settled again ──
-abbrev pub Back-by : (short : Bool) → (code : List ℕ) → (count : ℕ) → (xs ys : List ℕ) → Canonicalized → Type 0
-Back-by true code count xs ys r = (r ≡ Refused (CodeTooShort (length code))) × (ys ≡ xs)
-Back-by false code count xs ys r = (r ≡ Bits count) × (ys ≡ in-front code xs)
+abbrev Back-by : (short : Bool) → Pattern → (code : List ℕ) → (count : ℕ) → (lent left : Worked) → Canonicalized → Type 0
+Back-by true p code count w v r = (r ≡ Refused (CodeTooShort (length code))) × (v ≡ filled p code count w)
+Back-by false p code count w v r = (r ≡ Bits count) × (v ≡ written p code count w)
 
-pub back-by :
+all-worked : (a a' b b' c c' : List ℕ) → a ≡ a' → b ≡ b' → c ≡ c' → worked a b c ≡ worked a' b' c'
+all-worked a a' b b' c c' e f g = ap (λ z. worked z b c) e ∙ ap (λ z. worked a' z c) f ∙ ap (worked a' b') g
+
+back-by :
     (p : Pattern) (code : List ℕ) (count : ℕ) (ts us ws vs xs ys : List ℕ) (r : Canonicalized) → Canonicalizes p code count ts us ws vs xs ys r
-    → Is-settled p code count (length ts) (length ws) → Back-by (ltb (length xs) (length code)) code count xs ys r
+    → Is-settled p code count (length ts) (length ws) → Back-by (ltb (length xs) (length code)) p code count (worked ts ws xs) (worked us vs ys) r
 unfolding Canonicalizes flatten-answer
 back-by p code count ts us ws vs xs ys r h s = go (ltb (length xs) (length code)) refl
   where
@@ -195,21 +198,28 @@ back-by p code count ts us ws vs xs ys r h s = go (ltb (length xs) (length code)
     size : length code ≡ cell-count 8 (length (s .bits))
     size = ap length (s .bytes-are) ∙ length-pack 8 (s .bits)
 
-    read : Reads-greedily (root p) (s .letters) xs ys (canonicalized-answer r)
+    read : (us ≡ in-front (letters-of (root p) code count) ts) × (vs ≡ in-front (words p (letters-of (root p) code count)) ws) × Reads-greedily (root p) (s .letters) xs ys (canonicalized-answer r)
     read =
         let f : flatten-answer p code count (length ts) ≡ answer 0 (length (letters-of (root p) code count)) =
         rw (s .good, whole, le-leb (length (letters-of (root p) code count)) 3600 (rw letters-are (s .few)), le-leb (length (letters-of (root p) code count)) (length ts) (rw letters-are (s .tape-room))) in
         let w = subst (λ a. Settles-by (a .number) a p (letters-of (root p) code count) ts us ws vs xs ys (canonicalized-answer r)) f h in
         let q = subst (λ b. Read-by b p (letters-of (root p) code count) ws vs xs ys (canonicalized-answer r)) (le-ltb (length ws) (2 * (length (letters-of (root p) code count) + 1)) (rw letters-are (s .word-room))) (w .1) in
-        subst (λ l. Reads-greedily (root p) l xs ys (canonicalized-answer r)) letters-are (q .1)
+        (w .0, q .0, subst (λ l. Reads-greedily (root p) l xs ys (canonicalized-answer r)) letters-are (q .1))
 
-    go : (b : Bool) → ltb (length xs) (length code) ≡ b → Back-by b code count xs ys r
+    left-by : (again : List ℕ) → ys ≡ again → worked us vs ys ≡ worked (in-front (letters-of (root p) code count) ts) (in-front (words p (letters-of (root p) code count)) ws) again
+    left-by again e =
+        let (t, v, g) = read in
+        all-worked us (in-front (letters-of (root p) code count) ts) vs (in-front (words p (letters-of (root p) code count)) ws) ys again t v e
+
+    go : (b : Bool) → ltb (length xs) (length code) ≡ b → Back-by b p code count (worked ts ws xs) (worked us vs ys) r
     go true e =
-        let m = read .short (s .bits) (s .earliest) (subst (λ n. length xs < n) size (ltb-true (length xs) (length code) e)) in
-        (short-only r (length code) (m .0 ∙ ap (λ n. refused (CodeTooShort n)) (sym size)), m .1)
+        let (t, v, g) = read in
+        let m = g .short (s .bits) (s .earliest) (subst (λ n. length xs < n) size (ltb-true (length xs) (length code) e)) in
+        (short-only r (length code) (m .0 ∙ ap (λ n. refused (CodeTooShort n)) (sym size)), left-by xs (m .1))
     go false e =
-        let m = read .fits (s .bits) (s .earliest) (subst (λ n. n ≤ length xs) size (ltb-false (length xs) (length code) e)) in
-        (bits-only r count (m .0 ∙ ap (answer 0) (sym (s .count-is))), m .1 ∙ ap (λ l. in-front l xs) (sym (s .bytes-are)))
+        let (t, v, g) = read in
+        let m = g .fits (s .bits) (s .earliest) (subst (λ n. n ≤ length xs) size (ltb-false (length xs) (length code) e)) in
+        (bits-only r count (m .0 ∙ ap (answer 0) (sym (s .count-is))), left-by (in-front code xs) (m .1 ∙ ap (λ l. in-front l xs) (sym (s .bytes-are))))
 
 -- ── comparing ──
 pub equal-counts : (one two : List ℕ) (n m : ℕ) → (n ≡ m → ⊥) → (false ≡ true) ↔ Equal one two n m
@@ -258,10 +268,10 @@ module _
     (third : Canonicalized)
     (h : Canonicalizes p one n ts us ws vs gs hs third)
   where
-    pub again-first : (why : Refusal) → third ≡ Refused why → (r : Agreement) → r ≡ passed-on third → Comes-back p one n two m (length ts) (length ws) gs hs r
+    pub again-first : (why : Refusal) → third ≡ Refused why → (r : Agreement) → r ≡ passed-on third → Comes-back p one n two m (worked ts ws gs) (worked us vs hs) r
     again-first why e r er s t = go (ltb (length gs) (length one)) (ltb (length gs) (length two)) (back-by p one n ts us ws vs gs hs third h s)
       where
-        go : (b b' : Bool) → Back-by b one n gs hs third → Settled-again b b' one n two m gs hs r
+        go : (b b' : Bool) → Back-by b p one n (worked ts ws gs) (worked us vs hs) third → Settled-again b b' p one n two m (worked ts ws gs) (worked us vs hs) r
         go true b' q = (er ∙ ap passed-on (q .0), q .1)
         go false b' q = absurd (refused-not third why n e (q .0))
 
@@ -270,11 +280,11 @@ module _
       kept-length : Is-settled p one n (length ts) (length ws) → length hs ≡ length gs
       kept-length s = go (ltb (length gs) (length one)) refl (back-by p one n ts us ws vs gs hs third h s)
         where
-          go : (b : Bool) → ltb (length gs) (length one) ≡ b → Back-by b one n gs hs third → length hs ≡ length gs
-          go true c q = ap length (q .1)
-          go false c q = ap length (q .1) ∙ length-in-front one gs (ltb-false (length gs) (length one) c)
+          go : (b : Bool) → ltb (length gs) (length one) ≡ b → Back-by b p one n (worked ts ws gs) (worked us vs hs) third → length hs ≡ length gs
+          go true c q = ap (λ z. length (z .again)) (q .1)
+          go false c q = ap (λ z. length (z .again)) (q .1) ∙ length-in-front one gs (ltb-false (length gs) (length one) c)
 
-      second-back : Is-settled p one n (length ts) (length ws) → Is-settled p two m (length ts) (length ws) → Back-by (ltb (length gs) (length two)) two m hs is fourth
+      second-back : Is-settled p one n (length ts) (length ws) → Is-settled p two m (length ts) (length ws) → Back-by (ltb (length gs) (length two)) p two m (worked us vs hs) (worked us' vs' is) fourth
       second-back s t =
           let a : length us ≡ length ts = tape-length p one n k ts us ws vs gs hs third h e in
           let b : length vs ≡ length ws = words-kept p one n k ts us ws vs gs hs third h e in
@@ -289,42 +299,45 @@ module _
             tape-room = subst (λ z. length (t .letters) ≤ z) (sym a) (t .tape-room);
             word-room = subst (λ z. 2 * (length (t .letters) + 1) ≤ z) (sym b) (t .word-room);
           } in
-          subst (λ z. Back-by (ltb z (length two)) two m hs is fourth) (kept-length s) (back-by p two m us us' vs vs' hs is fourth f t')
+          subst (λ z. Back-by (ltb z (length two)) p two m (worked us vs hs) (worked us' vs' is) fourth) (kept-length s) (back-by p two m us us' vs vs' hs is fourth f t')
 
-      pub again-second : (why : Refusal) → fourth ≡ Refused why → (r : Agreement) → r ≡ passed-on fourth → Comes-back p one n two m (length ts) (length ws) gs is r
+      pub again-second : (why : Refusal) → fourth ≡ Refused why → (r : Agreement) → r ≡ passed-on fourth → Comes-back p one n two m (worked ts ws gs) (worked us' vs' is) r
       again-second why d r er s t =
           go (ltb (length gs) (length one)) (ltb (length gs) (length two)) (back-by p one n ts us ws vs gs hs third h s) (second-back s t)
         where
-          go : (b b' : Bool) → Back-by b one n gs hs third → Back-by b' two m hs is fourth → Settled-again b b' one n two m gs is r
+          go : (b b' : Bool) → Back-by b p one n (worked ts ws gs) (worked us vs hs) third → Back-by b' p two m (worked us vs hs) (worked us' vs' is) fourth
+              → Settled-again b b' p one n two m (worked ts ws gs) (worked us' vs' is) r
           go true b' q w = absurd (refused-not third (CodeTooShort (length one)) k (q .0) e)
-          go false true q w = (er ∙ ap passed-on (w .0), w .1 ∙ q .1)
+          go false true q w = (er ∙ ap passed-on (w .0), w .1 ∙ ap (filled p two m) (q .1))
           go false false q w = absurd (refused-not fourth why m d (w .0))
 
       pub again-both :
           (l i j : ℕ) → fourth ≡ Bits l → i ≡ cell-count 8 k → j ≡ cell-count 8 l → (x y z : Bool) → (x ≡ true) ↔ Equal one (take i hs) n k → (y ≡ true) ↔ Equal two (take j is) m l
-          → (z ≡ true) ↔ Equal one two n m → (r : Agreement) → r ≡ concluded x y z → Comes-back p one n two m (length ts) (length ws) gs is r
+          → (z ≡ true) ↔ Equal one two n m → (r : Agreement) → r ≡ concluded x y z → Comes-back p one n two m (worked ts ws gs) (worked us' vs' is) r
       again-both l i j d ei ej x y z ex ey ez r er s t =
           go (ltb (length gs) (length one)) (ltb (length gs) (length two)) (back-by p one n ts us ws vs gs hs third h s) (second-back s t)
         where
-          go : (b b' : Bool) → Back-by b one n gs hs third → Back-by b' two m hs is fourth → Settled-again b b' one n two m gs is r
+          go : (b b' : Bool) → Back-by b p one n (worked ts ws gs) (worked us vs hs) third → Back-by b' p two m (worked us vs hs) (worked us' vs' is) fourth
+              → Settled-again b b' p one n two m (worked ts ws gs) (worked us' vs' is) r
           go true b' q w = absurd (refused-not third (CodeTooShort (length one)) k (q .0) e)
           go false true q w = absurd (refused-not fourth (CodeTooShort (length two)) l (w .0) d)
           go false false q w =
-              let tx : x ≡ true = back-equal one n k i gs hs x (same-bits third k n e (q .0)) ei (settled-size p one n (length ts) (length ws) s) (q .1) ex in
-              let ty : y ≡ true = back-equal two m l j hs is y (same-bits fourth l m d (w .0)) ej (settled-size p two m (length ts) (length ws) t) (w .1) ey in
+              let tx : x ≡ true = back-equal one n k i gs hs x (same-bits third k n e (q .0)) ei (settled-size p one n (length ts) (length ws) s) (ap (λ v. v .again) (q .1)) ex in
+              let ty : y ≡ true = back-equal two m l j hs is y (same-bits fourth l m d (w .0)) ej (settled-size p two m (length ts) (length ws) t) (ap (λ v. v .again) (w .1)) ey in
               let er' : r ≡ concluded true true z = er ∙ ap₂ (λ a b. concluded a b z) tx ty in
-              (subst (λ a. Compares one n two m a) (sym er') (concluded-by one two n m z ez), w .1 ∙ ap (in-front two) (q .1))
+              (subst (λ a. Compares one n two m a) (sym er') (concluded-by one two n m z ez), w .1 ∙ ap (written p two m) (q .1))
 
 -- ── the answer of a run ──
 verdict-first :
-    (first second : Canonicalized) (xs ys gs : List ℕ) (why : Refusal) → first ≡ Refused why → (r : Agreement) → r ≡ passed-on first → Verdict first second xs ys gs gs r
-verdict-first first second xs ys gs why e r er = subst (λ f. Verdict f second xs ys gs gs r) (sym e) (er ∙ ap passed-on e, refl)
+    (first second : Canonicalized) (p : Pattern) (xs ys : List ℕ) (w : Worked) (why : Refusal) → first ≡ Refused why → (r : Agreement) → r ≡ passed-on first
+    → Verdict first second p xs ys w w r
+verdict-first first second p xs ys w why e r er = subst (λ f. Verdict f second p xs ys w w r) (sym e) (er ∙ ap passed-on e, refl)
 
 verdict-second :
-    (first second : Canonicalized) (xs ys gs : List ℕ) (k : ℕ) (why : Refusal) → first ≡ Bits k → second ≡ Refused why → (r : Agreement) → r ≡ passed-on second
-    → Verdict first second xs ys gs gs r
-verdict-second first second xs ys gs k why e d r er =
-    subst (λ f. Verdict f second xs ys gs gs r) (sym e) (subst (λ g. Verdict (Bits k) g xs ys gs gs r) (sym d) (er ∙ ap passed-on d, refl))
+    (first second : Canonicalized) (p : Pattern) (xs ys : List ℕ) (w : Worked) (k : ℕ) (why : Refusal) → first ≡ Bits k → second ≡ Refused why → (r : Agreement)
+    → r ≡ passed-on second → Verdict first second p xs ys w w r
+verdict-second first second p xs ys w k why e d r er =
+    subst (λ f. Verdict f second p xs ys w w r) (sym e) (subst (λ g. Verdict (Bits k) g p xs ys w w r) (sym d) (er ∙ ap passed-on d, refl))
 
 module _
     (p : Pattern)
@@ -332,14 +345,15 @@ module _
     (n : ℕ)
     (two : List ℕ)
     (m : ℕ)
-    (ts us us' ws vs vs' os xs bs ys gs gs' : List ℕ)
+    (ts us us' ws vs vs' os xs bs ys gs : List ℕ)
+    (left-in : Worked)
     (first second : Canonicalized)
     (h : Canonicalizes p one n ts us ws vs os xs first)
     (f : Canonicalizes p two m us us' vs vs' bs ys second)
   where
     verdict-both :
         (k l i j : ℕ) → first ≡ Bits k → second ≡ Bits l → i ≡ cell-count 8 k → j ≡ cell-count 8 l → (r : Agreement)
-        → Comes-back p (take i xs) k (take j ys) l (length us') (length vs') gs gs' r → Verdict first second xs ys gs gs' r
+        → Comes-back p (take i xs) k (take j ys) l (worked us' vs' gs) left-in r → Verdict first second p xs ys (worked us' vs' gs) left-in r
     verdict-both k l i j e d ei ej r w =
         let a : length us ≡ length ts = tape-length p one n k ts us ws vs os xs first h e in
         let b : length vs ≡ length ws = words-kept p one n k ts us ws vs os xs first h e in
@@ -347,22 +361,23 @@ module _
         let b' : length vs' ≡ length vs = words-kept p two m l us us' vs vs' bs ys second f d in
         let s = left-settled p one n k ts us ws vs os xs first h e (length us') (length vs') (a' ∙ a) (b' ∙ b) in
         let t = left-settled p two m l us us' vs vs' bs ys second f d (length us') (length vs') a' b' in
-        let w' : Comes-back p (front xs k) k (front ys l) l (length us') (length vs') gs gs' r =
-        subst (λ z. Comes-back p (take z xs) k (front ys l) l (length us') (length vs') gs gs' r) ei
-        (subst (λ z. Comes-back p (take i xs) k (take z ys) l (length us') (length vs') gs gs' r) ej w) in
-        subst (λ g. Verdict g second xs ys gs gs' r) (sym e) (subst (λ g. Verdict (Bits k) g xs ys gs gs' r) (sym d) (w' s t))
+        let w' : Comes-back p (front xs k) k (front ys l) l (worked us' vs' gs) left-in r =
+        subst (λ z. Comes-back p (take z xs) k (front ys l) l (worked us' vs' gs) left-in r) ei
+        (subst (λ z. Comes-back p (take i xs) k (take z ys) l (worked us' vs' gs) left-in r) ej w) in
+        subst (λ g. Verdict g second p xs ys (worked us' vs' gs) left-in r) (sym e) (subst (λ g. Verdict (Bits k) g p xs ys (worked us' vs' gs) left-in r) (sym d) (w' s t))
 
 -- ── the demand on a run ──
 module _
     (p : Pattern)
     (good : obeys p ≡ true)
     (c d : Code p)
-    (ts us us' ws vs vs' os xs bs ys gs gs' : List ℕ)
+    (ts us us' ws vs vs' os xs bs ys gs : List ℕ)
+    (left-in : Worked)
     (first second : Canonicalized)
     (h : Canonicalizes p (c .bytes) (c .count) ts us ws vs os xs first)
     (f : Canonicalizes p (d .bytes) (d .count) us us' vs vs' bs ys second)
     (r : Agreement)
-    (w : Verdict first second xs ys gs gs' r)
+    (w : Verdict first second p xs ys (worked us' vs' gs) left-in r)
     (sc : Suffice p (spells c) (length ts) (length ws) (length os))
     (sd : Suffice p (spells d) (length ts) (length ws) (length bs))
     (gc : Suffice p (spells c) (length ts) (length ws) (length gs))
@@ -407,15 +422,16 @@ module _
 
     compared : (k l : ℕ) → first ≡ Bits k → second ≡ Bits l → Compares (front xs k) k (front ys l) l r
     compared k l e q =
-        let v : Verdict (Bits k) (Bits l) xs ys gs gs' r = subst (λ z. Verdict (Bits k) z xs ys gs gs' r) q (subst (λ z. Verdict z second xs ys gs gs' r) e w) in
+        let v : Verdict (Bits k) (Bits l) p xs ys (worked us' vs' gs) left-in r =
+        subst (λ z. Verdict (Bits k) z p xs ys (worked us' vs' gs) left-in r) q (subst (λ z. Verdict z second p xs ys (worked us' vs' gs) left-in r) e w) in
         let a = left p (c .bytes) (c .count) k ts us ws vs os xs first h e in
         let b = left p (d .bytes) (d .count) l us us' vs vs' bs ys second f q in
         let x : length (front xs k) ≤ length gs =
         subst (λ z. z ≤ length gs) (sym (ap length (left-front p (c .bytes) (c .count) k ts us ws vs os xs first h e) ∙ length-pack 8 (greedy (root p) (spells c)))) (gc .code-room (greedy (root p) (spells c)) (a .canonical)) in
         let y : length (front ys l) ≤ length gs =
         subst (λ z. z ≤ length gs) (sym (ap length (left-front p (d .bytes) (d .count) l us us' vs vs' bs ys second f q) ∙ length-pack 8 (greedy (root p) (spells d)))) (gd .code-room (greedy (root p) (spells d)) (b .canonical)) in
-        subst (λ z. Settled-again false z (front xs k) k (front ys l) l gs gs' r) (le-ltb (length gs) (length (front ys l)) y)
-        (subst (λ z. Settled-again z (ltb (length gs) (length (front ys l))) (front xs k) k (front ys l) l gs gs' r) (le-ltb (length gs) (length (front xs k)) x) v) .0
+        subst (λ z. Settled-again false z p (front xs k) k (front ys l) l (worked us' vs' gs) left-in r) (le-ltb (length gs) (length (front ys l)) y)
+        (subst (λ z. Settled-again z (ltb (length gs) (length (front ys l))) p (front xs k) k (front ys l) l (worked us' vs' gs) left-in r) (le-ltb (length gs) (length (front xs k)) x) v) .0
 
     pub on-run : On-run p c d xs ys r
     unfolding Third-demand
@@ -436,15 +452,15 @@ module _
 
 -- THE PROMISE, from the two calls and the answer
 agrees :
-    (p : Pattern) (one : List ℕ) (n : ℕ) (two : List ℕ) (m : ℕ) (ts us us' ws vs vs' os xs bs ys gs gs' : List ℕ) (first second : Canonicalized)
-    → Canonicalizes p one n ts us ws vs os xs first → Canonicalizes p two m us us' vs vs' bs ys second → (r : Agreement) → Verdict first second xs ys gs gs' r
-    → Agrees p one n two m ts ws os xs bs ys gs gs' r
-agrees p one n two m ts us us' ws vs vs' os xs bs ys gs gs' first second h f r w = record {
+    (p : Pattern) (one : List ℕ) (n : ℕ) (two : List ℕ) (m : ℕ) (ts us us' ws vs vs' os xs bs ys gs : List ℕ) (left-in : Worked) (first second : Canonicalized)
+    → Canonicalizes p one n ts us ws vs os xs first → Canonicalizes p two m us us' vs vs' bs ys second → (r : Agreement) → Verdict first second p xs ys (worked us' vs' gs) left-in r
+    → Agrees p one n two m (worked ts ws gs) left-in os xs bs ys r
+agrees p one n two m ts us us' ws vs vs' os xs bs ys gs left-in first second h f r w = record {
   first = record { result = first; tape-now = us; words-now = vs; kept = h };
   second = record { result = second; tape-now = us'; words-now = vs'; kept = f };
   answers = w;
   demands = λ good c d e1 e2 e3 e4 sc sd gc gd.
-      on-run p good c d ts us us' ws vs vs' os xs bs ys gs gs' first second
+      on-run p good c d ts us us' ws vs vs' os xs bs ys gs left-in first second
       (subst (λ z. Canonicalizes p z (c .count) ts us ws vs os xs first) (sym e1) (subst (λ z. Canonicalizes p one z ts us ws vs os xs first) (sym e2) h))
       (subst (λ z. Canonicalizes p z (d .count) us us' vs vs' bs ys second) (sym e3) (subst (λ z. Canonicalizes p two z us us' vs vs' bs ys second) (sym e4) f))
       r w sc sd gc gd;
@@ -462,15 +478,15 @@ module _
     (h : Canonicalizes p one n ts us ws vs os xs first)
     (f : Canonicalizes p two m us us' vs vs' bs ys second)
   where
-    pub agrees-first : (why : Refusal) → first ≡ Refused why → (r : Agreement) → r ≡ passed-on first → Agrees p one n two m ts ws os xs bs ys gs gs r
-    agrees-first why e r er = agrees p one n two m ts us us' ws vs vs' os xs bs ys gs gs first second h f r (verdict-first first second xs ys gs why e r er)
+    pub agrees-first : (why : Refusal) → first ≡ Refused why → (r : Agreement) → r ≡ passed-on first → Agrees p one n two m (worked ts ws gs) (worked us' vs' gs) os xs bs ys r
+    agrees-first why e r er = agrees p one n two m ts us us' ws vs vs' os xs bs ys gs (worked us' vs' gs) first second h f r (verdict-first first second p xs ys (worked us' vs' gs) why e r er)
 
-    pub agrees-second : (k : ℕ) (why : Refusal) → first ≡ Bits k → second ≡ Refused why → (r : Agreement) → r ≡ passed-on second → Agrees p one n two m ts ws os xs bs ys gs gs r
-    agrees-second k why e d r er = agrees p one n two m ts us us' ws vs vs' os xs bs ys gs gs first second h f r (verdict-second first second xs ys gs k why e d r er)
+    pub agrees-second : (k : ℕ) (why : Refusal) → first ≡ Bits k → second ≡ Refused why → (r : Agreement) → r ≡ passed-on second → Agrees p one n two m (worked ts ws gs) (worked us' vs' gs) os xs bs ys r
+    agrees-second k why e d r er = agrees p one n two m ts us us' ws vs vs' os xs bs ys gs (worked us' vs' gs) first second h f r (verdict-second first second p xs ys (worked us' vs' gs) k why e d r er)
 
     pub agrees-both :
-        (gs' : List ℕ) (k l i j : ℕ) → first ≡ Bits k → second ≡ Bits l → i ≡ cell-count 8 k → j ≡ cell-count 8 l → (r : Agreement)
-        → Comes-back p (take i xs) k (take j ys) l (length us') (length vs') gs gs' r → Agrees p one n two m ts ws os xs bs ys gs gs' r
-    agrees-both gs' k l i j e d ei ej r w =
-        agrees p one n two m ts us us' ws vs vs' os xs bs ys gs gs' first second h f r
-        (verdict-both p one n two m ts us us' ws vs vs' os xs bs ys gs gs' first second h f k l i j e d ei ej r w)
+        (left-in : Worked) (k l i j : ℕ) → first ≡ Bits k → second ≡ Bits l → i ≡ cell-count 8 k → j ≡ cell-count 8 l → (r : Agreement)
+        → Comes-back p (take i xs) k (take j ys) l (worked us' vs' gs) left-in r → Agrees p one n two m (worked ts ws gs) left-in os xs bs ys r
+    agrees-both left-in k l i j e d ei ej r w =
+        agrees p one n two m ts us us' ws vs vs' os xs bs ys gs left-in first second h f r
+        (verdict-both p one n two m ts us us' ws vs vs' os xs bs ys gs left-in first second h f k l i j e d ei ej r w)

@@ -2,10 +2,9 @@
 ghost use mathlib.Core.Path.{_≡_};
 ghost use mathlib.Core.Bool.{true};
 ghost use mathlib.Core.Logic.{_↔_};
-ghost use lib.ListN.{length};
 ghost use Rattle.bits.specs.Bits.{cell-count};
 ghost use Rattle.canonical.specs.Demand.{Equal};
-ghost use Rattle.canonical.specs.Agree.{passed-on, concluded, Comes-back, Agrees};
+ghost use Rattle.canonical.specs.Agree.{passed-on, concluded, worked, Comes-back, Agrees};
 use super::Canonicalized;
 use super::canonicalize;
 use check::same;
@@ -74,7 +73,7 @@ fn settle_again(
     again: &mut [u8],
 ) -> Agreement
     ensures { λ r.
-        ⌜ Comes-back p (now (one .entry)) n (now (two .entry)) m (length (now (tape .entry))) (length (now (words .entry))) (now (again .entry)) (now (again .exit)) r ⌝ }
+        ⌜ Comes-back p (now (one .entry)) n (now (two .entry)) m (worked (now (tape .entry)) (now (words .entry)) (now (again .entry))) (worked (now (tape .exit)) (now (words .exit)) (now (again .exit))) r ⌝ }
 {
     let third = canonicalize(p, one, n, tape, words, again);
     let Canonicalized::Bits(k) = third else {
@@ -106,7 +105,7 @@ pub fn agree(
     again: &mut [u8],
 ) -> Agreement
     ensures { λ r.
-        ⌜ Agrees p (now (one .entry)) n (now (two .entry)) m (now (tape .entry)) (now (words .entry)) (now (a .entry)) (now (a .exit)) (now (b .entry)) (now (b .exit)) (now (again .entry)) (now (again .exit)) r ⌝ }
+        ⌜ Agrees p (now (one .entry)) n (now (two .entry)) m (worked (now (tape .entry)) (now (words .entry)) (now (again .entry))) (worked (now (tape .exit)) (now (words .exit)) (now (again .exit))) (now (a .entry)) (now (a .exit)) (now (b .entry)) (now (b .exit)) r ⌝ }
 {
     let first = canonicalize(p, one, n, tape, words, a);
     let second = canonicalize(p, two, m, tape, words, b);
