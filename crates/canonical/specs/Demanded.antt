@@ -135,3 +135,19 @@ third-demand p good a b x y =
         λ e. (r .count-is ∙ ap (λ w. length (greedy (root p) w)) e ∙ sym (q .count-is), r .bytes-are ∙ ap (λ w. pack 8 (greedy (root p) w)) e ∙ sym (q .bytes-are)),
       );
     }
+
+-- 01, the bodies to try: "Settling that hands its code back (demand 3)". A run that does so was given the earliest code of its tape,
+pub handed-back :
+    (p : Pattern) → obeys p ≡ true → (c : Code p) (x : Run p c) (s : Settled x) → Equal (bytes-of x s) (c .bytes) (s .count) (c .count)
+    → Earliest p (spells c) (c .bytes) (c .count)
+handed-back p good c x s e =
+    let w = well p good c x in
+    let k : w .settled .count ≡ s .count = ap (λ a. a .value) (sym (w .settled .answers) ∙ s .answers) in
+    subst (λ n. Earliest p (spells c) (c .bytes) n) (e .0)
+    (subst (λ l. Earliest p (spells c) l (s .count)) (e .1) (subst (λ n. Earliest p (spells c) (take (cell-count 8 n) (x .out-now)) n) k (w .earliest)))
+
+-- so no run keeps an empty round
+pub empty-round-kept :
+    (p : Pattern) → obeys p ≡ true → (c : Code p) (x : Run p c) (s : Settled x) → (NoEmptyRound (root p) (held 8 (c .bytes) (c .count)) → ⊥)
+    → Equal (bytes-of x s) (c .bytes) (s .count) (c .count) → ⊥
+empty-round-kept p good c x s hollow-one e = hollow-one (handed-back p good c x s e .solid)
