@@ -1,28 +1,25 @@
 -- Laws of running the third demand: what a call of settling that is not refused left, and one law for each way of the code.
 use mathlib.Core.Path.{_≡_, refl, sym, ap, ap₂, subst, _∙_}
-use mathlib.Core.Bool.{Bool, true, false, cond, false≢true}
+use mathlib.Core.Bool.{Bool, true, false, false≢true}
 use mathlib.Core.Logic.{_↔_}
 use mathlib.Core.List.{List}
 use Prim.Native.Nat.{ℕ, zero, suc, _+_, _*_, _≤_, _<_}
 use native.Mathlib.Omega.{arith}
-use borrow.Author.Tests.{ltb-true, ltb-false, lt-ltb, le-ltb, le-leb, leb-true, leb-false}
+use borrow.Author.Tests.{ltb-true, ltb-false, le-ltb, leb-true, leb-false}
 use lib.Dec.{ltb, leb}
 use lib.ListN.{length, take}
 use Rattle.syntax.specs.declared.Pattern.{Pattern}
 use Rattle.syntax.specs.declared.Refusal.{Refusal}
 use Rattle.syntax.specs.declared.Refusal.the-variants.{LineForm, Tree as Tree-fault, TapeTooLong, TapeByte, Unreadable, WordsTooShort, CodeTooShort, NotACode, TapeTooShort, NoSuchVisit}
-use Rattle.syntax.specs.Bools.{and-snd}
-use Rattle.syntax.specs.Refusals.{Answer, answer, refused}
+use Rattle.syntax.specs.Refusals.{answer, refused}
 use Rattle.syntax.specs.Table.{obeys}
 use Rattle.syntax.specs.Trees.{root}
-use Rattle.bits.specs.Bits.{cell-count, pack, held, in-front, handed-good}
+use Rattle.bits.specs.Bits.{cell-count, pack, in-front}
 use Rattle.bits.specs.Packing.{length-pack}
 use Rattle.bits.specs.Writing.{take-in-front, length-in-front}
 use Rattle.semantics.specs.Code.{Canonical}
-use Rattle.semantics.specs.Decode.{is-code}
-use Rattle.semantics.specs.CodeLaws.{is-code-iff}
-use Rattle.semantics.specs.Sweeps.{readable, greedy}
-use Rattle.semantics.specs.GreedyLaws.{greedy-canonical, code-readable}
+use Rattle.semantics.specs.Sweeps.{greedy}
+use Rattle.semantics.specs.GreedyLaws.{greedy-canonical}
 use Rattle.states.specs.StateSets.{words}
 use Rattle.states.specs.Meaning.{words-length}
 use Rattle.codes.specs.Flatten.{whole-code, letters-of, flatten-answer}
@@ -30,30 +27,18 @@ use Rattle.parser.specs.Parse.{Reads-greedily}
 use Rattle.canonical.specs.declared.Canonicalized.{Canonicalized}
 use Rattle.canonical.specs.declared.Canonicalized.the-variants.{Bits, Refused}
 use Rattle.canonical.specs.declared.agree.Agreement.{Agreement}
-use Rattle.canonical.specs.declared.agree.Agreement.the-variants.{Same, Different, Refused as Not-settled}
+use Rattle.canonical.specs.declared.agree.Agreement.the-variants.{Same, Different}
 use Rattle.canonical.specs.Canonicalize.{canonicalized-answer, Read-by, Settles-by, Canonicalizes}
-use Rattle.canonical.specs.CanonicalLaws.{Spelled, spelled}
-use Rattle.canonical.specs.RoundTrip.{canonical-whole, canonical-spells}
-use Rattle.canonical.specs.Demand.{Code, spells, Run, Settled, Equal, Demand, Third-demand}
+use Rattle.canonical.specs.CanonicalLaws.{positive, Spelled, spelled, settles}
+use Rattle.canonical.specs.RoundTrip.{canonical-whole, canonical-spells, letters-readable}
+use Rattle.canonical.specs.Demand.{Code, spells, Run, Settled, Equal, Third-demand}
 use Rattle.canonical.specs.Demanded.{third-demand}
-use Rattle.canonical.specs.Agree.{passed-on, concluded, Is-settled, Compares, Worked, worked, filled, written, Settled-again, Settles-again, Comes-back, Call, front, Verdict, Suffice, On-run, Demands, Agrees}
+use Rattle.canonical.specs.Agree.{passed-on, concluded, Is-settled, Compares, Worked, worked, filled, written, Settled-again, Comes-back, front, Verdict, Suffice, On-run, Agrees}
 
 -- ── an answer in numbers fixes the answer ──
 pub bits-only : (r : Canonicalized) (n : ℕ) → canonicalized-answer r ≡ answer 0 n → r ≡ Bits n
 bits-only (Bits m) n e = ap Bits (ap (λ a. a .value) e)
-bits-only (Refused why) n e = absurd (positive why (ap (λ a. a .number) e))
-  where
-    positive : (w : Refusal) → refused w .number ≡ 0 → ⊥
-    positive (LineForm l) h = omega arith
-    positive (Tree-fault l) h = omega arith
-    positive TapeTooLong h = omega arith
-    positive (TapeByte i) h = omega arith
-    positive Unreadable h = omega arith
-    positive (WordsTooShort n) h = omega arith
-    positive (CodeTooShort n) h = omega arith
-    positive NotACode h = omega arith
-    positive (TapeTooShort n) h = omega arith
-    positive NoSuchVisit h = omega arith
+bits-only (Refused why) n e = absurd (omega (arith, positive why, ap (λ a. a .number) e))
 
 pub short-only : (r : Canonicalized) (n : ℕ) → canonicalized-answer r ≡ refused (CodeTooShort n) → r ≡ Refused (CodeTooShort n)
 short-only (Bits m) n e = absurd (let z : _≡_ {A = ℕ} 0 7 = ap (λ a. a .number) e in omega arith)
@@ -83,11 +68,6 @@ pub record Left (p : Pattern) (code : List ℕ) (count k : ℕ) (ts us ws vs xs 
   pub count-is : k ≡ length (greedy (root p) (letters-of (root p) code count))
   pub room : cell-count 8 k ≤ length xs
   pub code-is : ys ≡ in-front (pack 8 (greedy (root p) (letters-of (root p) code count))) xs
-
-pub letters-readable : (p : Pattern) (code : List ℕ) (count : ℕ) → whole-code (root p) code count ≡ true → readable (root p) (letters-of (root p) code count) ≡ true
-unfolding whole-code letters-of
-letters-readable p code count w =
-    code-readable (root p) (held 8 code count) (is-code-iff (root p) (held 8 code count) .0 (and-snd (handed-good code count) (is-code (root p) (held 8 code count)) w))
 
 module _ (p : Pattern) (code : List ℕ) (count k : ℕ) (ts us ws vs xs ys : List ℕ) (r : Canonicalized) (h : Canonicalizes p code count ts us ws vs xs ys r) (e : r ≡ Bits k) where
   pub left : Left p code count k ts us ws vs xs ys
@@ -186,7 +166,6 @@ all-worked a a' b b' c c' e f g = ap (λ z. worked z b c) e ∙ ap (λ z. worked
 back-by :
     (p : Pattern) (code : List ℕ) (count : ℕ) (ts us ws vs xs ys : List ℕ) (r : Canonicalized) → Canonicalizes p code count ts us ws vs xs ys r
     → Is-settled p code count (length ts) (length ws) → Back-by (ltb (length xs) (length code)) p code count (worked ts ws xs) (worked us vs ys) r
-unfolding Canonicalizes flatten-answer
 back-by p code count ts us ws vs xs ys r h s = go (ltb (length xs) (length code)) refl
   where
     whole : whole-code (root p) code count ≡ true
@@ -198,27 +177,22 @@ back-by p code count ts us ws vs xs ys r h s = go (ltb (length xs) (length code)
     size : length code ≡ cell-count 8 (length (s .bits))
     size = ap length (s .bytes-are) ∙ length-pack 8 (s .bits)
 
-    read : (us ≡ in-front (letters-of (root p) code count) ts) × (vs ≡ in-front (words p (letters-of (root p) code count)) ws) × Reads-greedily (root p) (s .letters) xs ys (canonicalized-answer r)
-    read =
-        let f : flatten-answer p code count (length ts) ≡ answer 0 (length (letters-of (root p) code count)) =
-        rw (s .good, whole, le-leb (length (letters-of (root p) code count)) 3600 (rw letters-are (s .few)), le-leb (length (letters-of (root p) code count)) (length ts) (rw letters-are (s .tape-room))) in
-        let w = subst (λ a. Settles-by (a .number) a p (letters-of (root p) code count) ts us ws vs xs ys (canonicalized-answer r)) f h in
-        let q = subst (λ b. Read-by b p (letters-of (root p) code count) ws vs xs ys (canonicalized-answer r)) (le-ltb (length ws) (2 * (length (letters-of (root p) code count) + 1)) (rw letters-are (s .word-room))) (w .1) in
-        (w .0, q .0, subst (λ l. Reads-greedily (root p) l xs ys (canonicalized-answer r)) letters-are (q .1))
+    read : (us ≡ in-front (letters-of (root p) code count) ts) × Read-by false p (letters-of (root p) code count) ws vs xs ys (canonicalized-answer r)
+    read = settles p code count ts us ws vs xs ys r h (s .good) whole (rw letters-are (s .few)) (rw letters-are (s .tape-room)) (rw letters-are (s .word-room))
+
+    greedily : Reads-greedily (root p) (s .letters) xs ys (canonicalized-answer r)
+    greedily = subst (λ l. Reads-greedily (root p) l xs ys (canonicalized-answer r)) letters-are (read .1 .1)
 
     left-by : (again : List ℕ) → ys ≡ again → worked us vs ys ≡ worked (in-front (letters-of (root p) code count) ts) (in-front (words p (letters-of (root p) code count)) ws) again
     left-by again e =
-        let (t, v, g) = read in
-        all-worked us (in-front (letters-of (root p) code count) ts) vs (in-front (words p (letters-of (root p) code count)) ws) ys again t v e
+        all-worked us (in-front (letters-of (root p) code count) ts) vs (in-front (words p (letters-of (root p) code count)) ws) ys again (read .0) (read .1 .0) e
 
     go : (b : Bool) → ltb (length xs) (length code) ≡ b → Back-by b p code count (worked ts ws xs) (worked us vs ys) r
     go true e =
-        let (t, v, g) = read in
-        let m = g .short (s .bits) (s .earliest) (subst (λ n. length xs < n) size (ltb-true (length xs) (length code) e)) in
+        let m = greedily .short (s .bits) (s .earliest) (subst (λ n. length xs < n) size (ltb-true (length xs) (length code) e)) in
         (short-only r (length code) (m .0 ∙ ap (λ n. refused (CodeTooShort n)) (sym size)), left-by xs (m .1))
     go false e =
-        let (t, v, g) = read in
-        let m = g .fits (s .bits) (s .earliest) (subst (λ n. n ≤ length xs) size (ltb-false (length xs) (length code) e)) in
+        let m = greedily .fits (s .bits) (s .earliest) (subst (λ n. n ≤ length xs) size (ltb-false (length xs) (length code) e)) in
         (bits-only r count (m .0 ∙ ap (answer 0) (sym (s .count-is))), left-by (in-front code xs) (m .1 ∙ ap (λ l. in-front l xs) (sym (s .bytes-are))))
 
 -- ── comparing ──
