@@ -4,7 +4,7 @@ use mathlib.Core.Bool.{Bool, true, false, _&&_, not, cond, true≢false, false�
 use mathlib.Core.List.{List, [], _∷_, _++_}
 use Prim.Native.Nat.{ℕ, zero, suc, _+_, _*_, _-_, _≤_, _<_}
 use native.Mathlib.Omega.{arith}
-use borrow.Author.Tests.{lt-ltb, le-ltb, leb-true, leb-false, ne-eqb}
+use borrow.Author.Tests.{lt-ltb, le-ltb, le-leb, leb-true, leb-false, ne-eqb}
 use lib.Dec.{ltb, leb, eqb}
 use lib.ListN.{length, take, drop, length-take}
 use lib.Seq.{take-at}
@@ -35,6 +35,19 @@ use Rattle.parser.specs.Parse.{parsed-answer, first-bad, early, Parses-by, Pars
 use Rattle.canonical.specs.declared.Canonicalized.{Canonicalized}
 use Rattle.canonical.specs.declared.Canonicalized.the-variants.{Bits}
 use Rattle.canonical.specs.Canonicalize.{canonicalized-answer, passed-flattened, passed-parsed, Read-by, Settles-by, Canonicalizes}
+
+-- a refusal has a number
+pub positive : (r : Refusal) → 1 ≤ number r
+positive (LineForm l) = omega arith
+positive (Tree-fault l) = omega arith
+positive TapeTooLong = omega arith
+positive (TapeByte i) = omega arith
+positive Unreadable = omega arith
+positive (WordsTooShort n) = omega arith
+positive (CodeTooShort n) = omega arith
+positive NotACode = omega arith
+positive (TapeTooShort n) = omega arith
+positive NoSuchVisit = omega arith
 
 -- ── a spelling that is not refused ──
 pub record Spelled (p : Pattern) (code : List ℕ) (count size : ℕ) : Type 0 where
@@ -130,18 +143,6 @@ module _ (p : Pattern) (code : List ℕ) (count : ℕ) (ts us : List ℕ) (f : F
       let a : refused why ≡ flatten-answer p code count (length ts) = sym (ap flattened-answer e) ∙ h .answers in
       go (flatten-answer p code count (length ts) .number) refl (positive why) a
     where
-      positive : (r : Refusal) → 1 ≤ number r
-      positive (LineForm l) = omega arith
-      positive (Tree-fault l) = omega arith
-      positive TapeTooLong = omega arith
-      positive (TapeByte i) = omega arith
-      positive Unreadable = omega arith
-      positive (WordsTooShort n) = omega arith
-      positive (CodeTooShort n) = omega arith
-      positive NotACode = omega arith
-      positive (TapeTooShort n) = omega arith
-      positive NoSuchVisit = omega arith
-
       go : (n : ℕ) → flatten-answer p code count (length ts) .number ≡ n → 1 ≤ number why → refused why ≡ flatten-answer p code count (length ts)
           → Settles-by n (flatten-answer p code count (length ts)) p (letters-of (root p) code count) ts us ws ws xs xs (canonicalized-answer (passed-flattened f))
       go zero q k a = absurd (omega (arith, ap (λ x. x .number) a))
@@ -194,3 +195,16 @@ settle-read p code count ts us n l ws vs xs ys r w =
     let z = read-by p (letters-of (root p) code count) ws vs xs ys r (s .good) (s .few) (letters-good p code count (length ts) s) v in
     subst (λ k. Settles-by k (flatten-answer p code count (length ts)) p (letters-of (root p) code count) ts us ws vs xs ys (canonicalized-answer (passed-parsed r))) (sym (l .number-is))
     (l .tape-is, subst (λ a. Read-by (ltb (length ws) (2 * (length (letters-of (root p) code count) + 1))) p (letters-of (root p) code count) ws vs xs ys a) (sym (same-answer r)) z)
+
+-- ── what the promise says of a code that is spelled, and has its words ──
+module _ (p : Pattern) (code : List ℕ) (count : ℕ) (ts us ws vs xs ys : List ℕ) (r : Canonicalized) (h : Canonicalizes p code count ts us ws vs xs ys r) where
+  pub settles :
+      obeys p ≡ true → whole-code (root p) code count ≡ true → length (letters-of (root p) code count) ≤ 3600 → length (letters-of (root p) code count) ≤ length ts
+      → 2 * (length (letters-of (root p) code count) + 1) ≤ length ws
+      → (us ≡ in-front (letters-of (root p) code count) ts) × Read-by false p (letters-of (root p) code count) ws vs xs ys (canonicalized-answer r)
+  unfolding Canonicalizes flatten-answer
+  settles good whole few room enough =
+      let f : flatten-answer p code count (length ts) ≡ answer 0 (length (letters-of (root p) code count)) =
+      rw (good, whole, le-leb (length (letters-of (root p) code count)) 3600 few, le-leb (length (letters-of (root p) code count)) (length ts) room) in
+      let s = subst (λ a. Settles-by (a .number) a p (letters-of (root p) code count) ts us ws vs xs ys (canonicalized-answer r)) f h in
+      (s .0, subst (λ b. Read-by b p (letters-of (root p) code count) ws vs xs ys (canonicalized-answer r)) (le-ltb (length ws) (2 * (length (letters-of (root p) code count) + 1)) enough) (s .1))

@@ -1,36 +1,30 @@
 -- The third demand is met: from the contract of `canonicalize` and the theory only.
 use mathlib.Core.Path.{_≡_, refl, sym, ap, ap₂, subst, _∙_}
-use mathlib.Core.Bool.{Bool, true, false, _&&_, cond, false≢true}
-use mathlib.Core.Logic.{_↔_, inl, inr}
-use mathlib.Core.List.{List, [], _∷_, _++_}
-use Prim.Native.Nat.{ℕ, zero, suc, _+_, _*_, _≤_, _<_}
+use mathlib.Core.Bool.{Bool, true}
+use mathlib.Core.List.{List}
+use Prim.Native.Nat.{ℕ}
 use native.Mathlib.Omega.{arith}
-use borrow.Author.Tests.{le-leb, le-ltb}
-use lib.Dec.{leb, ltb}
-use lib.ListN.{length, take, drop}
+use lib.ListN.{length, take}
 use Rattle.syntax.specs.declared.Pattern.{Pattern}
-use Rattle.syntax.specs.Refusals.{Answer, answer}
 use Rattle.syntax.specs.Bools.{and-fst, and-snd}
 use Rattle.syntax.specs.Table.{obeys}
 use Rattle.syntax.specs.Tree.{Tree}
 use Rattle.syntax.specs.Trees.{root}
-use Rattle.bits.specs.Bits.{Small, cell-count, pack, held, in-front, handed-good}
-use Rattle.bits.specs.Packing.{length-pack, pack-equal, pack-small}
+use Rattle.bits.specs.Bits.{cell-count, pack, held, in-front, handed-good}
+use Rattle.bits.specs.Packing.{length-pack, pack-small}
 use Rattle.bits.specs.Writing.{take-in-front}
 use Rattle.bits.specs.Handed.{held-pack, handed-iff}
-use Rattle.semantics.specs.Code.{IsCode, NoEmptyRound, Canonical, before}
-use Rattle.semantics.specs.Decode.{is-code, spelled, hollow}
+use Rattle.semantics.specs.Code.{NoEmptyRound, Canonical}
+use Rattle.semantics.specs.Decode.{is-code, spelled}
 use Rattle.semantics.specs.CodeLaws.{is-code-iff, solid-iff}
 use Rattle.semantics.specs.Sweeps.{readable, greedy}
-use Rattle.semantics.specs.GreedyLaws.{greedy-canonical, code-readable, spelled-greedy, hollow-greedy}
-use Rattle.semantics.specs.Promise.{GreedyCode}
+use Rattle.semantics.specs.GreedyLaws.{greedy-canonical, hollow-greedy}
 use Rattle.semantics.specs.Promised.{greedy-code-iff}
-use Rattle.codes.specs.Flatten.{whole-code, letters-of, flatten-answer}
-use Rattle.parser.specs.Parse.{Reads-greedily}
+use Rattle.codes.specs.Flatten.{whole-code, letters-of}
 use Rattle.parser.specs.ParseLaws.{root-choices}
-use Rattle.canonical.specs.Canonicalize.{canonicalized-answer, Read-by, Settles-by, Canonicalizes}
-use Rattle.canonical.specs.RoundTrip.{canonical-code, canonical-whole, canonical-spells}
-use Rattle.canonical.specs.Demand.{Is-code, tape-of, Code, spells, Run, Settled, bytes-of, Equal, Earliest, Settles-well, Demand, Third-demand}
+use Rattle.canonical.specs.CanonicalLaws.{settles}
+use Rattle.canonical.specs.RoundTrip.{canonical-code, canonical-whole, canonical-spells, letters-readable}
+use Rattle.canonical.specs.Demand.{Is-code, tape-of, Code, spells, Run, Settled, bytes-of, Equal, Earliest, Settles-well, Third-demand}
 
 module _ (p : Pattern) (good : obeys p ≡ true) where
   abbrev t : Tree
@@ -45,8 +39,7 @@ module _ (p : Pattern) (good : obeys p ≡ true) where
     g = greedy t (spells c)
 
     readable-tape : readable t (spells c) ≡ true
-    unfolding letters-of
-    readable-tape = code-readable t (held 8 (c .bytes) (c .count)) (is-code-iff t (held 8 (c .bytes) (c .count)) .0 (coded (c .bytes) (c .count) (c .is .whole)))
+    readable-tape = letters-readable p (c .bytes) (c .count) (c .is .whole)
 
     canonical-tape : Canonical t (spells c) g
     canonical-tape = greedy-canonical t (spells c) readable-tape
@@ -86,25 +79,16 @@ module _ (p : Pattern) (good : obeys p ≡ true) where
         pub bytes-are : bytes-of x settled ≡ pack 8 g
 
       ran : Ran
-      unfolding Canonicalizes flatten-answer
-      ran = go (x .kept)
-        where
-          n : ℕ
-          n = length (spells c)
-
-          go : Settles-by (flatten-answer p (c .bytes) (c .count) (length (x .tape)) .number) (flatten-answer p (c .bytes) (c .count) (length (x .tape))) p (spells c)
-              (x .tape) (x .tape-now) (x .words) (x .words-now) (x .out) (x .out-now) (canonicalized-answer (x .result)) → Ran
-          go w =
-              let f : flatten-answer p (c .bytes) (c .count) (length (x .tape)) ≡ answer 0 (length (spells c)) =
-              rw (good, c .is .whole, le-leb (length (spells c)) 3600 (c .few), le-leb (length (spells c)) (length (x .tape)) (x .tape-room)) in
-              let s = subst (λ a. Settles-by (a .number) a p (spells c) (x .tape) (x .tape-now) (x .words) (x .words-now) (x .out) (x .out-now) (canonicalized-answer (x .result))) f w in
-              let r = subst (λ b. Read-by b p (spells c) (x .words) (x .words-now) (x .out) (x .out-now) (canonicalized-answer (x .result))) (le-ltb (length (x .words)) (2 * (length (spells c) + 1)) (x .word-room)) (s .1) in
-              let m = r .1 .fits g canonical-tape (x .code-room g canonical-tape) in
-              record {
-                settled = record { count = length g; answers = m .0 };
-                count-is = refl;
-                bytes-are = ap (take (cell-count 8 (length g))) (m .1) ∙ ap (λ k. take k (in-front (pack 8 g) (x .out))) (sym (length-pack 8 g)) ∙ take-in-front (pack 8 g) (x .out);
-              }
+      ran =
+          let s =
+          settles p (c .bytes) (c .count) (x .tape) (x .tape-now) (x .words) (x .words-now) (x .out) (x .out-now) (x .result) (x .kept) good (c .is .whole) (c .few) (x .tape-room)
+          (x .word-room) in
+          let m = s .1 .1 .fits g canonical-tape (x .code-room g canonical-tape) in
+          record {
+            settled = record { count = length g; answers = m .0 };
+            count-is = refl;
+            bytes-are = ap (take (cell-count 8 (length g))) (m .1) ∙ ap (λ k. take k (in-front (pack 8 g) (x .out))) (sym (length-pack 8 g)) ∙ take-in-front (pack 8 g) (x .out);
+          }
 
   module _ (c : Code p) (x : Run p c) where
     abbrev well : Settles-well p c x
@@ -135,3 +119,19 @@ third-demand p good a b x y =
         λ e. (r .count-is ∙ ap (λ w. length (greedy (root p) w)) e ∙ sym (q .count-is), r .bytes-are ∙ ap (λ w. pack 8 (greedy (root p) w)) e ∙ sym (q .bytes-are)),
       );
     }
+
+-- 01, the bodies to try: "Settling that hands its code back (demand 3)". A run that does so was given the earliest code of its tape,
+pub handed-back :
+    (p : Pattern) → obeys p ≡ true → (c : Code p) (x : Run p c) (s : Settled x) → Equal (bytes-of x s) (c .bytes) (s .count) (c .count)
+    → Earliest p (spells c) (c .bytes) (c .count)
+handed-back p good c x s e =
+    let w = well p good c x in
+    let k : w .settled .count ≡ s .count = ap (λ a. a .value) (sym (w .settled .answers) ∙ s .answers) in
+    subst (λ n. Earliest p (spells c) (c .bytes) n) (e .0)
+    (subst (λ l. Earliest p (spells c) l (s .count)) (e .1) (subst (λ n. Earliest p (spells c) (take (cell-count 8 n) (x .out-now)) n) k (w .earliest)))
+
+-- so no run keeps an empty round
+pub empty-round-kept :
+    (p : Pattern) → obeys p ≡ true → (c : Code p) (x : Run p c) (s : Settled x) → (NoEmptyRound (root p) (held 8 (c .bytes) (c .count)) → ⊥)
+    → Equal (bytes-of x s) (c .bytes) (s .count) (c .count) → ⊥
+empty-round-kept p good c x s hollow-one e = hollow-one (handed-back p good c x s e .solid)

@@ -3,3 +3,6 @@ pub mod CanonicalLaws
 pub mod RoundTrip
 pub mod Demand
 pub mod Demanded
+pub mod Rejected
+pub mod Agree
+pub mod AgreeLaws

@@ -6,15 +6,16 @@ use Prim.Native.Nat.{ℕ, _≤_}
 use native.Mathlib.Omega.{arith}
 use lib.ListN.{length}
 use Rattle.syntax.specs.declared.Pattern.{Pattern}
+use Rattle.syntax.specs.Bools.{and-snd}
 use Rattle.syntax.specs.Table.{obeys}
 use Rattle.syntax.specs.Trees.{root}
-use Rattle.bits.specs.Bits.{pack}
+use Rattle.bits.specs.Bits.{pack, held, handed-good}
 use Rattle.bits.specs.Handed.{held-pack, handed-pack}
 use Rattle.semantics.specs.Code.{IsCode, Canonical}
-use Rattle.semantics.specs.Decode.{spelled}
+use Rattle.semantics.specs.Decode.{is-code, spelled}
 use Rattle.semantics.specs.CodeLaws.{is-code-iff}
-use Rattle.semantics.specs.Sweeps.{greedy}
-use Rattle.semantics.specs.GreedyLaws.{canonical-greedy, spelled-greedy}
+use Rattle.semantics.specs.Sweeps.{readable}
+use Rattle.semantics.specs.GreedyLaws.{canonical-greedy, code-readable, spelled-greedy}
 use Rattle.codes.specs.Flatten.{whole-code, letters-of}
 use Rattle.parser.specs.ParseLaws.{greedy-few}
 
@@ -37,3 +38,9 @@ module _ (p : Pattern) (good : obeys p ≡ true) (tape : List ℕ) (few : length
   canonical-spells =
       let (r, e) = canonical-greedy (root p) tape bits k in
       ap (spelled (root p)) (held-pack 8 (omega arith) bits ∙ sym e) ∙ spelled-greedy (root p) tape r
+
+-- what a whole code spells can be read
+pub letters-readable : (p : Pattern) (code : List ℕ) (count : ℕ) → whole-code (root p) code count ≡ true → readable (root p) (letters-of (root p) code count) ≡ true
+unfolding whole-code letters-of
+letters-readable p code count w =
+    code-readable (root p) (held 8 code count) (is-code-iff (root p) (held 8 code count) .0 (and-snd (handed-good code count) (is-code (root p) (held 8 code count)) w))

@@ -1,6 +1,9 @@
 // Settling a code: it is spelled, and what it spells is read. 01: the settled code; here: the canonical code.
 ghost use mathlib.Core.Path.{_≡_};
 ghost use Rattle.canonical.specs.Canonicalize.{Canonicalizes, passed-flattened, passed-parsed};
+
+pub mod agree; // agree.rt: the third demand on one run
+
 use codes::Flattened;
 use codes::flatten;
 use parser::Parsed;
