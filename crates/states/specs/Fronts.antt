@@ -8,6 +8,8 @@ use lib.Dec.{eqb}
 use lib.Bits.{bitOr}
 use lib.ListN.{getD, set}
 use lib.Pow.{pow-pos}
+use lib.Seq.{set-set, set-getD}
+use native.Mathlib.Omega.{arith}
 use Rattle.syntax.specs.declared.Leaf.{Leaf}
 use Rattle.syntax.specs.declared.Leaf.the-variants.{Nothing, Letter, Range}
 use Rattle.syntax.specs.declared.Node.{Node}
@@ -91,6 +93,44 @@ down-line us i (Leaf-node x) fs = fs
 down-line us i (Sequence p q) fs = set (set fs q (follow-at fs i)) p (before-second q (front-at us q) (follow-at fs i))
 down-line us i (Alternative p q) fs = set (set fs q (follow-at fs i)) p (follow-at fs i)
 down-line us i (Star p) fs = set fs p (before-round i (front-at us p) (follow-at fs i))
+
+-- the parts of a line: a star has one, and a leaf stands for its own
+abbrev pub first-part : (index : ℕ) → Node → ℕ
+first-part i (Leaf-node x) = i
+first-part i (Sequence p q) = p
+first-part i (Alternative p q) = p
+first-part i (Star p) = p
+
+abbrev pub second-part : (index : ℕ) → Node → ℕ
+second-part i (Leaf-node x) = i
+second-part i (Sequence p q) = q
+second-part i (Alternative p q) = q
+second-part i (Star p) = p
+
+-- what follows the first part of a line, from the front of the second and what follows the line
+abbrev pub to-first : (index : ℕ) → Front → Node → Follow → Follow
+to-first i b (Leaf-node x) f = f
+to-first i b (Sequence p q) f = before-second q b f
+to-first i b (Alternative p q) f = f
+to-first i b (Star p) f = before-round i b f
+
+-- a line hands on by two stores
+pub down-stores : (us : List Front) (i : ℕ) (n : Node) (fs : List Follow)
+    → set (set fs (second-part i n) (follow-at fs i)) (first-part i n) (to-first i (front-at us (second-part i n)) n (follow-at fs i)) ≡ down-line us i n fs
+down-stores us i (Leaf-node x) fs = set-set fs i (follow-at fs i) (follow-at fs i) ∙ set-getD fs i blank-follow
+down-stores us i (Sequence p q) fs = refl
+down-stores us i (Alternative p q) fs = refl
+down-stores us i (Star p) fs = set-set fs p (follow-at fs i) (before-round i (front-at us p) (follow-at fs i))
+
+pub down-stored : (us : List Front) (i : ℕ) (n : Node) (fs : List Follow) (q p : ℕ) (b : Follow) → q ≡ second-part i n → p ≡ first-part i n → b ≡ to-first i (front-at us q) n (follow-at fs i)
+    → set (set fs q (follow-at fs i)) p b ≡ down-line us i n fs
+down-stored us i n fs q p b eq ep eb = rw (eb, ep, eq) (down-stores us i n fs)
+
+pub parts-inside : (i : ℕ) (n : Node) → i < 64 → Below i n → (first-part i n < 64) × (second-part i n < 64)
+parts-inside i (Leaf-node x) h b = (h, h)
+parts-inside i (Sequence p q) h b = (omega (arith, b .0), omega (arith, b .1))
+parts-inside i (Alternative p q) h b = (omega (arith, b .0), omega (arith, b .1))
+parts-inside i (Star p) h b = (omega (arith, b), omega (arith, b))
 
 -- what follows a node with the tree t: the follower's number, and what is come to behind the node, with flag 0 and with flag 1
 pub record Follow-of (p : Pattern) (t : Tree) (f : Follow) : Type 0 where

@@ -1,8 +1,8 @@
 // Going down: what each node comes to behind itself, from the last line to the first.
 ghost use mathlib.Core.Path.{_≡_};
 ghost use Prim.Native.Nat.{_<_};
-ghost use Rattle.syntax.specs.TreeLaws.{Below, Rules};
-ghost use Rattle.states.specs.Fronts.{before-second, before-round, down-line, Fronts};
+ghost use Rattle.syntax.specs.TreeLaws.{Rules};
+ghost use Rattle.states.specs.Fronts.{before-second, before-round, first-part, second-part, to-first, Fronts};
 ghost use Rattle.states.specs.Follows.{Down};
 use super::fronts::Front;
 use super::word::both;
@@ -43,39 +43,45 @@ fn before_round(star: u8, front: Front, follow: Follow) -> Follow
     }
 }
 
-// Line i hands on to its parts.
-fn hand_down(follows: [Follow; 64], fronts: [Front; 64], node: Node, i: usize) -> [Follow; 64]
-    requires { ⌜ (i < 64) × Below i node ⌝ }
-    ensures { λ r. ⌜ r ≡ down-line fronts i node follows ⌝ }
+// The parts of line i: a star has one, and a leaf stands for its own.
+fn first_part(node: Node, i: usize) -> usize
+    ensures { λ r. ⌜ r ≡ first-part i node ⌝ }
 {
-    let follow = follows[i];
-    let mut next = follows;
     match node {
-        Node::Leaf(_) => follows,
-        Node::Sequence(p, q) => {
-            let front = fronts[q as usize];
-            let before = before_second(q, front, follow);
-            next[q as usize] = follow;
-            next[p as usize] = before;
-            next
-        }
-        Node::Alternative(p, q) => {
-            next[q as usize] = follow;
-            next[p as usize] = follow;
-            next
-        }
-        Node::Star(p) => {
-            let front = fronts[p as usize];
-            let before = before_round(i as u8, front, follow);
-            next[p as usize] = before;
-            next
-        }
+        Node::Leaf(_) => i,
+        Node::Sequence(p, _) => p as usize,
+        Node::Alternative(p, _) => p as usize,
+        Node::Star(p) => p as usize,
     }
 }
 
-pub fn follows_of(p: Pattern, fronts: [Front; 64]) -> [Follow; 64]
-    requires { ⌜ Rules p × ((good : Rules p) → Fronts p good (p .count) fronts) ⌝ }
-    ensures { λ r. ⌜ ((good : Rules p) → Down p good 0 r) ⌝ }
+fn second_part(node: Node, i: usize) -> usize
+    ensures { λ r. ⌜ r ≡ second-part i node ⌝ }
+{
+    match node {
+        Node::Leaf(_) => i,
+        Node::Sequence(_, q) => q as usize,
+        Node::Alternative(_, q) => q as usize,
+        Node::Star(p) => p as usize,
+    }
+}
+
+// What follows the first part of line i, from the front of the second and what follows the line.
+fn to_first(node: Node, i: usize, front: Front, follow: Follow) -> Follow
+    requires { ⌜ i < 64 ⌝ }
+    ensures { λ r. ⌜ r ≡ to-first i front node follow ⌝ }
+{
+    match node {
+        Node::Leaf(_) => follow,
+        Node::Sequence(_, q) => before_second(q, front, follow),
+        Node::Alternative(_, _) => follow,
+        Node::Star(_) => before_round(i as u8, front, follow),
+    }
+}
+
+pub fn follows_of(pattern: Pattern, fronts: [Front; 64]) -> [Follow; 64]
+    requires { ⌜ Rules pattern × ((good : Rules pattern) → Fronts pattern good (pattern .count) fronts) ⌝ }
+    ensures { λ r. ⌜ ((good : Rules pattern) → Down pattern good 0 r) ⌝ }
 {
     let blank = Follow {
         state: 64,
@@ -84,13 +90,18 @@ pub fn follows_of(p: Pattern, fronts: [Front; 64]) -> [Follow; 64]
         end: true,
     };
     let mut follows = [blank; 64];
-    let mut i = p.count;
+    let mut i = pattern.count;
     while 0 < i {
         i -= 1;
-        let line = p.lines[i];
+        let line = pattern.lines[i];
         let node = line.node;
-        let next = hand_down(follows, fronts, node, i);
-        follows = next;
+        let follow = follows[i];
+        let q = second_part(node, i);
+        let p = first_part(node, i);
+        let front = fronts[q];
+        let before = to_first(node, i, front, follow);
+        follows[q] = follow;
+        follows[p] = before;
     }
     follows
 }
