@@ -1,0 +1,1 @@
+-- Laws of the listing: one for each way of the code.
