@@ -5,6 +5,6 @@ pub mod Putting
 pub mod Digits
 -- The lines: one law for each way of the code.
 pub mod Lines
--- The service: laws of its ways, and what its definition means in the terms of crate semantics.
+pub mod Bounds
+-- The service: laws of its ways.
 pub mod ListingLaws
-pub mod Meaning

@@ -27,7 +27,7 @@ fn put_line(out: &mut [u8], at: usize, word: &[u8], a: u32, b: u32) -> usize
 
 // Letters, bits, and the code in hexadecimal.
 pub fn put_tape(out: &mut [u8], at: usize, letters: u32, bits: u32, code: &[u8]) -> usize
-    requires { ⌜ Room (length (now out)) at (tape-line letters bits (now code)) ⌝ }
+    requires { ⌜ at + (28 + 2 * length (now code)) ≤ length (now out) ⌝ }
     ensures { λ r. ⌜ Puts (now (out .entry)) at (tape-line letters bits (now (code .entry))) (now (out .exit)) r ⌝ }
 {
     let first = put_bytes(out, at, b"tape");
@@ -50,9 +50,8 @@ fn put_account(out: &mut [u8], at: usize, account: u32, litres: u32) -> usize
 }
 
 pub fn put_accounts(out: &mut [u8], at: usize, litres: &[u32]) -> usize
-    requires { ⌜ Room (length (now out)) at (account-lines 0 (now litres)) ⌝ }
-    requires { ⌜ length (now litres) ≤ 10 ⌝ }
-    ensures { λ r. ⌜ Puts (now (out .entry)) at (account-lines 0 (now (litres .entry))) (now (out .exit)) r ⌝ }
+    requires { ⌜ (at + 300 ≤ length (now out)) × (length (now litres) ≤ 10) ⌝ }
+    ensures { λ r. ⌜ (Puts (now (out .entry)) at (account-lines 0 (now (litres .entry))) (now (out .exit)) r) × (r ≤ at + 300) ⌝ }
 {
     let mut end = at;
     let mut i = 0;
@@ -65,8 +64,7 @@ pub fn put_accounts(out: &mut [u8], at: usize, litres: &[u32]) -> usize
 
 // Positions 0 to `letters`, each with the ones of its flag 1 word.
 pub fn put_open(out: &mut [u8], at: usize, words: &[u64], letters: usize) -> usize
-    requires { ⌜ Room (length (now out)) at (open-lines (now words) 0 (suc letters)) ⌝ }
-    requires { ⌜ (letters ≤ 3600) × (2 * (letters + 1) ≤ length (now words)) ⌝ }
+    requires { ⌜ (at + 27 * (letters + 1) ≤ length (now out)) × (letters ≤ 3600) × (2 * (letters + 1) ≤ length (now words)) ⌝ }
     ensures { λ r. ⌜ Puts (now (out .entry)) at (open-lines (now (words .entry)) 0 (suc letters)) (now (out .exit)) r ⌝ }
 {
     let mut end = at;
@@ -81,8 +79,8 @@ pub fn put_open(out: &mut [u8], at: usize, words: &[u64], letters: usize) -> usi
 
 // The line of a refusal.
 pub fn put_refused(out: &mut [u8], at: usize, why: Refusal) -> usize
-    requires { ⌜ Room (length (now out)) at (refused-line (refused why)) ⌝ }
-    ensures { λ r. ⌜ Puts (now (out .entry)) at (refused-line (refused why)) (now (out .exit)) r ⌝ }
+    requires { ⌜ at + 30 ≤ length (now out) ⌝ }
+    ensures { λ r. ⌜ (Puts (now (out .entry)) at (refused-line (refused why)) (now (out .exit)) r) × (r ≤ at + 30) ⌝ }
 {
     put_line(out, at, b"refused", number_of(why), value_of(why))
 }

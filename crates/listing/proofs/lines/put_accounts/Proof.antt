@@ -3,6 +3,7 @@ use Prim.Native.Nat.{_-_}
 use native.Mathlib.Omega.{arith}
 use lib.ListN.{length, getD}
 use Rattle.listing.specs.Listing.{account-line}
+use Rattle.listing.specs.Bounds.{accounts-length}
 use Rattle.listing.specs.Putting.{Each, each-start, each-room, each-next, each-end}
 use Rattle.listing.specs.Lines.{accounts-from, accounts-step, accounts-over}
 use borrow.Author.Needs.{needs}
@@ -28,7 +29,7 @@ shared-slice-read-put-account : tie.Need-shared-slice-read-put-account Inv-loop 
 shared-slice-read-put-account c = search needs
 
 put-account-requires : tie.Need-put-account-requires Inv-loop μ-loop
-put-account-requires c κs = each-room (accounts-from (c .before .before .before .before .before .before .args .litres .now)) (length (c .before .before .before .before .before .before .args .litres .now)) (c .before .before .before .loop .inv) (account-line (c .before .before .before .loop .i) (getD (c .before .before .before .before .before .before .args .litres .now) (c .before .before .before .loop .i) 0)) (accounts-step (c .before .before .before .before .before .before .args .litres .now) _ (c .before .before .loop-test .taken)) (c .before .before .before .before .before .before .pre .0)
+put-account-requires c κs = each-room (accounts-from (c .before .before .before .before .before .before .args .litres .now)) (length (c .before .before .before .before .before .before .args .litres .now)) (c .before .before .before .loop .inv) (account-line (c .before .before .before .loop .i) (getD (c .before .before .before .before .before .before .args .litres .now) (c .before .before .before .loop .i) 0)) (accounts-step (c .before .before .before .before .before .before .args .litres .now) _ (c .before .before .loop-test .taken)) (omega (arith, c .before .before .before .before .before .before .pre .0, c .before .before .before .before .before .before .pre .1, accounts-length 0 (c .before .before .before .before .before .before .args .litres .now) (omega (arith, c .before .before .before .before .before .before .pre .1)) (λ k. c .before .before .before .before .shared-slice-known .given k .fits)))
 
 add-i : tie.Need-add-i Inv-loop μ-loop
 add-i c = search needs
@@ -43,7 +44,7 @@ same-length : tie.Need-same-length Inv-loop μ-loop
 same-length c = search needs
 
 returns : tie.Need-returns Inv-loop μ-loop
-returns c = each-end (accounts-from (c .before .before .before .before .args .litres .now)) (length (c .before .before .before .before .args .litres .now)) (c .before .loop .inv) (accounts-over (c .before .before .before .before .args .litres .now)) (c .loop-test .left)
+returns c = let p = each-end (accounts-from (c .before .before .before .before .args .litres .now)) (length (c .before .before .before .before .args .litres .now)) (c .before .loop .inv) (accounts-over (c .before .before .before .before .args .litres .now)) (c .loop-test .left) in (p, omega (arith, p .ends, c .before .before .before .before .pre .1, accounts-length 0 (c .before .before .before .before .args .litres .now) (omega (arith, c .before .before .before .before .pre .1)) (λ k. c .before .before .shared-slice-known .given k .fits)))
 
 pub put-accounts-spec : {M : Type 1} → statement M
 put-accounts-spec =

@@ -3,6 +3,7 @@ use Prim.Native.Nat.{suc, _-_}
 use native.Mathlib.Omega.{arith}
 use lib.ListN.{length}
 use Rattle.listing.specs.Listing.{line, open-word}
+use Rattle.listing.specs.Bounds.{open-length}
 use Rattle.listing.specs.Putting.{Each, each-start, each-room, each-next, each-end}
 use Rattle.listing.specs.Lines.{open-from, open-step, open-over, open-room, open-done}
 use borrow.Author.Needs.{needs}
@@ -19,16 +20,16 @@ loop-holds : tie.Need-loop-holds Inv-loop μ-loop
 loop-holds c = each-start (open-from _ _) _ _ _
 
 mul-open-nodes : tie.Need-mul-open-nodes Inv-loop μ-loop
-mul-open-nodes c = omega (arith, c .before .before .before .before .pre .1 .0, c .before .before .before .before .pre .1 .1, c .loop-test .taken)
+mul-open-nodes c = omega (arith, c .before .before .before .before .pre .1, c .before .before .before .before .pre .2, c .loop-test .taken)
 
 add-open-nodes : tie.Need-add-open-nodes Inv-loop μ-loop
-add-open-nodes c = omega (arith, c .before .before .before .before .pre .1 .0, c .before .before .before .before .pre .1 .1, c .loop-test .taken)
+add-open-nodes c = omega (arith, c .before .before .before .before .pre .1, c .before .before .before .before .pre .2, c .loop-test .taken)
 
 mul-open-nodes-2 : tie.Need-mul-open-nodes-2 Inv-loop μ-loop
 mul-open-nodes-2 c = search needs
 
 shared-slice-read-open-nodes : tie.Need-shared-slice-read-open-nodes Inv-loop μ-loop
-shared-slice-read-open-nodes c = omega (arith, c .before .before .before .before .before .pre .1 .0, c .before .before .before .before .before .pre .1 .1, c .before .loop-test .taken)
+shared-slice-read-open-nodes c = omega (arith, c .before .before .before .before .before .pre .1, c .before .before .before .before .before .pre .2, c .before .loop-test .taken)
 
 open-nodes-requires : tie.Need-open-nodes-requires Inv-loop μ-loop
 open-nodes-requires c κs = search needs
@@ -37,10 +38,10 @@ slice-aggregate-put-line : tie.Need-slice-aggregate-put-line Inv-loop μ-loop
 slice-aggregate-put-line c = search needs
 
 cast-put-line : tie.Need-cast-put-line Inv-loop μ-loop
-cast-put-line c = omega (arith, c .before .before .before .before .before .before .before .before .pre .1 .0, c .before .before .before .before .before .before .before .before .pre .1 .1, c .before .before .before .before .loop-test .taken)
+cast-put-line c = omega (arith, c .before .before .before .before .before .before .before .before .pre .1, c .before .before .before .before .before .before .before .before .pre .2, c .before .before .before .before .loop-test .taken)
 
 put-line-requires : tie.Need-put-line-requires Inv-loop μ-loop
-put-line-requires c κs = each-room (open-from (c .before .before .before .before .before .before .before .before .args .words .now) (suc (c .before .before .before .before .before .before .before .before .args .letters))) (suc (c .before .before .before .before .before .before .before .before .args .letters)) (c .before .before .before .before .before .loop .inv) (line open-word (c .before .before .before .before .before .loop .i) (c .before .before .open-nodes .result)) (open-step (c .before .before .before .before .before .before .before .before .args .words .now) (suc (c .before .before .before .before .before .before .before .before .args .letters)) (c .before .before .before .before .before .loop .i) _ (omega (arith, c .before .before .before .before .loop-test .taken)) (c .before .before .open-nodes .ensures)) (open-room (c .before .before .before .before .before .before .before .before .args .words .now) (suc (c .before .before .before .before .before .before .before .before .args .letters)) _ _ (c .before .before .before .before .before .before .before .before .pre .0))
+put-line-requires c κs = each-room (open-from (c .before .before .before .before .before .before .before .before .args .words .now) (suc (c .before .before .before .before .before .before .before .before .args .letters))) (suc (c .before .before .before .before .before .before .before .before .args .letters)) (c .before .before .before .before .before .loop .inv) (line open-word (c .before .before .before .before .before .loop .i) (c .before .before .open-nodes .result)) (open-step (c .before .before .before .before .before .before .before .before .args .words .now) (suc (c .before .before .before .before .before .before .before .before .args .letters)) (c .before .before .before .before .before .loop .i) _ (omega (arith, c .before .before .before .before .loop-test .taken)) (c .before .before .open-nodes .ensures)) (open-room (c .before .before .before .before .before .before .before .before .args .words .now) (suc (c .before .before .before .before .before .before .before .before .args .letters)) _ _ (omega (arith, c .before .before .before .before .before .before .before .before .pre .0, open-length (c .before .before .before .before .before .before .before .before .args .words .now) 0 (suc (c .before .before .before .before .before .before .before .before .args .letters)) (omega (arith, c .before .before .before .before .before .before .before .before .pre .1)))))
 
 add-i : tie.Need-add-i Inv-loop μ-loop
 add-i c = search needs
