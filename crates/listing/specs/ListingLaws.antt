@@ -273,3 +273,12 @@ list-done text file out now end l p b =
 
 pub same-listing : (old : List ℕ) (at : ℕ) (x y now : List ℕ) (end : ℕ) → x ≡ y → Puts old at x now end → Puts old at y now end
 same-listing old at x y now end e p = subst (λ z. Puts old at z now end) e p
+
+-- a listing lies inside the buffer
+pub listed-within : (text file out now : List ℕ) (r : Listed) (n : ℕ) → Lists text file out now r → r ≡ Bytes n → room ≤ length out → length now ≡ length out → n ≤ length now
+unfolding in-front
+listed-within text file out now r n h e l same =
+    let (a, w) = h .fits l in
+    let k : n ≡ length (listing-of text file) = cc in
+    let s : length now ≡ length (listing-of text file) + length (drop (length (listing-of text file)) out) = ap length w ∙ length-append (listing-of text file) (drop (length (listing-of text file)) out) in
+    omega arith
