@@ -8,3 +8,5 @@ pub mod Lines
 pub mod Bounds
 -- The service: laws of its ways.
 pub mod ListingLaws
+-- Files that are cut off.
+pub mod Shortened
