@@ -8,5 +8,7 @@ pub mod Lines
 pub mod Bounds
 -- The service: laws of its ways.
 pub mod ListingLaws
+-- What the definition means for values, the theorem behind its computed parts.
+pub mod Meaning
 -- Files that are cut off.
 pub mod Shortened
