@@ -10,5 +10,6 @@ pub mod Bounds
 pub mod ListingLaws
 -- What the definition means for values, the theorem behind its computed parts.
 pub mod Meaning
+pub mod Examples
 -- Files that are cut off.
 pub mod Shortened

@@ -163,7 +163,7 @@ next-forms k i l ih (b ∷ bs) (suc m) h = go (ltb (first-size (b ∷ bs)) 15) r
         let s : first-size (b ∷ bs) < 15 = ltb-true (first-size (b ∷ bs)) 15 q in
         forms-same i b m bs l (same-line (b ∷ bs) (suc m) (omega arith))
         (ap (λ w. forms (suc i) (rows w)) (drop-of-take (suc (first-size (b ∷ bs))) (m - first-size (b ∷ bs)) (suc m) (b ∷ bs) (omega arith))
-          ∙ ih (drop (suc (first-size (b ∷ bs))) (b ∷ bs)) (m - first-size (b ∷ bs)) (omega arith))
+        ∙ ih (drop (suc (first-size (b ∷ bs))) (b ∷ bs)) (m - first-size (b ∷ bs)) (omega arith))
     go false q =
         let s : 15 ≤ first-size (b ∷ bs) = ltb-false (first-size (b ∷ bs)) 15 q in
         forms-long i b (take m bs) l (still-long (b ∷ bs) (suc m) 15 (omega arith) s) ∙ sym (forms-long i b bs l s)
