@@ -1,7 +1,7 @@
 -- How long lines can be. Numbers have 32 bits, so at most ten digits.
-use mathlib.Core.Path.{_≡_, refl, sym, ap, subst, _∙_}
+use mathlib.Core.Path.{_≡_, refl, ap, subst}
 use mathlib.Core.Bool.{Bool, true, false, cond}
-use mathlib.Core.List.{List, [], _∷_, _++_}
+use mathlib.Core.List.{List, [], _∷_}
 use Prim.Native.Nat.{ℕ, zero, suc, _+_, _*_, _≤_, _<_}
 use native.Mathlib.Omega.{arith}
 use lib.Dec.{eqb}
@@ -9,7 +9,7 @@ use lib.ListN.{length, getD, length-append}
 use Rattle.syntax.specs.declared.Refusal.{Refusal}
 use Rattle.syntax.specs.Refusals.{refused, number, value}
 use Rattle.bits.specs.Bits.{bit, test-bit, count-below}
-use Rattle.listing.specs.Listing.{decimal, hex-byte, hex, field, line, tape-word, tape-line, account-word, open-word, refused-word, account-line, account-lines, open-lines, refused-line}
+use Rattle.listing.specs.Listing.{decimal, hex-byte, hex, field, entry, line, tape-word, tape-line, account-word, open-word, refused-word, account-line, account-lines, open-lines, refused-line}
 use Rattle.listing.specs.Digits.{decimal-ten}
 
 abbrev pub Short : ℕ → Type 0
@@ -19,9 +19,13 @@ pub field-length : (n : ℕ) → Short n → length (field n) ≤ 11
 unfolding field
 field-length n h = omega (arith, decimal-ten n h)
 
+entry-length : (word : List ℕ) (a b : ℕ) → Short a → Short b → length (entry word a b) ≤ length word + 22
+unfolding entry
+entry-length word a b ha hb = simp length-append (omega (arith, field-length a ha, field-length b hb))
+
 pub line-length : (word : List ℕ) (a b : ℕ) → Short a → Short b → length (line word a b) ≤ length word + 23
 unfolding line
-line-length word a b ha hb = simp length-append (omega (arith, field-length a ha, field-length b hb))
+line-length word a b ha hb = simp length-append (omega (arith, entry-length word a b ha hb))
 
 pub hex-length : (bs : List ℕ) → length (hex bs) ≡ 2 * length bs
 unfolding hex hex-byte
@@ -30,7 +34,7 @@ hex-length (b ∷ bs) = omega (arith, hex-length bs)
 
 pub tape-length : (n m : ℕ) (code : List ℕ) → Short n → Short m → length (tape-line n m code) ≤ 28 + 2 * length code
 unfolding tape-line
-tape-length n m code hn hm = simp length-append (omega (arith, field-length n hn, field-length m hm, hex-length code))
+tape-length n m code hn hm = simp length-append (omega (arith, entry-length tape-word n m hn hm, hex-length code))
 
 account-length : (a n : ℕ) → Short a → Short n → length (account-line a n) ≤ 30
 unfolding account-line

@@ -61,12 +61,16 @@ refused-word = 114 ∷ 101 ∷ 102 ∷ 117 ∷ 115 ∷ 101 ∷ 100 ∷ []
 unfoldable pub field : (n : ℕ) → List ℕ
 field n = (9 ∷ []) ++ decimal n
 
+-- a word and two numbers
+unfoldable pub entry : (word : List ℕ) → (a b : ℕ) → List ℕ
+entry word a b = word ++ (field a ++ field b)
+
 unfoldable pub line : (word : List ℕ) → (a b : ℕ) → List ℕ
-line word a b = word ++ (field a ++ (field b ++ (10 ∷ [])))
+line word a b = entry word a b ++ (10 ∷ [])
 
 -- 01: "First line: letters, bits, code in hexadecimal (an empty field for a code of 0 bits)."
 unfoldable pub tape-line : (letters bits : ℕ) → (code : List ℕ) → List ℕ
-tape-line n m code = tape-word ++ (field n ++ (field m ++ ((9 ∷ []) ++ (hex code ++ (10 ∷ [])))))
+tape-line n m code = entry tape-word n m ++ ((9 ∷ []) ++ (hex code ++ (10 ∷ [])))
 
 -- a line for one account, none for 0 litres
 unfoldable pub account-line : (account litres : ℕ) → List ℕ

@@ -1,27 +1,25 @@
 -- Laws of the listing: one for each way of the code.
 use mathlib.Core.Path.{_≡_, refl, sym, ap, ap₂, subst, _∙_}
-use mathlib.Core.Bool.{Bool, true, false, not, cond, true≢false, false≢true}
+use mathlib.Core.Bool.{Bool, true, false, not, cond, false≢true}
 use mathlib.Core.List.{List, [], _∷_, _++_}
-use Prim.Native.Nat.{ℕ, zero, suc, _+_, _*_, _-_, _/_, _≤_, _<_}
+use Prim.Native.Nat.{ℕ, zero, suc, _+_, _*_, _-_, _≤_, _<_}
 use native.Mathlib.Omega.{arith}
-use borrow.Author.Tests.{lt-ltb, le-ltb, ltb-true, ltb-false, le-leb, eq-eqb, ne-eqb}
+use borrow.Author.Tests.{le-ltb, ltb-false, le-leb, eq-eqb, ne-eqb}
 use lib.Dec.{ltb, leb, eqb}
 use lib.ListN.{length, take, drop, getD, length-append, length-drop, List·getD-append}
 use lib.Seq.{take-at, take-length}
 use Rattle.syntax.specs.declared.Pattern.{Pattern}
 use Rattle.syntax.specs.declared.Loaded.{Loaded}
-use Rattle.syntax.specs.declared.Outcome.{Outcome}
 use Rattle.syntax.specs.declared.Outcome.the-variants.{Lines, Refused as Not-loaded}
 use Rattle.syntax.specs.declared.Refusal.{Refusal}
 use Rattle.syntax.specs.declared.Refusal.the-variants.{LineForm, Tree as Tree-fault, TapeTooLong, TapeByte, Unreadable, WordsTooShort, CodeTooShort, NotACode, TapeTooShort, NoSuchVisit}
-use Rattle.syntax.specs.Refusals.{Answer, answer, refused, number}
+use Rattle.syntax.specs.Refusals.{answer, refused, number}
 use Rattle.syntax.specs.Table.{obeys}
 use Rattle.syntax.specs.Trees.{root}
-use Rattle.syntax.specs.Load.{outcome-answer, load-answer, load-table, Loads}
+use Rattle.syntax.specs.Load.{outcome-answer, load-answer, Loads}
 use Rattle.bits.specs.Bits.{cell-count, pack, in-front}
 use Rattle.bits.specs.Packing.{length-pack}
 use Rattle.bits.specs.Handed.{held-pack}
-use Rattle.semantics.specs.Value.{Value, flat}
 use Rattle.semantics.specs.Code.{Canonical}
 use Rattle.semantics.specs.Accounts.{totals}
 use Rattle.semantics.specs.Decode.{value-of}
@@ -30,7 +28,7 @@ use Rattle.semantics.specs.GreedyLaws.{greedy-canonical, readable-iff}
 use Rattle.states.specs.StateSets.{words}
 use Rattle.states.specs.Meaning.{words-length}
 use Rattle.codes.specs.declared.Totalled.{Totalled}
-use Rattle.codes.specs.Totals.{entries-by, entries-of, totals-answer, totals-litres, Totals, no-litres}
+use Rattle.codes.specs.Totals.{entries-by, entries-of, totals-answer, totals-litres, Totals}
 use Rattle.canonical.specs.RoundTrip.{canonical-whole, canonical-spells}
 use Rattle.parser.specs.declared.Parsed.{Parsed}
 use Rattle.parser.specs.declared.Parsed.the-variants.{Bits, Refused}

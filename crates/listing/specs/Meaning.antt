@@ -1,29 +1,27 @@
 -- What a listing says, in the terms of 01 and 001: the definition's computed parts (`readable`, `greedy`, `value-of`) are joined to
 -- values here.
-use mathlib.Core.Path.{_≡_, refl, sym, ap, ap₂, _∙_}
-use mathlib.Core.Bool.{Bool, true, false, true≢false, false≢true}
+use mathlib.Core.Path.{_≡_, refl, ap, _∙_}
+use mathlib.Core.Bool.{Bool, true, false}
 use mathlib.Core.List.{List, _++_}
 use Prim.Native.Nat.{ℕ, suc}
-use native.Mathlib.Omega.{arith}
 use borrow.Author.Tests.{eq-eqb, ne-eqb}
 use lib.Dec.{eqb}
 use lib.ListN.{length}
 use Rattle.syntax.specs.declared.Pattern.{Pattern}
 use Rattle.syntax.specs.declared.Refusal.the-variants.{Unreadable}
-use Rattle.syntax.specs.Refusals.{Answer, refused}
+use Rattle.syntax.specs.Refusals.{refused}
 use Rattle.syntax.specs.Load.{load-answer, load-table}
 use Rattle.syntax.specs.Trees.{root}
 use Rattle.bits.specs.Bits.{pack}
 use Rattle.semantics.specs.Value.{Value, flat}
 use Rattle.semantics.specs.Order.{Greedy}
-use Rattle.semantics.specs.Code.{code, Canonical}
+use Rattle.semantics.specs.Code.{code}
 use Rattle.semantics.specs.Accounts.{accounts, totals}
 use Rattle.semantics.specs.Decode.{value-of}
 use Rattle.semantics.specs.Sweeps.{readable, greedy}
 use Rattle.semantics.specs.CodeLaws.{value-of-code}
 use Rattle.semantics.specs.GreedyLaws.{canonical-greedy, readable-iff}
 use Rattle.states.specs.StateSets.{words}
-use Rattle.codes.specs.Totals.{entries-by}
 use Rattle.listing.specs.Listing.{tape-line, account-lines, open-lines, refused-line, listing, read-listing, early-cause, pattern-listing, tape-of, listing-of}
 
 -- the lines of a tape whose greedy value is v: letters, bits and bytes of its code; litres by account; open nodes of each position

@@ -1,11 +1,11 @@
 -- Bytes put into a buffer one behind the other. `sets` of the logic's library stores a list from an index on.
 use mathlib.Core.Path.{_≡_, refl, sym, ap, ap₂, subst, _∙_}
-use mathlib.Core.List.{List, [], _∷_, _++_, append-nil}
+use mathlib.Core.List.{List, [], _∷_, _++_}
 use Prim.Native.Nat.{ℕ, zero, suc, _+_, _≤_, _<_}
 use native.Mathlib.Nat.{add-zero}
 use native.Mathlib.Numerals.{add-one}
 use native.Mathlib.Omega.{arith}
-use lib.ListN.{length, take, drop, set, getD, length-append, drop-of-length-le}
+use lib.ListN.{length, drop, set, getD, length-append}
 use lib.Seq.{sets, length-sets, sets-eq, drop-cons}
 use Rattle.bits.specs.Bits.{in-front}
 
@@ -42,15 +42,9 @@ module _ {old : List ℕ} {at : ℕ} {new now : List ℕ} {here : ℕ} {rest : L
       long = ap length (p .bytes) ∙ length-sets now here x ∙ d .long;
     }
 
-  -- there is room for the first part of the rest, and for the whole rest
+  -- there is room for the first part of the rest
   pub room-front : (x more : List ℕ) → rest ≡ x ++ more → Room (length old) at new → Room (length now) here x
   room-front x more e r = omega (arith, r, d .ends, d .long, length-append x more, ap length e)
-
-  pub room-rest : Room (length old) at new → Room (length now) here rest
-  room-rest r = omega (arith, r, d .ends, d .long)
-
-  pub last : {now′ : List ℕ} {here′ : ℕ} → Puts now here rest now′ here′ → Puts old at new now′ here′
-  last p = record { bytes = p .bytes ∙ d .bytes; ends = p .ends ∙ d .ends }
 
 -- nothing is left
 pub finish : {old : List ℕ} {at : ℕ} {new now : List ℕ} {here : ℕ} → Doing old at new now here [] → Puts old at new now here
@@ -76,6 +70,22 @@ module _ {old : List ℕ} {at : ℕ} {x now : List ℕ} {here : ℕ} (p : Puts o
 
 pub room-before : (size at : ℕ) (x y : List ℕ) → Room size at (x ++ y) → Room size at x
 room-before size at x y r = omega (arith, r, length-append x y)
+
+-- two parts, put one after the other
+module _ (new x y : List ℕ) (e : new ≡ x ++ y) (old : List ℕ) (at : ℕ) where
+  pub first-room : Room (length old) at new → Room (length old) at x
+  first-room r = room-before (length old) at x y (subst (Room (length old) at) e r)
+
+  module _ {m : List ℕ} {mid : ℕ} (p : Puts old at x m mid) where
+    pub second-room : Room (length old) at new → Room (length m) mid y
+    second-room r = room-behind p y (subst (Room (length old) at) e r)
+
+    pub both-done : {now : List ℕ} {end : ℕ} → Puts m mid y now end → Puts old at new now end
+    both-done {now} {end} q = subst (λ z. Puts old at z now end) (sym e) (puts-both p q)
+
+-- a part between others
+pub middle-room : {old : List ℕ} {at : ℕ} {x m : List ℕ} {mid : ℕ} → Puts old at x m mid → (new y z : List ℕ) → new ≡ x ++ (y ++ z) → Room (length old) at new → Room (length m) mid y
+middle-room {old} {at} {x} {m} {mid} p new y z e r = room-before (length m) mid y z (second-room new x (y ++ z) e old at p r)
 
 -- A loop over n parts: `rest i` is what part i and those behind it give.
 pub record Each (rest : ℕ → List ℕ) (n : ℕ) (old : List ℕ) (at : ℕ) (now : List ℕ) (here i : ℕ) : Type 0 where

@@ -1,21 +1,20 @@
 -- A program need not hold the whole of its files: the first 1,025 bytes of a pattern's text and the first 3,602 bytes of a tape
 -- give the listing of the whole. A text that has 64 good lines has them in 64 × 16 bytes, since a good line has at most 14 bytes.
-use mathlib.Core.Path.{_≡_, refl, sym, ap, ap₂, subst, _∙_}
+use mathlib.Core.Path.{_≡_, refl, sym, ap, ap₂, _∙_}
 use mathlib.Core.Bool.{Bool, true, false, not, cond}
 use mathlib.Core.List.{List, [], _∷_}
-use mathlib.Core.Option.{Option, none, some}
+use mathlib.Core.Option.{none}
 use Prim.Native.Nat.{ℕ, zero, suc, _+_, _*_, _-_, _≤_, _<_}
 use native.Mathlib.Omega.{arith}
 use borrow.Author.Tests.{lt-ltb, le-ltb, ltb-true, ltb-false, eqb-true, eqb-false}
 use lib.Dec.{eqb, ltb}
 use lib.ListN.{length, take, drop, length-take}
-use lib.Seq.{take-nil, drop-nil, take-all, length-take-le}
-use Rattle.syntax.specs.declared.Line.{Line}
+use lib.Seq.{take-nil, take-all, length-take-le}
 use Rattle.syntax.specs.declared.Pattern.{Pattern}
 use Rattle.syntax.specs.declared.Refusal.the-variants.{Tree as Tree-fault, TapeTooLong}
 use Rattle.syntax.specs.Refusals.{refused}
 use Rattle.syntax.specs.Table.{obeys}
-use Rattle.syntax.specs.Text.{Row, byte-front, rows, place, single, account, line-of, row-line, Forms, fault, line-front, forms}
+use Rattle.syntax.specs.Text.{Row, byte-front, rows, place, single, account, line-of, row-line, fault, line-front, forms}
 use Rattle.syntax.specs.Load.{forms-answer, forms-table, load-answer, load-table}
 use Rattle.syntax.specs.Scans.{first-fields, first-closed, first-size, parts-say, account-says}
 use Rattle.syntax.specs.Scanning.{line-no-place, line-no-long, line-no-kind, line-short, line-alone, line-account, account-no-long, parts-no-long, parts-no-second, parts-no-more}

@@ -2,7 +2,7 @@
 ghost use mathlib.Core.Path.{_≡_};
 ghost use Prim.Native.Nat.{suc, _+_, _*_, _≤_};
 ghost use lib.ListN.{length};
-ghost use Rattle.listing.specs.Listing.{line, tape-line, account-line, account-lines, open-lines, refused-line};
+ghost use Rattle.listing.specs.Listing.{entry, line, tape-line, account-line, account-lines, open-lines, refused-line};
 ghost use Rattle.listing.specs.Putting.{Puts, Room};
 ghost use Rattle.syntax.specs.Refusals.{refused};
 use crate::put::put_byte;
@@ -15,13 +15,21 @@ use bits::open_nodes;
 use syntax::Refusal;
 
 // A word and two numbers.
+fn put_entry(out: &mut [u8], at: usize, word: &[u8], a: u32, b: u32) -> usize
+    requires { ⌜ Room (length (now out)) at (entry (now word) a b) ⌝ }
+    ensures { λ r. ⌜ Puts (now (out .entry)) at (entry (now (word .entry)) a b) (now (out .exit)) r ⌝ }
+{
+    let first = put_bytes(out, at, word);
+    let second = put_field(out, first, a);
+    put_field(out, second, b)
+}
+
+// The same as a line.
 fn put_line(out: &mut [u8], at: usize, word: &[u8], a: u32, b: u32) -> usize
     requires { ⌜ Room (length (now out)) at (line (now word) a b) ⌝ }
     ensures { λ r. ⌜ Puts (now (out .entry)) at (line (now (word .entry)) a b) (now (out .exit)) r ⌝ }
 {
-    let first = put_bytes(out, at, word);
-    let second = put_field(out, first, a);
-    let end = put_field(out, second, b);
+    let end = put_entry(out, at, word, a, b);
     put_byte(out, end, b'\n')
 }
 
@@ -30,11 +38,9 @@ pub fn put_tape(out: &mut [u8], at: usize, letters: u32, bits: u32, code: &[u8])
     requires { ⌜ at + (28 + 2 * length (now code)) ≤ length (now out) ⌝ }
     ensures { λ r. ⌜ Puts (now (out .entry)) at (tape-line letters bits (now (code .entry))) (now (out .exit)) r ⌝ }
 {
-    let first = put_bytes(out, at, b"tape");
-    let second = put_field(out, first, letters);
-    let third = put_field(out, second, bits);
-    let fourth = put_byte(out, third, b'\t');
-    let end = put_hex(out, fourth, code);
+    let first = put_entry(out, at, b"tape", letters, bits);
+    let second = put_byte(out, first, b'\t');
+    let end = put_hex(out, second, code);
     put_byte(out, end, b'\n')
 }
 

@@ -1,7 +1,11 @@
 -- `listing::put::put_decimal` meets its contract. The number falls with each call.
 use mathlib.Core.Path.{refl}
+use mathlib.Core.List.{[], _∷_}
+use Prim.Native.Nat.{_+_, _/_, _%_}
 use native.Mathlib.Omega.{arith}
-use Rattle.listing.specs.Lines.{decimal-room-small, decimal-room-front, decimal-room-last, decimal-done-small, decimal-done-large}
+use Rattle.listing.specs.Listing.{decimal}
+use Rattle.listing.specs.Putting.{first-room, second-room, both-done}
+use Rattle.listing.specs.Lines.{digit-room, digit-done, last-large}
 use borrow.Author.Needs.{needs}
 use Prim.Native.Nat.{ℕ, _<_}
 use borrow.Fn.Kinds.{In}
@@ -35,25 +39,25 @@ put-decimal-add-last : (t : ℕ) → put-decimal-lts.Need-add-last (given t) (pu
 put-decimal-add-last t c = search needs
 
 put-decimal-put-byte-requires : (t : ℕ) → put-decimal-lts.Need-put-byte-requires (given t) (put-decimal-at t) put-decimal.Post
-put-decimal-put-byte-requires t c κs = decimal-room-small _ _ (c .before .before .before .args .n) _ refl (c .before .before .before .pre .1) (c .before .if1 .taken)
+put-decimal-put-byte-requires t c κs = digit-room (c .before .before .before .args .n) _ refl (c .before .if1 .taken) (c .before .before .before .args .out .now) _ (c .before .before .before .pre .1)
 
 put-decimal-same-length : (t : ℕ) → put-decimal-lts.Need-same-length (given t) (put-decimal-at t) put-decimal.Post
 put-decimal-same-length t c = search needs
 
 put-decimal-returns : (t : ℕ) → put-decimal-lts.Need-returns (given t) (put-decimal-at t) put-decimal.Post
-put-decimal-returns t c = decimal-done-small (c .before .before .before .before .before .before .args .n) _ refl _ _ _ _ (c .before .before .before .before .if1 .taken) (c .before .before .put-byte .ensures)
+put-decimal-returns t c = digit-done (c .before .before .before .before .before .before .args .n) _ refl (c .before .before .before .before .if1 .taken) _ _ _ _ (c .before .before .put-byte .ensures)
 
 put-decimal-put-decimal-requires : (t : ℕ) → put-decimal-lts.Need-put-decimal-requires (given t) (put-decimal-at t) put-decimal.Post
-put-decimal-put-decimal-requires t c κs = (omega (arith, (c .before .before .before .pre) .0, c .before .if1 .left), decimal-room-front _ _ (c .before .before .before .args .n) _ refl (c .before .before .before .pre .1) (c .before .if1 .left))
+put-decimal-put-decimal-requires t c κs = (omega (arith, c .before .before .before .pre .0, c .before .if1 .left), first-room (decimal (c .before .before .before .args .n)) (decimal ((c .before .before .before .args .n) / 10)) ((48 + c .before .before .before .args .n % 10) ∷ []) (last-large (c .before .before .before .args .n) (48 + c .before .before .before .args .n % 10) refl (c .before .if1 .left)) (c .before .before .before .args .out .now) (c .before .before .before .args .at) (c .before .before .before .pre .1))
 
 put-decimal-put-byte-requires-2 : (t : ℕ) → put-decimal-lts.Need-put-byte-requires-2 (given t) (put-decimal-at t) put-decimal.Post
-put-decimal-put-byte-requires-2 t c κs = decimal-room-last (c .before .before .before .before .before .before .before .args .n) _ refl _ _ (c .before .before .before .before .before .if1 .left) _ _ (c .before .before .before .put-decimal .ensures) (c .before .before .before .before .before .before .before .pre .1)
+put-decimal-put-byte-requires-2 t c κs = second-room (decimal (c .before .before .before .before .before .before .before .args .n)) (decimal ((c .before .before .before .before .before .before .before .args .n) / 10)) ((48 + c .before .before .before .before .before .before .before .args .n % 10) ∷ []) (last-large (c .before .before .before .before .before .before .before .args .n) (48 + c .before .before .before .before .before .before .before .args .n % 10) refl (c .before .before .before .before .before .if1 .left)) (c .before .before .before .before .before .before .before .args .out .now) (c .before .before .before .before .before .before .before .args .at) (c .before .before .before .put-decimal .ensures) (c .before .before .before .before .before .before .before .pre .1)
 
 put-decimal-same-length-2 : (t : ℕ) → put-decimal-lts.Need-same-length-2 (given t) (put-decimal-at t) put-decimal.Post
 put-decimal-same-length-2 t c = search needs
 
 put-decimal-returns-2 : (t : ℕ) → put-decimal-lts.Need-returns-2 (given t) (put-decimal-at t) put-decimal.Post
-put-decimal-returns-2 t c = decimal-done-large (c .before .before .before .before .before .before .before .before .before .before .args .n) _ refl _ _ (c .before .before .before .before .before .before .before .before .if1 .left) _ _ (c .before .before .before .before .before .before .put-decimal .ensures) _ _ (c .before .before .put-byte2 .ensures)
+put-decimal-returns-2 t c = both-done (decimal (c .before .before .before .before .before .before .before .before .before .before .args .n)) (decimal ((c .before .before .before .before .before .before .before .before .before .before .args .n) / 10)) ((48 + c .before .before .before .before .before .before .before .before .before .before .args .n % 10) ∷ []) (last-large (c .before .before .before .before .before .before .before .before .before .before .args .n) (48 + c .before .before .before .before .before .before .before .before .before .before .args .n % 10) refl (c .before .before .before .before .before .before .before .before .if1 .left)) (c .before .before .before .before .before .before .before .before .before .before .args .out .now) (c .before .before .before .before .before .before .before .before .before .before .args .at) (c .before .before .before .before .before .before .put-decimal .ensures) (c .before .before .put-byte2 .ensures)
 
 pub +put-decimal-spec : {M : Type 1} → statement M
 +put-decimal-spec = close μ-put-decimal λ t. put-decimal-lts.spec (given t)
