@@ -1,8 +1,8 @@
 -- Laws of decimal digits: as code makes them, and how many there are.
 use mathlib.Core.Path.{_≡_, refl, sym, ap, _∙_}
 use mathlib.Core.Bool.{Bool, true, false}
-use mathlib.Core.List.{[], _∷_, _++_}
-use Prim.Native.Nat.{ℕ, zero, suc, _+_, _*_, _/_, _%_, _^_, _≤_, _<_}
+use mathlib.Core.List.{List, [], _∷_, _++_}
+use Prim.Native.Nat.{ℕ, zero, suc, _+_, _*_, _-_, _/_, _%_, _^_, _≤_, _<_}
 use native.Mathlib.Omega.{arith}
 use borrow.Author.Tests.{lt-ltb, le-ltb, ltb-true, ltb-false}
 use lib.Dec.{ltb}
@@ -49,3 +49,27 @@ decimal-few (suc k) n h = go (ltb n 10) refl (decimal-few k (n / 10) (omega arit
 -- the numbers of 32 bits
 pub decimal-ten : (n : ℕ) → n < 4294967296 → length (decimal n) ≤ 10
 decimal-ten n h = decimal-few 9 n (omega arith)
+
+-- ── the digits write the number ──
+abbrev pub number-from : (so-far : ℕ) → List ℕ → ℕ
+number-from k [] = k
+number-from k (d ∷ ds) = number-from (10 * k + (d - 48)) ds
+
+number-last : (k : ℕ) (ds : List ℕ) (d : ℕ) → number-from k (ds ++ (d ∷ [])) ≡ 10 * number-from k ds + (d - 48)
+number-last k [] d = refl
+number-last k (e ∷ ds) d = number-last (10 * k + (e - 48)) ds d
+
+digits-write : (k n : ℕ) → n < k → number-from 0 (digits k n) ≡ n
+digits-write zero n h = absurd (omega arith)
+digits-write (suc k) n h = go (ltb n 10) refl (λ l. digits-write k (n / 10) (omega arith))
+  where
+    go : (b : Bool) → ltb n 10 ≡ b → (10 ≤ n → number-from 0 (digits k (n / 10)) ≡ n / 10) → number-from 0 (digits (suc k) n) ≡ n
+    go true e ih = rw (digits-small k n (ltb-true n 10 e)) (omega arith)
+    go false e ih =
+        let l : 10 ≤ n = ltb-false n 10 e in
+        let i : number-from 0 (digits k (n / 10)) ≡ n / 10 = ih l in
+        rw (digits-large k n l, number-last 0 (digits k (n / 10)) (48 + n % 10)) (omega arith)
+
+pub decimal-writes : (n : ℕ) → number-from 0 (decimal n) ≡ n
+unfolding decimal
+decimal-writes n = digits-write (suc n) n (omega arith)

@@ -27,7 +27,7 @@ unfoldable pub digits : (places n : ℕ) → List ℕ
 digits zero n = []
 digits (suc k) n = cond (ltb n 10) ((48 + n) ∷ []) (digits k (n / 10) ++ ((48 + n % 10) ∷ []))
 
--- a number needs fewer places than it counts
+-- a number needs at most as many places as it counts, and one; `decimal-writes` reads them back
 unfoldable pub decimal : (n : ℕ) → List ℕ
 decimal n = digits (suc n) n
 
