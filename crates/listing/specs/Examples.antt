@@ -1,0 +1,45 @@
+-- 01's whole listing: the definition computes it.
+use mathlib.Core.Path.{_≡_, refl}
+use mathlib.Core.List.{List, [], _∷_}
+use Prim.Native.Nat.{ℕ}
+use Rattle.syntax.specs.Letter.{is-letter, in-range}
+use Rattle.syntax.specs.Text.{rows, digit, one-digit, two-digits, place, single, account, node-of-none, node-of-one, range-of, parts-of, node-of-two, node-of, line-of, row-line, forms}
+use Rattle.syntax.specs.Table.{no-lines, line-good, wrongly-names, unnamed, tree-fault, obeys}
+use Rattle.syntax.specs.Load.{table, load-answer, load-table}
+use Rattle.syntax.specs.Trees.{tree-of, root}
+use Rattle.semantics.specs.Sweeps.{readable, greedy}
+use Rattle.semantics.specs.Accounts.{accounts, litres, total, totals}
+use Rattle.semantics.specs.Decode.{value-of}
+use Rattle.states.specs.StateSets.{state-set}
+use Rattle.states.specs.Nodes.{node-word}
+use Rattle.bits.specs.Bits.{pack, word-of, count-below}
+use Rattle.parser.specs.Parse.{first-bad, early}
+use Rattle.listing.specs.Listing.{digits, decimal, hex-digit, hex-byte, hex, field, entry, line, tape-line, account-line, account-lines, open-lines, refused-line, listing, read-listing, early-cause, pattern-listing, closed, tape-of, listing-of}
+
+-- the pattern's text, line by line
+abbrev pub worked-text : List ℕ
+worked-text =
+    48 ∷ 9 ∷ 82 ∷ 9 ∷ 45 ∷ 9 ∷ 48 ∷ 9 ∷ 57 ∷ 10 ∷
+    49 ∷ 9 ∷ 76 ∷ 9 ∷ 45 ∷ 9 ∷ 87 ∷ 10 ∷
+    50 ∷ 9 ∷ 83 ∷ 9 ∷ 57 ∷ 9 ∷ 49 ∷ 9 ∷ 48 ∷ 10 ∷
+    51 ∷ 9 ∷ 82 ∷ 9 ∷ 49 ∷ 9 ∷ 48 ∷ 9 ∷ 57 ∷ 10 ∷
+    52 ∷ 9 ∷ 65 ∷ 9 ∷ 45 ∷ 9 ∷ 50 ∷ 9 ∷ 51 ∷ 10 ∷
+    53 ∷ 9 ∷ 75 ∷ 9 ∷ 45 ∷ 9 ∷ 52 ∷ 10 ∷ []
+
+-- `3W2` and byte 10
+abbrev pub worked-tape : List ℕ
+worked-tape = 51 ∷ 87 ∷ 50 ∷ 10 ∷ []
+
+abbrev pub worked-listing : List ℕ
+worked-listing =
+    116 ∷ 97 ∷ 112 ∷ 101 ∷ 9 ∷ 51 ∷ 9 ∷ 50 ∷ 49 ∷ 9 ∷ 52 ∷ 99 ∷ 99 ∷ 51 ∷ 50 ∷ 56 ∷ 10 ∷
+    97 ∷ 99 ∷ 99 ∷ 111 ∷ 117 ∷ 110 ∷ 116 ∷ 9 ∷ 49 ∷ 9 ∷ 51 ∷ 10 ∷
+    97 ∷ 99 ∷ 99 ∷ 111 ∷ 117 ∷ 110 ∷ 116 ∷ 9 ∷ 57 ∷ 9 ∷ 50 ∷ 10 ∷
+    111 ∷ 112 ∷ 101 ∷ 110 ∷ 9 ∷ 48 ∷ 9 ∷ 52 ∷ 10 ∷
+    111 ∷ 112 ∷ 101 ∷ 110 ∷ 9 ∷ 49 ∷ 9 ∷ 52 ∷ 10 ∷
+    111 ∷ 112 ∷ 101 ∷ 110 ∷ 9 ∷ 50 ∷ 9 ∷ 52 ∷ 10 ∷
+    111 ∷ 112 ∷ 101 ∷ 110 ∷ 9 ∷ 51 ∷ 9 ∷ 49 ∷ 10 ∷ []
+
+pub worked : listing-of worked-text worked-tape ≡ worked-listing
+unfolding is-letter in-range rows digit one-digit two-digits place single account node-of-none node-of-one range-of parts-of node-of-two node-of line-of row-line forms no-lines line-good wrongly-names unnamed tree-fault obeys table load-answer load-table tree-of root readable greedy accounts litres total totals value-of state-set node-word pack word-of count-below first-bad early digits decimal hex-digit hex-byte hex field entry line tape-line account-line account-lines open-lines refused-line listing read-listing early-cause pattern-listing closed tape-of listing-of
+worked = refl

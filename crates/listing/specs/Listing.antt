@@ -1,0 +1,133 @@
+-- WHAT MUST BE BELIEVED: the bytes of a whole listing. Definitions only.
+use mathlib.Core.Path.{_≡_}
+use mathlib.Core.Bool.{Bool, cond}
+use mathlib.Core.List.{List, [], _∷_, _++_}
+use Prim.Native.Nat.{ℕ, zero, suc, _+_, _*_, _-_, _/_, _%_, _≤_, _<_}
+use lib.Dec.{eqb, ltb}
+use lib.ListN.{length, take, getD}
+use Rattle.syntax.specs.declared.Pattern.{Pattern}
+use Rattle.syntax.specs.declared.Refusal.the-variants.{Unreadable}
+use Rattle.syntax.specs.Refusals.{Answer, refused}
+use Rattle.syntax.specs.Load.{load-answer, load-table}
+use Rattle.syntax.specs.Trees.{root}
+use Rattle.bits.specs.Bits.{test-bit, count-below, pack, in-front}
+use Rattle.semantics.specs.Accounts.{totals}
+use Rattle.semantics.specs.Decode.{value-of}
+use Rattle.semantics.specs.Sweeps.{readable, greedy}
+use Rattle.states.specs.StateSets.{words}
+use Rattle.codes.specs.Totals.{entries-by}
+use Rattle.parser.specs.Parse.{early}
+use Rattle.listing.specs.declared.Listed.{Listed}
+use Rattle.listing.specs.declared.Listed.the-variants.{Bytes, TooShort}
+
+-- ---- numbers and words as bytes
+
+-- a number's decimal digits, the highest first, none leading but for 0 itself; at most so many places
+unfoldable pub digits : (places n : ℕ) → List ℕ
+digits zero n = []
+digits (suc k) n = cond (ltb n 10) ((48 + n) ∷ []) (digits k (n / 10) ++ ((48 + n % 10) ∷ []))
+
+-- a number needs at most as many places as it counts, and one; `decimal-writes` reads them back
+unfoldable pub decimal : (n : ℕ) → List ℕ
+decimal n = digits (suc n) n
+
+-- 01: "code in hexadecimal": digits 0 to 9 and a to f
+unfoldable pub hex-digit : ℕ → ℕ
+hex-digit d = cond (ltb d 10) (48 + d) (87 + d)
+
+unfoldable pub hex-byte : ℕ → List ℕ
+hex-byte b = hex-digit (b / 16) ∷ hex-digit (b % 16) ∷ []
+
+unfoldable pub hex : List ℕ → List ℕ
+hex [] = []
+hex (b ∷ bs) = hex-byte b ++ hex bs
+
+-- the words that begin lines: `tape`, `account`, `open`, `refused`
+abbrev pub tape-word : List ℕ
+tape-word = 116 ∷ 97 ∷ 112 ∷ 101 ∷ []
+
+abbrev pub account-word : List ℕ
+account-word = 97 ∷ 99 ∷ 99 ∷ 111 ∷ 117 ∷ 110 ∷ 116 ∷ []
+
+abbrev pub open-word : List ℕ
+open-word = 111 ∷ 112 ∷ 101 ∷ 110 ∷ []
+
+abbrev pub refused-word : List ℕ
+refused-word = 114 ∷ 101 ∷ 102 ∷ 117 ∷ 115 ∷ 101 ∷ 100 ∷ []
+
+-- ---- lines: "tab-parted", each ended by byte 10
+
+-- a tab and a number
+unfoldable pub field : (n : ℕ) → List ℕ
+field n = (9 ∷ []) ++ decimal n
+
+-- a word and two numbers
+unfoldable pub entry : (word : List ℕ) → (a b : ℕ) → List ℕ
+entry word a b = word ++ (field a ++ field b)
+
+unfoldable pub line : (word : List ℕ) → (a b : ℕ) → List ℕ
+line word a b = entry word a b ++ (10 ∷ [])
+
+-- 01: "First line: letters, bits, code in hexadecimal (an empty field for a code of 0 bits)."
+unfoldable pub tape-line : (letters bits : ℕ) → (code : List ℕ) → List ℕ
+tape-line n m code = entry tape-word n m ++ ((9 ∷ []) ++ (hex code ++ (10 ∷ [])))
+
+-- a line for one account, none for 0 litres
+unfoldable pub account-line : (account litres : ℕ) → List ℕ
+account-line a n = cond (eqb n 0) [] (line account-word a n)
+
+-- 01: "Then each account with litres above 0, rising": the totals of the accounts from this one on
+unfoldable pub account-lines : (account : ℕ) → (totals : List ℕ) → List ℕ
+account-lines a [] = []
+account-lines a (n ∷ ns) = account-line a n ++ account-lines (suc a) ns
+
+-- 01: "then each position with the count of ones in its flag 1 word": so many positions from this one on
+unfoldable pub open-lines : (words : List ℕ) → (position count : ℕ) → List ℕ
+open-lines ws i zero = []
+open-lines ws i (suc n) = line open-word i (count-below 64 (test-bit (getD ws (2 * i + 1) 0))) ++ open-lines ws (suc i) n
+
+-- 01: "A refusal prints `refused`, number and returned number, tab-parted, and no more."
+unfoldable pub refused-line : Answer → List ℕ
+refused-line a = line refused-word (a .number) (a .value)
+
+-- ---- the listing
+
+-- of a tape that is read: the bits are its code
+unfoldable pub listing : Pattern → (tape : List ℕ) → (bits : List Bool) → List ℕ
+listing p tape bits =
+    tape-line (length tape) (length bits) (pack 8 bits)
+    ++ (account-lines 0 (totals (entries-by (root p) (value-of (root p) bits)))
+    ++ open-lines (words p tape) 0 (suc (length tape)))
+
+-- a table and a tape that nothing before the sweeps refuses: the code of the greedy value, or 5 where there is no value
+unfoldable pub read-listing : Pattern → (tape : List ℕ) → List ℕ
+read-listing p tape = cond (readable (root p) tape) (listing p tape (greedy (root p) tape)) (refused-line (refused Unreadable))
+
+-- reading's causes before the sweeps; the mark words suffice
+unfoldable pub early-cause : Pattern → (tape : List ℕ) → Answer
+early-cause p tape = early p tape (2 * (length tape + 1))
+
+unfoldable pub pattern-listing : Pattern → (tape : List ℕ) → List ℕ
+pattern-listing p tape = cond (eqb (early-cause p tape .number) 0) (read-listing p tape) (refused-line (early-cause p tape))
+
+-- 01: "from the tape one closing byte 10 is dropped"
+unfoldable pub closed : (file : List ℕ) → Bool
+closed file = eqb (getD file (length file - 1) 0) 10
+
+unfoldable pub tape-of : (file : List ℕ) → List ℕ
+tape-of file = cond (closed file) (take (length file - 1) file) file
+
+-- THE LISTING of every pattern text and tape file. The pattern is judged first.
+unfoldable pub listing-of : (text file : List ℕ) → List ℕ
+listing-of text file = cond (eqb (load-answer text .number) 0) (pattern-listing (load-table text) (tape-of file)) (refused-line (load-answer text))
+
+-- ---- the service
+
+-- bytes that hold every listing
+abbrev pub room : ℕ
+room = 262144
+
+-- THE PROMISE of listing, for every text, tape and lent buffer: the listing in front and its length, or a buffer that is too short as it was
+pub record Lists (text file out out-now : List ℕ) (r : Listed) : Type 0 where
+  pub fits : room ≤ length out → (r ≡ Bytes (length (listing-of text file))) × (out-now ≡ in-front (listing-of text file) out)
+  pub short : length out < room → (r ≡ TooShort) × (out-now ≡ out)

@@ -1,0 +1,282 @@
+-- Laws of the listing: one for each way of the code.
+use mathlib.Core.Path.{_≡_, refl, sym, ap, ap₂, subst, _∙_}
+use mathlib.Core.Bool.{Bool, true, false, not, cond, false≢true}
+use mathlib.Core.List.{List, [], _∷_, _++_}
+use Prim.Native.Nat.{ℕ, zero, suc, _+_, _*_, _-_, _≤_, _<_}
+use native.Mathlib.Omega.{arith}
+use borrow.Author.Tests.{le-ltb, ltb-false, le-leb, eq-eqb, ne-eqb}
+use lib.Dec.{ltb, leb, eqb}
+use lib.ListN.{length, take, drop, getD, length-append, length-drop, List·getD-append}
+use lib.Seq.{take-at, take-length}
+use Rattle.syntax.specs.declared.Pattern.{Pattern}
+use Rattle.syntax.specs.declared.Loaded.{Loaded}
+use Rattle.syntax.specs.declared.Outcome.the-variants.{Lines, Refused as Not-loaded}
+use Rattle.syntax.specs.declared.Refusal.{Refusal}
+use Rattle.syntax.specs.declared.Refusal.the-variants.{LineForm, Tree as Tree-fault, TapeTooLong, TapeByte, Unreadable, WordsTooShort, CodeTooShort, NotACode, TapeTooShort, NoSuchVisit}
+use Rattle.syntax.specs.Refusals.{answer, refused, number}
+use Rattle.syntax.specs.Table.{obeys}
+use Rattle.syntax.specs.Trees.{root}
+use Rattle.syntax.specs.Load.{outcome-answer, load-answer, Loads}
+use Rattle.bits.specs.Bits.{cell-count, pack, in-front}
+use Rattle.bits.specs.Packing.{length-pack}
+use Rattle.bits.specs.Handed.{held-pack}
+use Rattle.semantics.specs.Code.{Canonical}
+use Rattle.semantics.specs.Accounts.{totals}
+use Rattle.semantics.specs.Decode.{value-of}
+use Rattle.semantics.specs.Sweeps.{readable, greedy}
+use Rattle.semantics.specs.GreedyLaws.{greedy-canonical, readable-iff}
+use Rattle.states.specs.StateSets.{words}
+use Rattle.states.specs.Meaning.{words-length}
+use Rattle.codes.specs.declared.Totalled.{Totalled}
+use Rattle.codes.specs.Totals.{entries-by, entries-of, totals-answer, totals-litres, Totals}
+use Rattle.canonical.specs.RoundTrip.{canonical-whole, canonical-spells}
+use Rattle.parser.specs.declared.Parsed.{Parsed}
+use Rattle.parser.specs.declared.Parsed.the-variants.{Bits, Refused}
+use Rattle.parser.specs.Parse.{parsed-answer, first-bad, early, Reads-greedily, Parses-by, Parses}
+use Rattle.parser.specs.ParseLaws.{greedy-few}
+use Rattle.listing.specs.declared.Listed.{Listed}
+use Rattle.listing.specs.declared.Listed.the-variants.{Bytes, TooShort}
+use Rattle.listing.specs.Listing.{line, tape-line, account-lines, open-lines, refused-line, listing, read-listing, early-cause, pattern-listing, closed, tape-of, listing-of, room, Lists}
+use Rattle.listing.specs.Putting.{Puts, puts-both, puts-front}
+use Rattle.listing.specs.Bounds.{tape-length, open-length}
+
+-- ── a tape that has been read: its words, its code and the bit count ──
+pub record Read (p : Pattern) (tape ws code : List ℕ) (count : ℕ) : Type 0 where
+  pub good : obeys p ≡ true
+  pub few : length tape ≤ 3600
+  pub reads : readable (root p) tape ≡ true
+  pub filled : (i : ℕ) → i ≤ length tape → getD ws (2 * i + 1) 0 ≡ getD (words p tape) (2 * i + 1) 0
+  pub long : 2 * (length tape + 1) ≤ length ws
+  pub coded : code ≡ pack 8 (greedy (root p) tape)
+  pub counted : count ≡ length (greedy (root p) tape)
+
+same-open : (us vs : List ℕ) (i n : ℕ) → ((j : ℕ) → j < i + n → getD us (2 * j + 1) 0 ≡ getD vs (2 * j + 1) 0) → open-lines us i n ≡ open-lines vs i n
+unfolding open-lines
+same-open us vs i zero h = refl
+same-open us vs i (suc n) h = rw (h i (omega arith), same-open us vs (suc i) n (λ j l. h j (omega arith)))
+
+module _ (p : Pattern) (tape ws code : List ℕ) (count : ℕ) (h : Read p tape ws code count) where
+  is-canonical : Canonical (root p) tape (greedy (root p) tape)
+  is-canonical = greedy-canonical (root p) tape (h .reads)
+
+  pub code-short : length code ≤ 65536
+  code-short = omega (arith, greedy-few p (h .good) tape (h .few) (h .reads), ap length (h .coded), length-pack 8 (greedy (root p) tape))
+
+  own-litres : totals-litres p (pack 8 (greedy (root p) tape)) (length (greedy (root p) tape)) ≡ totals (entries-by (root p) (value-of (root p) (greedy (root p) tape)))
+  unfolding totals-litres totals-answer entries-of
+  own-litres = rw (h .good, canonical-whole p (h .good) tape (h .few) (greedy (root p) tape) is-canonical, canonical-spells p (h .good) tape (h .few) (greedy (root p) tape) is-canonical, le-leb (length tape) 3600 (h .few), held-pack 8 (omega arith) (greedy (root p) tape))
+
+  pub litres-are : (r : Totalled) → Totals p code count r → r .litres ≡ totals (entries-by (root p) (value-of (root p) (greedy (root p) tape)))
+  litres-are r t = t .gives ∙ ap₂ (totals-litres p) (h .coded) (h .counted) ∙ own-litres
+
+  pub litres-ten : (r : Totalled) → Totals p code count r → length (r .litres) ≤ 10
+  unfolding totals
+  litres-ten r t = omega (arith, ap length (litres-are r t))
+
+  pub tape-end : (n : ℕ) → n ≡ length tape → count < 4294967296 → (old now : List ℕ) (end : ℕ) → Puts old 0 (tape-line n count code) now end → end ≤ 131100
+  tape-end n e c old now end q = omega (arith, q .ends, tape-length n count code (let f = h .few in omega arith) c, code-short)
+
+  pub open-end : (old now : List ℕ) (at end : ℕ) → at ≤ 131400 → Puts old at (open-lines ws 0 (suc (length tape))) now end → end ≤ room
+  open-end old now at end l q = omega (arith, q .ends, open-length ws 0 (suc (length tape)) (let f = h .few in omega arith), h .few)
+
+  listing-is : (n : ℕ) → n ≡ length tape → (ns : List ℕ) → ns ≡ totals (entries-by (root p) (value-of (root p) (greedy (root p) tape)))
+      → tape-line n count code ++ (account-lines 0 ns ++ open-lines ws 0 (suc n)) ≡ listing p tape (greedy (root p) tape)
+  unfolding listing
+  listing-is n e ns f = rw (e, h .coded, h .counted, f, same-open ws (words p tape) 0 (suc (length tape)) (λ j l. h .filled j (omega arith)))
+
+  pub listed : (n : ℕ) → n ≡ length tape → (r : Totalled) → Totals p code count r → (old m₁ m₂ now : List ℕ) (e₁ e₂ end : ℕ)
+      → Puts old 0 (tape-line n count code) m₁ e₁ → Puts m₁ e₁ (account-lines 0 (r .litres)) m₂ e₂ → Puts m₂ e₂ (open-lines ws 0 (suc n)) now end
+      → Puts old 0 (listing p tape (greedy (root p) tape)) now end
+  listed n e r t old m₁ m₂ now e₁ e₂ end a b c = subst (λ x. Puts old 0 x now end) (listing-is n e (r .litres) (litres-are r t)) (puts-both a (puts-both b c))
+
+-- ── what reading answers ──
+positive : (r : Refusal) → 1 ≤ number r
+positive (LineForm l) = omega arith
+positive (Tree-fault l) = omega arith
+positive TapeTooLong = omega arith
+positive (TapeByte i) = omega arith
+positive Unreadable = omega arith
+positive (WordsTooShort n) = omega arith
+positive (CodeTooShort n) = omega arith
+positive NotACode = omega arith
+positive (TapeTooShort n) = omega arith
+positive NoSuchVisit = omega arith
+
+-- nothing before the sweeps refuses
+pub record Passed (p : Pattern) (tape : List ℕ) (n : ℕ) : Type 0 where
+  pub good : obeys p ≡ true
+  pub few : length tape ≤ 3600
+  pub room : 2 * (length tape + 1) ≤ n
+
+passed : (p : Pattern) (tape : List ℕ) (n : ℕ) → early p tape n .number ≡ 0 → Passed p tape n
+unfolding early
+passed p tape n h = go (obeys p) refl (ltb 3600 (length tape)) refl (ltb (first-bad tape) (length tape)) (ltb n (2 * (length tape + 1))) refl h
+  where
+    go : (o : Bool) → obeys p ≡ o → (f : Bool) → ltb 3600 (length tape) ≡ f → (b : Bool) → (w : Bool) → ltb n (2 * (length tape + 1)) ≡ w
+        → cond (not o) (refused (Tree-fault 0)) (cond f (refused TapeTooLong) (cond b (refused (TapeByte (first-bad tape))) (cond w (refused (WordsTooShort (2 * (length tape + 1)))) (answer 0 0)))) .number ≡ 0
+        → Passed p tape n
+    go true eo false ef false false ew h = record { good = eo; few = ltb-false 3600 (length tape) ef; room = ltb-false n (2 * (length tape + 1)) ew }
+    go true eo false ef false true ew h = absurd (omega arith)
+    go true eo false ef true w ew h = absurd (omega arith)
+    go true eo true ef b w ew h = absurd (omega arith)
+    go false eo f ef b w ew h = absurd (omega arith)
+
+-- 7,202 words suffice for every tape that is not too long
+early-same : (p : Pattern) (tape : List ℕ) → early p tape 7202 ≡ early-cause p tape
+unfolding early-cause early
+early-same p tape = go (ltb 3600 (length tape)) refl
+  where
+    go : (f : Bool) → ltb 3600 (length tape) ≡ f → early p tape 7202 ≡ early p tape (2 * (length tape + 1))
+    go true e = rw e
+    go false e =
+        let l : length tape ≤ 3600 = ltb-false 3600 (length tape) e in
+        rw (le-ltb 7202 (2 * (length tape + 1)) (omega arith), le-ltb (2 * (length tape + 1)) (2 * (length tape + 1)) (omega arith))
+
+refused-by : (p : Pattern) (tape : List ℕ) (n : ℕ) → early-cause p tape .number ≡ suc n → pattern-listing p tape ≡ refused-line (early-cause p tape)
+unfolding pattern-listing
+refused-by p tape n e = rw (ne-eqb (early-cause p tape .number) 0 (λ z. omega arith))
+
+read-by : (p : Pattern) (tape : List ℕ) → early-cause p tape .number ≡ 0 → pattern-listing p tape ≡ read-listing p tape
+unfolding pattern-listing
+read-by p tape e = rw (eq-eqb (early-cause p tape .number) 0 e)
+
+read-off : (p : Pattern) (tape : List ℕ) → readable (root p) tape ≡ false → read-listing p tape ≡ refused-line (refused Unreadable)
+unfolding read-listing
+read-off p tape e = rw e
+
+read-on : (p : Pattern) (tape : List ℕ) → readable (root p) tape ≡ true → read-listing p tape ≡ listing p tape (greedy (root p) tape)
+unfolding read-listing
+read-on p tape e = rw e
+
+front-is : (new old : List ℕ) (n : ℕ) → length new ≡ n → take n (in-front new old) ≡ new
+unfolding in-front
+front-is new old n e = take-at new (drop (length new) old) n e
+
+front-long : (new old : List ℕ) (n : ℕ) → length new ≡ n → n ≤ length (in-front new old)
+unfolding in-front
+front-long new old n e = simp length-append (omega arith)
+
+-- what a refusal, and what a bit count, is to be followed by
+pub record Got (p : Pattern) (tape us ys : List ℕ) (n : ℕ) : Type 0 where
+  pub read : Read p tape us (take (cell-count 8 n) ys) n
+  pub lists : listing p tape (greedy (root p) tape) ≡ pattern-listing p tape
+  pub fits : cell-count 8 n ≤ length ys
+
+abbrev Follows : Pattern → (tape us ys : List ℕ) → Parsed → Type 0
+Follows p tape us ys (Bits n) = Got p tape us ys n
+Follows p tape us ys (Refused why) = refused-line (refused why) ≡ pattern-listing p tape
+
+module _ (p : Pattern) (tape ws us xs ys : List ℕ) (lw : length ws ≡ 7202) (lx : length xs ≡ 65536) where
+  refused-early : (n : ℕ) → early-cause p tape .number ≡ suc n → (r : Parsed) → parsed-answer r ≡ early-cause p tape → Follows p tape us ys r
+  refused-early n e (Bits k) a = absurd (omega (arith, ap (λ x. x .number) a))
+  refused-early n e (Refused why) a = ap refused-line a ∙ sym (refused-by p tape n e)
+
+  module _ (z : early-cause p tape .number ≡ 0) (fill : us ≡ in-front (words p tape) ws) where
+    clear : Passed p tape 7202
+    clear = passed p tape 7202 (ap (λ x. x .number) (early-same p tape) ∙ z)
+
+    not-readable : readable (root p) tape ≡ false → (r : Parsed) → parsed-answer r ≡ refused Unreadable → Follows p tape us ys r
+    not-readable e (Bits k) a = absurd (omega (arith, ap (λ x. x .number) a))
+    not-readable e (Refused why) a = ap refused-line a ∙ sym (read-by p tape z ∙ read-off p tape e)
+
+    at : (i : ℕ) → i ≤ length tape → getD us (2 * i + 1) 0 ≡ getD (words p tape) (2 * i + 1) 0
+    unfolding in-front
+    at i l = ap (λ x. getD x (2 * i + 1) 0) fill ∙ List·getD-append (words p tape) (drop (length (words p tape)) ws) 0 (2 * i + 1) (omega (arith, words-length p tape))
+
+    words-long : length us ≡ length ws
+    unfolding in-front
+    words-long = ap length fill ∙ (let c = clear .room in simp (length-append, length-drop) (omega (arith, words-length p tape)))
+
+    is-readable : readable (root p) tape ≡ true → (r : Parsed) → (parsed-answer r ≡ answer 0 (length (greedy (root p) tape))) × (ys ≡ in-front (pack 8 (greedy (root p) tape)) xs) → Follows p tape us ys r
+    is-readable e (Refused why) g = absurd (omega (arith, positive why, ap (λ x. x .number) (g .0)))
+    is-readable e (Bits n) g =
+        let k : n ≡ length (greedy (root p) tape) = ap (λ x. x .value) (g .0) in
+        let s : length (pack 8 (greedy (root p) tape)) ≡ cell-count 8 n = length-pack 8 (greedy (root p) tape) ∙ ap (cell-count 8) (sym k) in
+        let f : cell-count 8 n ≤ 65536 = omega (arith, greedy-few p (clear .good) tape (clear .few) e) in
+        record {
+          read = record {
+            good = clear .good;
+            few = clear .few;
+            reads = e;
+            filled = at;
+            long = omega (arith, words-long, clear .room);
+            coded = ap (take (cell-count 8 n)) (g .1) ∙ front-is (pack 8 (greedy (root p) tape)) xs (cell-count 8 n) s;
+            counted = k;
+          };
+          lists = sym (read-by p tape z ∙ read-on p tape e);
+          fits = omega (arith, ap length (g .1), front-long (pack 8 (greedy (root p) tape)) xs (cell-count 8 n) s);
+        }
+
+    swept : (b : Bool) → readable (root p) tape ≡ b → (r : Parsed) → Reads-greedily (root p) tape xs ys (parsed-answer r) → Follows p tape us ys r
+    swept true e r g =
+        is-readable e r (g .fits (greedy (root p) tape) (greedy-canonical (root p) tape e) (omega (arith, greedy-few p (clear .good) tape (clear .few) e)))
+    swept false e r g = not-readable e r (g .unreadable (λ v q. false≢true (sym e ∙ readable-iff (root p) tape .1 (v, q))) .0)
+
+  follows : (r : Parsed) → Parses p tape ws us xs ys r → Follows p tape us ys r
+  unfolding Parses
+  follows r w = go (early-cause p tape .number) refl (subst (λ a. Parses-by (a .number) a p tape ws us xs ys (parsed-answer r)) (ap (early p tape) lw ∙ early-same p tape) w)
+    where
+      go : (n : ℕ) → early-cause p tape .number ≡ n → Parses-by n (early-cause p tape) p tape ws us xs ys (parsed-answer r) → Follows p tape us ys r
+      go zero e g = swept e (g .0) (readable (root p) tape) refl r (g .1)
+      go (suc n) e g = refused-early n e r (g .0)
+
+  pub parse-refused : (r : Parsed) (why : Refusal) → r ≡ Refused why → Parses p tape ws us xs ys r → refused-line (refused why) ≡ pattern-listing p tape
+  parse-refused r why e w = follows (Refused why) (subst (Parses p tape ws us xs ys) e w)
+
+  pub parse-bits : (r : Parsed) (n : ℕ) → r ≡ Bits n → Parses p tape ws us xs ys r → Got p tape us ys n
+  parse-bits r n e w = follows (Bits n) (subst (Parses p tape ws us xs ys) e w)
+
+-- ── one closing byte 10 is dropped ──
+pub record Letters (file : List ℕ) (n : ℕ) : Type 0 where
+  pub within : n ≤ length file
+  pub front : take n file ≡ tape-of file
+
+pub letters-none : (file : List ℕ) → length file ≡ 0 → Letters file 0
+unfolding tape-of closed
+letters-none [] e = record { within = omega arith; front = refl }
+letters-none (x ∷ file) e = absurd (omega arith)
+
+pub letters-closed : (file : List ℕ) → getD file (length file - 1) 0 ≡ 10 → Letters file (length file - 1)
+unfolding tape-of closed
+letters-closed file e = record { within = omega arith; front = rw (eq-eqb (getD file (length file - 1) 0) 10 e) }
+
+pub letters-open : (file : List ℕ) → (getD file (length file - 1) 0 ≡ 10 → ⊥) → Letters file (length file)
+unfolding tape-of closed
+letters-open file e = record { within = omega arith; front = rw (ne-eqb (getD file (length file - 1) 0) 10 e) (take-length file) }
+
+-- ── the pattern is judged first ──
+module _ (text file : List ℕ) (l : Loaded) (h : Loads text l) where
+  pub load-refused : (why : Refusal) → l .outcome ≡ Not-loaded why → refused-line (refused why) ≡ listing-of text file
+  unfolding listing-of
+  load-refused why e =
+      let a : refused why ≡ load-answer text = sym (ap outcome-answer e) ∙ h .answers in
+      let z : load-answer text .number ≡ 0 → ⊥ = λ q. omega (arith, positive why, ap (λ x. x .number) a) in
+      ap refused-line a ∙ sym (rw (ne-eqb (load-answer text .number) 0 z))
+
+  pub load-listed : (n k : ℕ) → l .outcome ≡ Lines n → Letters file k → pattern-listing (l .pattern) (take k file) ≡ listing-of text file
+  unfolding listing-of
+  load-listed n k e s =
+      let a : answer 0 n ≡ load-answer text = sym (ap outcome-answer e) ∙ h .answers in
+      let z : load-answer text .number ≡ 0 = sym (ap (λ x. x .number) a) in
+      ap₂ pattern-listing (h .gives) (s .front) ∙ sym (rw (eq-eqb (load-answer text .number) 0 z))
+
+-- ── the service ──
+pub list-short : (text file out : List ℕ) → length out < room → Lists text file out out TooShort
+list-short text file out l = record { fits = λ h. absurd (omega arith); short = λ h. (refl, refl) }
+
+pub list-done : (text file out now : List ℕ) (end : ℕ) → room ≤ length out → Puts out 0 (listing-of text file) now end → end ≤ room → Lists text file out now (Bytes end)
+list-done text file out now end l p b =
+    let (e, w) = puts-front out (listing-of text file) now end (omega (arith, p .ends)) p in
+    record { fits = λ h. (ap Bytes e, w); short = λ h. absurd (omega arith) }
+
+pub same-listing : (old : List ℕ) (at : ℕ) (x y now : List ℕ) (end : ℕ) → x ≡ y → Puts old at x now end → Puts old at y now end
+same-listing old at x y now end e p = subst (λ z. Puts old at z now end) e p
+
+-- a listing lies inside the buffer
+pub listed-within : (text file out now : List ℕ) (r : Listed) (n : ℕ) → Lists text file out now r → r ≡ Bytes n → room ≤ length out → length now ≡ length out → n ≤ length now
+unfolding in-front
+listed-within text file out now r n h e l same =
+    let (a, w) = h .fits l in
+    let k : n ≡ length (listing-of text file) = cc in
+    let s : length now ≡ length (listing-of text file) + length (drop (length (listing-of text file)) out) = ap length w ∙ length-append (listing-of text file) (drop (length (listing-of text file)) out) in
+    omega arith

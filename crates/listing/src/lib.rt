@@ -1,0 +1,121 @@
+// The listing of a tape, out of a pattern's text and a tape's bytes: every byte that the program `tapelist` prints.
+ghost use mathlib.Core.Path.{_≡_};
+ghost use Prim.Native.Nat.{_≤_};
+ghost use lib.ListN.{length};
+ghost use Rattle.listing.specs.Listing.{listing, pattern-listing, listing-of, room, Lists};
+ghost use Rattle.listing.specs.ListingLaws.{Read, Letters};
+ghost use Rattle.listing.specs.Putting.{Puts};
+ghost use Rattle.semantics.specs.Sweeps.{greedy};
+ghost use Rattle.syntax.specs.Trees.{root};
+
+mod lines; // lines.rt: the lines of a listing
+mod put; // put.rt: bytes, numbers and hexadecimal digits
+
+use codes::totals;
+use lines::put_accounts;
+use lines::put_open;
+use lines::put_refused;
+use lines::put_tape;
+use parser::Parsed;
+use parser::parse;
+use syntax::Outcome;
+use syntax::Pattern;
+use syntax::load;
+
+// Bytes that hold every listing: at most 131,100 for the first line, 30 for each account, 27 for each position.
+pub const MAX_LISTING: usize = 262144;
+
+// What listing answers: how many bytes the listing has, or that the buffer is shorter than MAX_LISTING.
+pub enum Listed {
+    Bytes(u32),
+    TooShort,
+}
+
+// The lines of a tape that has been read.
+fn list_read(
+    p: Pattern,
+    tape: &[u8],
+    words: &[u64],
+    code: &[u8],
+    count: u32,
+    out: &mut [u8],
+) -> usize
+    requires { ⌜ (Read p (now tape) (now words) (now code) count) × (room ≤ length (now out)) ⌝ }
+    ensures { λ r.
+        ⌜ (Puts (now (out .entry)) 0 (listing p (now (tape .entry)) (greedy (root p) (now (tape .entry)))) (now (out .exit)) r) × (r ≤ room) ⌝ }
+{
+    let totalled = totals(p, code, count);
+    let litres = totalled.litres;
+    let n = tape.len();
+    let first = put_tape(out, 0, n as u32, count, code);
+    let second = put_accounts(out, first, &litres);
+    put_open(out, second, words, n)
+}
+
+// Reads the tape in work buffers that always suffice.
+fn list_with(p: Pattern, tape: &[u8], words: &mut [u64], code: &mut [u8], out: &mut [u8]) -> usize
+    requires { ⌜ (length (now words) ≡ 7202) × (length (now code) ≡ 65536) × (room ≤ length (now out)) ⌝ }
+    ensures { λ r. ⌜ (Puts (now (out .entry)) 0 (pattern-listing p (now (tape .entry))) (now (out .exit)) r) × (r ≤ room) ⌝ }
+{
+    let parsed = parse(p, tape, words, code);
+    match parsed {
+        Parsed::Refused(why) => put_refused(out, 0, why),
+        Parsed::Bits(count) => {
+            let n = (count as usize + 7) / 8;
+            list_read(p, tape, words, &code[..n], count, out)
+        }
+    }
+}
+
+// 2 × (3,600 + 1) mark words and 65,536 code bytes suffice for every tape.
+fn list_tape(p: Pattern, tape: &[u8], out: &mut [u8]) -> usize
+    requires { ⌜ room ≤ length (now out) ⌝ }
+    ensures { λ r. ⌜ (Puts (now (out .entry)) 0 (pattern-listing p (now (tape .entry))) (now (out .exit)) r) × (r ≤ room) ⌝ }
+{
+    let mut words = [0u64; 7202];
+    let mut code = [0u8; 65536];
+    list_with(p, tape, &mut words, &mut code, out)
+}
+
+// How many bytes of a tape file are before one closing byte 10.
+fn letters_of(tape: &[u8]) -> usize
+    ensures { λ r. ⌜ Letters (now (tape .entry)) r ⌝ }
+{
+    let n = tape.len();
+    if n == 0 {
+        return 0;
+    }
+    if tape[n - 1] == b'\n' {
+        return n - 1;
+    }
+    n
+}
+
+// The pattern is judged first.
+fn list_text(text: &[u8], tape: &[u8], out: &mut [u8]) -> usize
+    requires { ⌜ room ≤ length (now out) ⌝ }
+    ensures { λ r.
+        ⌜ (Puts (now (out .entry)) 0 (listing-of (now (text .entry)) (now (tape .entry))) (now (out .exit)) r) × (r ≤ room) ⌝ }
+{
+    let loaded = load(text);
+    let p = loaded.pattern;
+    let outcome = loaded.outcome;
+    match outcome {
+        Outcome::Refused(why) => put_refused(out, 0, why),
+        Outcome::Lines(_) => {
+            let n = letters_of(tape);
+            list_tape(p, &tape[..n], out)
+        }
+    }
+}
+
+// The listing of a pattern's text and a tape file's bytes, put in front of `out`: refusals too.
+pub fn list(text: &[u8], tape: &[u8], out: &mut [u8]) -> Listed
+    ensures { λ r. ⌜ Lists (now (text .entry)) (now (tape .entry)) (now (out .entry)) (now (out .exit)) r ⌝ }
+{
+    if out.len() < MAX_LISTING {
+        return Listed::TooShort;
+    }
+    let end = list_text(text, tape, out);
+    Listed::Bytes(end as u32)
+}

@@ -1,0 +1,81 @@
+// Prints the listing of the pattern in `pattern.tsv` and the tape in `tape.txt`, both in the working folder. A file that
+// cannot be opened or read gives a message on standard error and nothing on standard output. All that is printed comes
+// from `listing::list`.
+use libc::STDOUT_FILENO;
+use listing::Listed;
+use listing::MAX_LISTING;
+use listing::list;
+
+// Bytes held of each file. The first 1,025 bytes of a pattern's text and the first 3,602 of a tape give the listing of the
+// whole files: law `listing-short` of crate listing.
+const MAX_TEXT: usize = 4096;
+
+const MAX_TAPE: usize = 4096;
+
+// What stands for a file that cannot be read: no buffer holds so many bytes.
+const FAILED: usize = usize::MAX;
+
+// One read: how many bytes it put at the start of the part, none at the file's end.
+fn read_part(fd: i32, part: &mut [u8]) -> usize {
+    let got = libc::read(fd, part);
+    if got < 0 {
+        return FAILED;
+    }
+    io::count(got, part)
+}
+
+// Reads until the file ends or the buffer is full: how many bytes are held.
+fn read_all(fd: i32, buf: &mut [u8]) -> usize {
+    let mut at = 0;
+    while at < buf.len() {
+        let got = read_part(fd, &mut buf[at..]);
+        if got == 0 {
+            break;
+        }
+        if buf.len() - at < got {
+            return FAILED;
+        }
+        at += got;
+    }
+    at
+}
+
+// Reads the file of this name, and says on standard error why it cannot.
+fn read_file(name: &[u8], buf: &mut [u8]) -> usize {
+    let fd = os::open_read(name);
+    if fd < 0 {
+        os::fail(name);
+        return FAILED;
+    }
+    let held = read_all(fd, buf);
+    if buf.len() < held {
+        os::fail(name);
+    }
+    libc::close(fd);
+    held
+}
+
+fn print_listing(text: &[u8], tape: &[u8]) {
+    let mut out = [0u8; MAX_LISTING];
+    let Listed::Bytes(size) = list(text, tape, &mut out) else {
+        return;
+    };
+    let n = size as usize;
+    if !io::write_all(STDOUT_FILENO, &out[..n]) {
+        os::fail(b"standard output");
+    }
+}
+
+fn main() {
+    let mut text = [0u8; MAX_TEXT];
+    let mut tape = [0u8; MAX_TAPE];
+    let m = read_file(b"pattern.tsv", &mut text);
+    if MAX_TEXT < m {
+        return;
+    }
+    let n = read_file(b"tape.txt", &mut tape);
+    if MAX_TAPE < n {
+        return;
+    }
+    print_listing(&text[..m], &tape[..n]);
+}
