@@ -141,6 +141,13 @@ pub record Follow-of (p : Pattern) (t : Tree) (f : Follow) : Type 0 where
   pub ends : f .end ≡ passes true nowhere true place
 
 -- ---- laws
+pub front-same : {x y : ℕ} {u v : Bool} → x ≡ y → u ≡ v → _≡_ {A = Front} (record { first = x; null = u }) (record { first = y; null = v })
+front-same e f = ap₂ (λ a b. record { first = a; null = b }) e f
+
+pub follow-same : {s x y z w : ℕ} {u v : Bool} → x ≡ y → z ≡ w → u ≡ v
+    → _≡_ {A = Follow} (record { state = s; zero = x; one = z; end = u }) (record { state = s; zero = y; one = w; end = v })
+follow-same {s} e f g = rw (e, f, g) refl
+
 -- what is behind counts where the node comes through
 pub nowhere-through : (t : Tree) (v : Bool) → reach nowhere t v ≡ (reach nowhere t true && v)
 nowhere-through t true = sym (and-true (reach nowhere t true))

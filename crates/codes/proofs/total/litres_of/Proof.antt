@@ -7,18 +7,18 @@ use Rattle.codes.proofs.total.litres_of.Tie as tie
 
 returns : tie.Need-returns
 unfolding litres
-returns c = rw (lt-leb _ _ (c .if1 .taken))
+returns c = rw (lt-leb 48 (c .before .args .c) (c .if1 .taken))
 
 returns-2 : tie.Need-returns-2
 unfolding litres
-returns-2 c = rw (le-leb _ _ (c .before .if1 .left), lt-leb _ _ (c .if2 .taken))
+returns-2 c = rw (le-leb 48 (c .before .before .args .c) (c .before .if1 .left), lt-leb (c .before .before .args .c) 57 (c .if2 .taken))
 
 cast-result : tie.Need-cast-result
 cast-result c = search needs
 
 returns-3 : tie.Need-returns-3
 unfolding litres
-returns-3 c = rw (le-leb _ _ (c .before .if1 .left), le-leb _ _ (c .if2 .left))
+returns-3 c = rw (le-leb 48 (c .before .before .args .c) (c .before .if1 .left), le-leb (c .before .before .args .c) 57 (c .if2 .left))
 
 pub litres-of-spec : {M : Type 1} → statement M
 litres-of-spec = tie.close (tie.spec returns returns-2 cast-result returns-3)

@@ -1,3 +1,4 @@
+use Rattle.states.specs.Fronts.{front-same}
 use borrow.Author.Needs.{needs}
 use Rattle.states.proofs.fronts.in_turn.Statement.{statement}
 use Rattle.states.proofs.fronts.in_turn.Tie as tie
@@ -9,7 +10,7 @@ both-requires : tie.Need-both-requires
 both-requires c κs = search needs
 
 returns : tie.Need-returns
-returns c = rw (c .before .join .ensures, c .both .ensures)
+returns c = front-same (c .before .join .ensures) (c .both .ensures)
 
 pub in-turn-spec : {M : Type 1} → statement M
 in-turn-spec = tie.close (tie.spec join-requires both-requires returns)
