@@ -69,8 +69,9 @@ enum {
 #define WUMBYRA_WORDS(n) (2 * ((size_t)(n) + 1))
 
 /* Bytes that suffice for the code that wumbyra_parse or wumbyra_canonicalize writes for n letters, whatever the pattern: it has
- * at most 64 bits if n is 0, and at most 2 * 64 * n + 8 * n otherwise. The code itself is mostly far shorter. */
-#define WUMBYRA_CODE_BYTES(n) ((n) == 0 ? (size_t)8 : 17 * (size_t)(n))
+ * at most 64 bits if n is 0, and at most 2 * 64 * n + 8 * n otherwise. With so many bytes the bits are not counted before they are
+ * written. The code itself is mostly far shorter. */
+#define WUMBYRA_CODE_BYTES(n) (17 * (size_t)(n) + 8)
 
 /* The parts of an answer. */
 static inline uint32_t wumbyra_number(uint64_t answer)

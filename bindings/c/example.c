@@ -23,7 +23,7 @@ int main(void)
     const uint8_t *read = (const uint8_t *)tape;
     const size_t len = sizeof pattern - 1;
     uint64_t words[2 * (letters + 1)], again[2 * (letters + 1)];
-    uint8_t code[17 * letters], canonical[17 * letters], spelled[letters];
+    uint8_t code[WUMBYRA_CODE_BYTES(letters)], canonical[WUMBYRA_CODE_BYTES(letters)], spelled[letters];
     uint64_t answer;
     uint32_t bits, i;
 

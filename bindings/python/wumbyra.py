@@ -90,7 +90,7 @@ class Pattern:
         tape = bytes(tape)
         letters = min(len(tape), MAX_LETTERS)
         words = (ctypes.c_uint64 * (2 * (letters + 1)))()
-        code = (ctypes.c_uint8 * max(8, 17 * letters))()
+        code = (ctypes.c_uint8 * (17 * letters + 8))()
         answer = _LIBRARY.wumbyra_parse(*_read(self.text), *_read(tape), words, len(words), code, len(code))
         bits = _value(answer)
         return bytes(code[: (bits + 7) // 8]), bits, list(words)
@@ -106,7 +106,7 @@ class Pattern:
         letters = len(self.flatten(code, bits))
         tape = (ctypes.c_uint8 * max(1, letters))()
         words = (ctypes.c_uint64 * (2 * (letters + 1)))()
-        canonical = (ctypes.c_uint8 * max(8, 17 * letters))()
+        canonical = (ctypes.c_uint8 * (17 * letters + 8))()
         answer = _LIBRARY.wumbyra_canonicalize(
             *_read(self.text), *_read(bytes(code)), _u32(bits), tape, len(tape), words, len(words), canonical, len(canonical)
         )

@@ -30,11 +30,7 @@ pub const fn words_for(letters: usize) -> usize {
 
 /// Bytes that suffice for the code that is written for so many letters, whatever the pattern.
 pub const fn code_bytes_for(letters: usize) -> usize {
-    if letters == 0 {
-        8
-    } else {
-        17 * letters
-    }
+    17 * letters + 8
 }
 
 /// Bits, from the highest of each byte.

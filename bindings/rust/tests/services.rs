@@ -131,7 +131,7 @@ fn buffers_that_are_one_short_are_left_as_they_were() {
 #[test]
 fn bounds_suffice() {
     assert_eq!((words_for(0), words_for(3)), (2, 8));
-    assert_eq!((code_bytes_for(0), code_bytes_for(3)), (8, 51));
+    assert_eq!((code_bytes_for(0), code_bytes_for(3)), (8, 59));
     for letters in [0, 1, 100, 3_600] {
         assert!(pattern(P2).parse(&vec![b'a'; letters]).is_ok());
     }
