@@ -1,3 +1,4 @@
 pub mod Parse
 pub mod Writing
 pub mod ParseLaws
+pub mod Rejected
