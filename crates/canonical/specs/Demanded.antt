@@ -135,3 +135,15 @@ pub empty-round-kept :
     (p : Pattern) → obeys p ≡ true → (c : Code p) (x : Run p c) (s : Settled x) → (NoEmptyRound (root p) (held 8 (c .bytes) (c .count)) → ⊥)
     → Equal (bytes-of x s) (c .bytes) (s .count) (c .count) → ⊥
 empty-round-kept p good c x s hollow-one e = hollow-one (handed-back p good c x s e .solid)
+
+-- 01, the bodies to try: "One code for all tapes (2, 3)". Codes of two tapes settle to two codes.
+pub codes-differ :
+    (p : Pattern) → obeys p ≡ true → (a b : Code p) (x : Run p a) (y : Run p b) (s : Settled x) (t : Settled y) → (spells a ≡ spells b → ⊥)
+    → Equal (bytes-of x s) (bytes-of y t) (s .count) (t .count) → ⊥
+unfolding Third-demand
+codes-differ p good a b x y s t other e =
+    let d = third-demand p good a b x y in
+    let k : d .one .settled .count ≡ s .count = ap (λ z. z .value) (sym (d .one .settled .answers) ∙ s .answers) in
+    let l : d .two .settled .count ≡ t .count = ap (λ z. z .value) (sym (d .two .settled .answers) ∙ t .answers) in
+    other
+    (d .equal .0 (k ∙ e .0 ∙ sym l, ap (λ n. take (cell-count 8 n) (x .out-now)) k ∙ e .1 ∙ sym (ap (λ n. take (cell-count 8 n) (y .out-now)) l)))

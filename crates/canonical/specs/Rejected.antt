@@ -5,14 +5,14 @@ use mathlib.Core.Bool.{true, false, true≢false, false≢true}
 use mathlib.Core.List.{List, [], _∷_}
 use Prim.Native.Nat.{ℕ, zero, suc, _≤_}
 use native.Mathlib.Omega.{arith}
-use lib.ListN.{length, getD}
+use lib.ListN.{length, getD, replicate}
 use Rattle.syntax.specs.declared.Leaf.the-variants.{Nothing, Letter}
 use Rattle.syntax.specs.declared.Line.{Line}
 use Rattle.syntax.specs.declared.Node.{Node}
 use Rattle.syntax.specs.declared.Node.the-variants.{Leaf as Leaf-node, Sequence, Alternative, Star}
 use Rattle.syntax.specs.declared.Pattern.{Pattern}
 use Rattle.syntax.specs.Letter.{is-letter}
-use Rattle.syntax.specs.Table.{obeys, line-good, wrongly-names, unnamed, tree-fault}
+use Rattle.syntax.specs.Table.{blank, obeys, line-good, wrongly-names, unnamed, tree-fault}
 use Rattle.syntax.specs.Trees.{root, tree-of}
 use Rattle.bits.specs.Bits.{Small, bits-of, held, exact, handed-good}
 use Rattle.semantics.specs.Code.{NoEmptyRound, before}
@@ -32,7 +32,7 @@ one-letter c = line (Leaf-node (Letter c))
 
 -- "P1: (a|e)*"
 abbrev pub P1 : Pattern
-P1 = record { count = 4; lines = one-letter 97 ∷ line (Leaf-node Nothing) ∷ line (Alternative 0 1) ∷ line (Star 2) ∷ [] }
+P1 = record { count = 4; lines = one-letter 97 ∷ line (Leaf-node Nothing) ∷ line (Alternative 0 1) ∷ line (Star 2) ∷ replicate 60 blank }
 
 obeys-P1 : obeys P1 ≡ true
 unfolding obeys line-good wrongly-names unnamed tree-fault is-letter
@@ -69,7 +69,7 @@ C10-not-handed-back x s =
 abbrev pub P4 : Pattern
 P4 = record {
   count = 9;
-  lines = one-letter 97 ∷ one-letter 97 ∷ one-letter 98 ∷ line (Sequence 1 2) ∷ line (Alternative 0 3) ∷ one-letter 98 ∷ line (Leaf-node Nothing) ∷ line (Alternative 5 6) ∷ line (Sequence 4 7) ∷ [];
+  lines = one-letter 97 ∷ one-letter 97 ∷ one-letter 98 ∷ line (Sequence 1 2) ∷ line (Alternative 0 3) ∷ one-letter 98 ∷ line (Leaf-node Nothing) ∷ line (Alternative 5 6) ∷ line (Sequence 4 7) ∷ replicate 55 blank;
 }
 
 obeys-P4 : obeys P4 ≡ true

@@ -1,4 +1,4 @@
-// Services on codes: spelling a code, the spans of its visits, and litres by account.
+// Services on codes: spelling a code, and litres by account.
 ghost use mathlib.Core.Path.{_≡_};
 ghost use Rattle.codes.specs.Flatten.{Flattens};
 ghost use Rattle.codes.specs.Totals.{Totals, refused-totals};

@@ -6,7 +6,7 @@ use mathlib.Core.List.{List, [], _∷_}
 use Prim.Native.Nat.{ℕ, _+_, _*_, _≤_}
 use native.Mathlib.Omega.{arith}
 use borrow.Author.Tests.{le-ltb}
-use lib.ListN.{length, getD}
+use lib.ListN.{length, getD, replicate}
 use Rattle.syntax.specs.declared.Leaf.the-variants.{Letter}
 use Rattle.syntax.specs.declared.Line.{Line}
 use Rattle.syntax.specs.declared.Node.{Node}
@@ -15,7 +15,7 @@ use Rattle.syntax.specs.declared.Pattern.{Pattern}
 use Rattle.syntax.specs.declared.Refusal.the-variants.{Unreadable}
 use Rattle.syntax.specs.Letter.{is-letter}
 use Rattle.syntax.specs.Refusals.{answer, refused}
-use Rattle.syntax.specs.Table.{obeys, line-good, wrongly-names, unnamed, tree-fault}
+use Rattle.syntax.specs.Table.{blank, obeys, line-good, wrongly-names, unnamed, tree-fault}
 use Rattle.syntax.specs.Trees.{root, tree-of}
 use Rattle.bits.specs.Bits.{cell-count, pack, in-front}
 use Rattle.semantics.specs.Sweeps.{readable, greedy}
@@ -32,9 +32,9 @@ reads-greedy p tape ws us xs ys r h good few letters room reads fit =
     let w = rw (good, le-ltb 3600 (length tape) few, le-ltb (first-bad tape) (length tape) letters, le-ltb (length ws) (2 * (length tape + 1)) room) at h in
     w .1 .fits (greedy (root p) tape) (greedy-canonical (root p) tape reads) fit
 
--- the pattern a*
+-- the pattern a*, as a table of 64 lines
 abbrev pub rounds : Pattern
-rounds = record { count = 2; lines = record { account = 0; node = Leaf-node (Letter 97) } ∷ record { account = 0; node = Star 0 } ∷ [] }
+rounds = record { count = 2; lines = record { account = 0; node = Leaf-node (Letter 97) } ∷ record { account = 0; node = Star 0 } ∷ replicate 62 blank }
 
 obeys-rounds : obeys rounds ≡ true
 unfolding obeys line-good wrongly-names unnamed tree-fault is-letter
@@ -47,6 +47,10 @@ bits-a = refl
 bits-aa : greedy (root rounds) (97 ∷ 97 ∷ []) ≡ false ∷ false ∷ true ∷ []
 unfolding greedy root tree-of
 bits-aa = refl
+
+bytes-aa : pack 8 (false ∷ false ∷ true ∷ []) ≡ 32 ∷ []
+unfolding pack
+bytes-aa = refl
 
 readable-a : readable (root rounds) (97 ∷ []) ≡ true
 unfolding readable root tree-of
@@ -71,14 +75,22 @@ module _ (ws us xs ys : List ℕ) (r : Parsed) (room : 6 ≤ length ws) (fits : 
       reads-greedy rounds (97 ∷ []) ws us xs ys r h obeys-rounds (omega arith) (rw letters-a (omega arith)) (omega arith) readable-a (rw bits-a (omega arith)) .0
       ∙ ap (λ bits. answer 0 (length bits)) bits-a
 
-  -- the tape aa: three bits, 001, not the two of one round and a stop, nor the two of the tape a
-  pub two-rounds : Parses rounds (97 ∷ 97 ∷ []) ws us xs ys r → parsed-answer r ≡ answer 0 3
+  -- the tape aa: three bits, 001
+  pub two-rounds : Parses rounds (97 ∷ 97 ∷ []) ws us xs ys r → (parsed-answer r ≡ answer 0 3) × (ys ≡ in-front (32 ∷ []) xs)
   two-rounds h =
-      reads-greedy rounds (97 ∷ 97 ∷ []) ws us xs ys r h obeys-rounds (omega arith) (rw letters-aa (omega arith)) (omega arith) readable-aa (rw bits-aa (omega arith)) .0
-      ∙ ap (λ bits. answer 0 (length bits)) bits-aa
+      let w = reads-greedy rounds (97 ∷ 97 ∷ []) ws us xs ys r h obeys-rounds (omega arith) (rw letters-aa (omega arith)) (omega arith) readable-aa (rw bits-aa (omega arith)) in
+      (w .0 ∙ ap (λ bits. answer 0 (length bits)) bits-aa, w .1 ∙ ap (λ bits. in-front (pack 8 bits) xs) bits-aa ∙ ap (λ bytes. in-front bytes xs) bytes-aa)
 
-  pub first-round-alone : Parses rounds (97 ∷ 97 ∷ []) ws us xs ys r → parsed-answer r ≡ answer 0 2 → ⊥
-  first-round-alone h e = let z : _≡_ {A = ℕ} 3 2 = ap (λ a. a .value) (sym (two-rounds h) ∙ e) in omega arith
+  -- not the first round and stop bits, 011, with the right bit count
+  pub first-round-alone : Parses rounds (97 ∷ 97 ∷ []) ws us xs ys r → ys ≡ in-front (96 ∷ []) xs → ⊥
+  unfolding in-front
+  first-round-alone h e = let z : _≡_ {A = ℕ} 32 96 = ap (λ bytes. getD bytes 0 0) (sym (two-rounds h .1) ∙ e) in omega arith
 
   pub never-unreadable : Parses rounds (97 ∷ []) ws us xs ys r → parsed-answer r ≡ refused Unreadable → ⊥
   never-unreadable h e = let z : _≡_ {A = ℕ} 0 5 = ap (λ a. a .number) (sym (one-round h) ∙ e) in omega arith
+
+  -- the two tapes have not one code
+  pub not-one-code : (vs zs : List ℕ) (q : Parsed) → Parses rounds (97 ∷ []) ws us xs ys r → Parses rounds (97 ∷ 97 ∷ []) ws vs xs zs q → parsed-answer r ≡ parsed-answer q → ⊥
+  not-one-code vs zs q h k e =
+      let w = reads-greedy rounds (97 ∷ 97 ∷ []) ws vs xs zs q k obeys-rounds (omega arith) (rw letters-aa (omega arith)) (omega arith) readable-aa (rw bits-aa (omega arith)) .0 in
+      let z : _≡_ {A = ℕ} 2 3 = ap (λ a. a .value) (sym (one-round h) ∙ e ∙ w ∙ ap (λ bits. answer 0 (length bits)) bits-aa) in omega arith
