@@ -1,26 +1,22 @@
 -- THE FILL: what is asked of a caller, and that the masks which the fill makes are those of the pattern.
 use mathlib.Core.Path.{_≡_, ap, _∙_}
-use mathlib.Core.Bool.{true}
+use mathlib.Core.Bool.{Bool, true}
 use mathlib.Core.List.{List, [], _∷_}
 use Prim.Native.Nat.{ℕ, zero, suc, _+_, _*_, _≤_, _<_}
 use native.Mathlib.Omega.{arith}
 use borrow.Author.Tests.{leb-true}
 use lib.Dec.{leb}
-use lib.ListN.{length, getD}
+use lib.ListN.{length, getD, replicate}
 use Rattle.syntax.specs.declared.Pattern.{Pattern}
 use Rattle.syntax.specs.Letter.{is-letter}
 use Rattle.syntax.specs.TreeLaws.{Rules}
-use Rattle.bits.specs.Bits.{in-front}
+use Rattle.bits.specs.Bits.{in-front, word-of}
 use Rattle.semantics.specs.Basics.{and-snd}
-use Rattle.states.specs.declared.fronts.Front.{Front}
-use Rattle.states.specs.declared.follows.Follow.{Follow}
-use Rattle.states.specs.declared.masks.Rows.{Rows}
 use Rattle.states.specs.StateSets.{words}
-use Rattle.states.specs.Steps.{Followed, entry}
 use Rattle.states.specs.Sweep.{Sweepable, sweep-of}
-use Rattle.states.specs.Fronts.{Fronts}
+use Rattle.states.specs.Fronts.{Fronts, follow-at}
 use Rattle.states.specs.Follows.{Down, down-end, followed-of}
-use Rattle.states.specs.Masks.{Filled, Rows-of, column, column-zero, column-one, row-ends, line-takers, line-takers-are, Masks-of, All-letters, sweep-words}
+use Rattle.states.specs.Masks.{Filled, row, comes-to-end, column, column-zero, column-one, row-ends, line-takers, line-takers-are, Masks-of, All-letters, sweep-words}
 
 -- a tested table, "at most 3,600 letters, all from 33 to 126", and 2 × (n + 1) words
 pub record Fillable (p : Pattern) (tape words : List ℕ) : Type 0 where
@@ -45,21 +41,25 @@ all-letters (c ∷ w) h = (h 0 (omega arith), all-letters w (λ j k. h (suc j) (
 pub fill-sweepable : (p : Pattern) (tape ws : List ℕ) → Fillable p tape ws → Sweepable tape ws
 fill-sweepable p tape ws f = record { few = f .few; letters = small-letters tape (f .letters); room = f .room }
 
--- the masks that the fill makes
-pub masks-made : (p : Pattern) (r : Rules p) (us : List Front) (fs : List Follow) (rows : Rows) (zs os ks : List ℕ)
-    → Fronts p r (p .count) us → Down p r 0 fs → Rows-of (p .count) us fs rows
-    → Filled 0 (column (p .count) (rows .zero)) 64 (p .count) zs → Filled 0 (column (p .count) (rows .one)) 64 (p .count) os
-    → Filled 0 (λ c. line-takers p c (p .count)) 128 128 ks → Masks-of p zs os (rows .followers) ks (rows .end)
-masks-made p r us fs rows zs os ks u d g z o k = record {
-  zeros = λ x h. z .cells x h ∙ column-zero p r us fs u d (rows .zero) (g .zeros) x;
-  ones = λ x h. o .cells x h ∙ column-one p r us fs u d (rows .one) (g .ones) x;
-  follows = λ x h. followed x h;
+-- arrays in which nothing is marked, and room for the followers
+pub record Blank (zs os fs ks : List ℕ) : Type 0 where
+  pub zeros : zs ≡ replicate 64 0
+  pub ones : os ≡ replicate 64 0
+  pub followers : length fs ≡ 64
+  pub takers : ks ≡ replicate 128 0
+
+-- the masks that are made of fronts and of what follows
+pub masks-made : (p : Pattern) (r : Rules p) (xs : List ℕ) (ns : List Bool) (ss zs os : List ℕ) (es : List Bool) (cs ds ks : List ℕ) (e : ℕ)
+    → Fronts p r (p .count) xs ns → Down p r 0 ss zs os es
+    → Filled 0 (column (p .count) (row xs ns zs)) 64 (p .count) cs → Filled 0 (column (p .count) (row xs ns os)) 64 (p .count) ds
+    → Filled 0 (λ c. line-takers p c (p .count)) 128 128 ks → e ≡ word-of (p .count) (comes-to-end ns es) → Masks-of p cs ds ss ks e
+masks-made p r xs ns ss zs os es cs ds ks e u d z o k w = record {
+  zeros = λ x h. z .cells x h ∙ column-zero p r xs ns ss zs os es u d x;
+  ones = λ x h. o .cells x h ∙ column-one p r xs ns ss zs os es u d x;
+  follows = λ x h. followed-of p r x (follow-at ss zs os es x) h (down-end p r ss zs os es d x h);
   letters = λ c h. k .cells c (omega (arith, letter-small c h)) ∙ line-takers-are p r c;
-  ends = g .ends ∙ row-ends p r us fs u d;
+  ends = w ∙ row-ends p r xs ns ss zs os es u d;
 }
-  where
-    followed : (x : ℕ) → x < p .count → Followed p x (entry (rows .followers) x)
-    followed x h = rw (g .states .cells x h) (followed-of p r x (getD fs x _) h (down-end p r fs d x h))
 
 -- so that the buffer holds the words of the definition
 pub filled-words : (p : Pattern) (tape old new zs os fs ks : List ℕ) (e : ℕ) → Fillable p tape old → Masks-of p zs os fs ks e → new ≡ in-front (sweep-of zs os fs ks e tape) old

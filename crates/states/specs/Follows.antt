@@ -8,7 +8,7 @@ use Prim.Native.Nat.{ℕ, zero, suc, _+_, _-_, _≤_, _<_}
 use native.Mathlib.Omega.{arith}
 use native.Mathlib.Decide.{decLt}
 use lib.Dec.{eqb}
-use lib.ListN.{length, set, replicate, length-set, getD-replicate}
+use lib.ListN.{length, getD, set, length-set}
 use lib.Seq.{getD-set-same, getD-set-other}
 use Rattle.syntax.specs.declared.Leaf.the-variants.{Nothing, Letter, Range}
 use Rattle.syntax.specs.declared.Node.{Node}
@@ -26,13 +26,14 @@ use Rattle.states.specs.declared.fronts.Front.{Front}
 use Rattle.states.specs.declared.follows.Follow.{Follow}
 use Rattle.states.specs.Nodes.{index}
 use Rattle.states.specs.Closure.{passes, nowhere, reach-none}
+use Rattle.states.specs.Unions.{equal}
 use Rattle.states.specs.Steps.{Followed}
-use Rattle.states.specs.Fronts.{blank-front, front-at, front-line, front-line-of, Front-of, Fronts, blank-follow, end-follow, follow-at, before-second, before-round, down-line, Follow-of, nothing-bit, behind-bit, nowhere-through, tree, label-of, line-tree}
+use Rattle.states.specs.Fronts.{front-at, front-same, front-line, front-line-of, Front-of, Fronts, end-follow, follow-at, follow-same, before-second, before-round, first-part, second-part, to-first, parts-inside, Follow-of, nothing-bit, behind-bit, nowhere-through, tree, label-of, line-tree}
 
 -- ---- one law for each way down
 module _ {p : Pattern} {m : Label} where
-  to-first : {t u : Tree} {f : Follow} (b : Front) (q : ℕ) → index u ≡ q → Front-of u b → Follow-of p (seq m t u) f → Follow-of p t (before-second q b f)
-  to-first {u = u} {f = f} b q e g d = record {
+  before-second-of : {t u : Tree} {f : Follow} (b : Front) (q : ℕ) → index u ≡ q → Front-of u b → Follow-of p (seq m t u) f → Follow-of p t (before-second q b f)
+  before-second-of {u = u} {f = f} b q e g d = record {
     place = fst (d .place);
     states = sym e;
     zeros = λ y. behind-bit (eqb y) u b (f .zero) y (passes false (eqb y) false (d .place)) (g .firsts y) (g .nulls) (d .zeros y);
@@ -82,6 +83,66 @@ part-below i q (Sequence x y) b h = ⊎-elim (λ e. omega (arith, eqb-eq x q e, 
 part-below i q (Alternative x y) b h = ⊎-elim (λ e. omega (arith, eqb-eq x q e, b .0)) (λ e. ⊎-elim (λ f. omega (arith, eqb-eq y q f, b .1)) (λ f. absurd (false≢true (f .1))) (or-cases (eqb y q) false (e .1))) (or-cases (eqb x q) (eqb y q || false) h)
 part-below i q (Star x) b h = ⊎-elim (λ e. omega (arith, eqb-eq x q e, b)) (λ f. absurd (false≢true (f .1))) (or-cases (eqb x q) false h)
 
+-- what a line names is its first part or its second
+part-is : (i l : ℕ) (k : Node) → member l (parts k) ≡ true → (l ≡ first-part i k) ⊎ (l ≡ second-part i k)
+part-is i l (Leaf-node x) h = absurd (false≢true h)
+part-is i l (Sequence x y) h = ⊎-elim (λ e. inl (sym (eqb-eq x l e))) (λ e. ⊎-elim (λ f. inr (sym (eqb-eq y l f))) (λ f. absurd (false≢true (f .1))) (or-cases (eqb y l) false (e .1))) (or-cases (eqb x l) (eqb y l || false) h)
+part-is i l (Alternative x y) h = ⊎-elim (λ e. inl (sym (eqb-eq x l e))) (λ e. ⊎-elim (λ f. inr (sym (eqb-eq y l f))) (λ f. absurd (false≢true (f .1))) (or-cases (eqb y l) false (e .1))) (or-cases (eqb x l) (eqb y l || false) h)
+part-is i l (Star x) h = ⊎-elim (λ e. inl (sym (eqb-eq x l e))) (λ f. absurd (false≢true (f .1))) (or-cases (eqb x l) false h)
+
+-- ---- the four arrays
+pub record Sized (ss zs os : List ℕ) (es : List Bool) : Type 0 where
+  pub states : length ss ≡ 64
+  pub zeros : length zs ≡ 64
+  pub ones : length os ≡ 64
+  pub ends : length es ≡ 64
+
+-- what follows line a is stored
+pub record Stored (ss zs os : List ℕ) (es : List Bool) (a : ℕ) (v : Follow) (ts ys ps : List ℕ) (fs : List Bool) : Type 0 where
+  pub states : ts ≡ set ss a (v .state)
+  pub zeros : ys ≡ set zs a (v .zero)
+  pub ones : ps ≡ set os a (v .one)
+  pub ends : fs ≡ set es a (v .end)
+
+module _ {ss zs os : List ℕ} {es : List Bool} {a : ℕ} {v : Follow} {ts ys ps : List ℕ} {fs : List Bool} (s : Stored ss zs os es a v ts ys ps fs) where
+  stored-here : Sized ss zs os es → a < 64 → follow-at ts ys ps fs a ≡ v
+  stored-here z h =
+      follow-same (ap (λ x. getD x a 0) (s .states) ∙ getD-set-same ss a (v .state) 0 (omega (arith, z .states)))
+      (ap (λ x. getD x a 0) (s .zeros) ∙ getD-set-same zs a (v .zero) 0 (omega (arith, z .zeros)))
+      (ap (λ x. getD x a 0) (s .ones) ∙ getD-set-same os a (v .one) 0 (omega (arith, z .ones)))
+      (ap (λ x. getD x a false) (s .ends) ∙ getD-set-same es a (v .end) false (omega (arith, z .ends)))
+
+  stored-other : (l : ℕ) → (l ≡ a → ⊥) → follow-at ts ys ps fs l ≡ follow-at ss zs os es l
+  stored-other l h =
+      follow-same (ap (λ x. getD x l 0) (s .states) ∙ getD-set-other ss a l (v .state) 0 h)
+      (ap (λ x. getD x l 0) (s .zeros) ∙ getD-set-other zs a l (v .zero) 0 h)
+      (ap (λ x. getD x l 0) (s .ones) ∙ getD-set-other os a l (v .one) 0 h)
+      (ap (λ x. getD x l false) (s .ends) ∙ getD-set-other es a l (v .end) false h)
+
+  pub stored-sized : Sized ss zs os es → Sized ts ys ps fs
+  stored-sized z = record {
+    states = rw (s .states) (simp length-set (z .states));
+    zeros = rw (s .zeros) (simp length-set (z .zeros));
+    ones = rw (s .ones) (simp length-set (z .ones));
+    ends = rw (s .ends) (simp length-set (z .ends));
+  }
+
+-- a line hands on to its parts, and to no other line
+pub record Handed (i : ℕ) (k : Node) (b : Front) (f g : ℕ → Follow) : Type 0 where
+  pub first : g (first-part i k) ≡ to-first i b k (f i)
+  pub second : (second-part i k ≡ first-part i k → ⊥) → g (second-part i k) ≡ f i
+  pub other : (l : ℕ) → (l ≡ first-part i k → ⊥) → (l ≡ second-part i k → ⊥) → g l ≡ f l
+
+-- by two stores, that of the second part before that of the first
+pub handed-on : {ss zs os ts ys ps vs xs qs : List ℕ} {es fs ws : List Bool} {w : Follow} (i : ℕ) (k : Node) (b : Front) → i < 64 → Below i k → Sized ss zs os es
+    → Stored ss zs os es (second-part i k) (follow-at ss zs os es i) ts ys ps fs → Stored ts ys ps fs (first-part i k) w vs xs qs ws → w ≡ to-first i b k (follow-at ss zs os es i)
+    → Handed i k b (follow-at ss zs os es) (follow-at vs xs qs ws)
+handed-on i k b h l z s t e = record {
+  first = stored-here t (stored-sized s z) (parts-inside i k h l .0) ∙ e;
+  second = λ n. stored-other t (second-part i k) n ∙ stored-here s z (parts-inside i k h l .1);
+  other = λ j m n. stored-other t j m ∙ stored-other s j n;
+}
+
 -- a line from i on names l
 pub record Named (p : Pattern) (i l : ℕ) : Type 0 where
   pub line : ℕ
@@ -108,31 +169,21 @@ module _ (p : Pattern) (r : Rules p) where
           let n = named-in l (p .count) (omega arith) (member-some l (named-below p (p .count)) (r .once l k)) in
           inr (record { line = n .line; from = part-below (n .line) l (node-at p (n .line)) (r .lower (n .line) (n .inside)) (n .names); inside = n .inside; names = n .names })
 
-  -- ---- the array of what follows
-  pub record Down (i : ℕ) (fs : List Follow) : Type 0 where
-    pub size : length fs ≡ 64
-    pub right : (l : ℕ) → l < p .count → Known i l → Follow-of p (tree p r l) (follow-at fs l)
-
-  put-here : (fs : List Follow) (a : ℕ) (v : Follow) → a < length fs → Follow-of p (tree p r a) v → Follow-of p (tree p r a) (follow-at (set fs a v) a)
-  put-here fs a v h d = subst (Follow-of p (tree p r a)) (sym (getD-set-same fs a v blank-follow h)) d
-
-  put-right : (fs : List Follow) (a : ℕ) (v : Follow) → a < length fs → Follow-of p (tree p r a) v → (q : ℕ) → Follow-of p (tree p r q) (follow-at fs q) → Follow-of p (tree p r q) (follow-at (set fs a v) q)
-  put-right fs a v h d q k = go (eqb a q) refl
-    where
-      go : (b : Bool) → eqb a q ≡ b → Follow-of p (tree p r q) (follow-at (set fs a v) q)
-      go true e = subst (λ x. Follow-of p (tree p r x) (follow-at (set fs a v) x)) (eqb-eq a q e) (put-here fs a v h d)
-      go false e = subst (Follow-of p (tree p r q)) (sym (getD-set-other fs a q v blank-follow (λ x. eqb-no a q e (sym x)))) k
+  -- ---- the arrays of what follows
+  pub record Down (i : ℕ) (ss zs os : List ℕ) (es : List Bool) : Type 0 where
+    pub sized : Sized ss zs os es
+    pub right : (l : ℕ) → l < p .count → Known i l → Follow-of p (tree p r l) (follow-at ss zs os es l)
 
   -- at the start nothing but the last line is known: the end follows it
-  pub down-start : Down (p .count) (replicate 64 end-follow)
+  pub down-start : {ss zs os ts ys ps : List ℕ} {es fs : List Bool} → Sized ss zs os es → Stored ss zs os es (p .count - 1) end-follow ts ys ps fs → Down (p .count) ts ys ps fs
   unfolding root
-  down-start = record { size = refl; right = λ l h k. ⊎-elim (λ e. last l h e) (λ n. absurd (omega (arith, n .from, n .inside))) k }
+  down-start {ts = ts} {ys = ys} {ps = ps} {fs = fs} z s = record { sized = stored-sized s z; right = λ l h k. ⊎-elim (λ e. last l e) (λ n. absurd (omega (arith, n .from, n .inside))) k }
     where
-      last : (l : ℕ) → l < p .count → suc l ≡ p .count → Follow-of p (tree p r l) (follow-at (replicate 64 end-follow) l)
-      last l h e =
+      last : (l : ℕ) → suc l ≡ p .count → Follow-of p (tree p r l) (follow-at ts ys ps fs l)
+      last l e =
           let i : p .count - 1 ≡ l = omega arith in
-          subst (Follow-of p (tree p r l)) (sym (getD-replicate 64 l end-follow blank-follow (omega (arith, r .few))))
-          (subst (λ x. Follow-of p (tree p r x) end-follow) i (record { place = top; states = refl; zeros = nothing-bit; ones = nothing-bit; ends = refl }))
+          subst (λ x. Follow-of p (tree p r x) (follow-at ts ys ps fs x)) i
+          (subst (Follow-of p (tree p r (p .count - 1))) (sym (stored-here s z (omega (arith, r .few, r .one)))) (record { place = top; states = refl; zeros = nothing-bit; ones = nothing-bit; ends = refl }))
 
   made-index : (m : Label) (f : ℕ → Tree) (k : Node) → index (made m f k) ≡ m .index
   made-index m f (Leaf-node Nothing) = refl
@@ -146,69 +197,57 @@ module _ (p : Pattern) (r : Rules p) where
   tree-index l h = ap index (line-tree p r l h) ∙ made-index (label-of p r l) (tree p r) (node-at p l)
 
   -- a line hands on to its parts
-  module _ (us : List Front) (fronts : Fronts p r (p .count) us) (i : ℕ) (h : i < p .count) (fs : List Follow) (d : Down (suc i) fs) where
-    abbrev f : Follow
-    f = follow-at fs i
+  module _ (u : ℕ → Front) (fronts : (l : ℕ) → l < p .count → Front-of (tree p r l) (u l)) (i : ℕ) (h : i < p .count) (f : Follow) where
+    first-right : (k : Node) → Below i k → Follow-of p (tree p r i) f → Follow-of p (made (label-of p r i) (tree p r) k) f → Follow-of p (tree p r (first-part i k)) (to-first i (u (second-part i k)) k f)
+    first-right (Leaf-node x) b d g = d
+    first-right (Sequence x y) b d g = before-second-of (u y) y (tree-index y (omega (arith, b .1))) (fronts y (omega (arith, b .1))) g
+    first-right (Alternative x y) b d g = to-left g
+    first-right (Star x) b d g = to-round (u x) (fronts x (omega arith)) g
 
-    Right : List Follow → ℕ → Type 0
-    Right gs l = Follow-of p (tree p r l) (follow-at gs l)
+    second-right : (k : Node) → Below i k → Follow-of p (tree p r i) f → Follow-of p (made (label-of p r i) (tree p r) k) f → (second-part i k ≡ first-part i k → ⊥) → Follow-of p (tree p r (second-part i k)) f
+    second-right (Leaf-node x) b d g n = d
+    second-right (Sequence x y) b d g n = to-second g
+    second-right (Alternative x y) b d g n = to-right g
+    second-right (Star x) b d g n = absurd (n refl)
 
-    -- what was right stays so, and the parts of the line are right
-    Handed : Node → Type 0
-    Handed k = ((q : ℕ) → Right fs q → Right (down-line us i k fs) q) × ((q : ℕ) → member q (parts k) ≡ true → Right (down-line us i k fs) q) × (length (down-line us i k fs) ≡ 64)
+  down-next : (u : ℕ → Front) → ((l : ℕ) → l < p .count → Front-of (tree p r l) (u l)) → (i : ℕ) → i < p .count → (f g : ℕ → Follow)
+      → ((l : ℕ) → l < p .count → Known (suc i) l → Follow-of p (tree p r l) (f l)) → Handed i (node-at p i) (u (second-part i (node-at p i))) f g
+      → (l : ℕ) → l < p .count → Known i l → Follow-of p (tree p r l) (g l)
+  down-next u fronts i h f g d s l k n = go (equal l first) (equal l second)
+    where
+      first : ℕ
+      first = first-part i (node-at p i)
 
-    -- two parts, the second written first
-    two : (a b : ℕ) (v w : Follow) → a < i → b < i → Follow-of p (tree p r a) v → Follow-of p (tree p r b) w
-        → ((q : ℕ) → Right fs q → Right (set (set fs b w) a v) q) × ((q : ℕ) → member q (a ∷ b ∷ []) ≡ true → Right (set (set fs b w) a v) q) × (length (set (set fs b w) a v) ≡ 64)
-    unfolding Right
-    two a b v w la lb dv dw = (
-      λ q x. put-right (set fs b w) a v small-a dv q (put-right fs b w small-b dw q x),
-      λ q e. ⊎-elim (λ x. subst (Right (set (set fs b w) a v)) (eqb-eq a q x) (put-here (set fs b w) a v small-a dv))
-          (λ x. ⊎-elim (λ y. subst (Right (set (set fs b w) a v)) (eqb-eq b q y) (put-right (set fs b w) a v small-a dv b (put-here fs b w small-b dw))) (λ y. absurd (false≢true (y .1))) (or-cases (eqb b q) false (x .1)))
-          (or-cases (eqb a q) (eqb b q || false) e),
-      simp length-set (d .size),
-    )
-      where
-        small-b : b < length fs
-        small-b = omega (arith, d .size, r .few)
+      second : ℕ
+      second = second-part i (node-at p i)
 
-        small-a : a < length (set fs b w)
-        small-a = simp length-set (omega (arith, d .size, r .few))
+      here : Follow-of p (tree p r i) (f i)
+      here = d i h (known-line i h)
 
-    handed : (k : Node) → Below i k → Follow-of p (made (label-of p r i) (tree p r) k) f → Handed k
-    unfolding Handed Right
-    handed (Leaf-node x) b g = (λ q y. y, λ q e. absurd (false≢true e), d .size)
-    handed (Sequence x y) b g =
-        two x y (before-second y (front-at us y) f) f (b .0) (b .1) (to-first (front-at us y) y (tree-index y (omega (arith, b .1))) (fronts y (omega (arith, b .1))) g) (to-second g)
-    handed (Alternative x y) b g = two x y f f (b .0) (b .1) (to-left g) (to-right g)
-    handed (Star x) b g =
-        let v = to-round (front-at us x) (fronts x (omega arith)) g in
-        let small : x < length fs = omega (arith, d .size, r .few) in (
-          λ q y. put-right fs x (before-round i (front-at us x) f) small v q y,
-          λ q e. ⊎-elim (λ y. subst (Right (down-line us i (Star x) fs)) (eqb-eq x q y) (put-here fs x (before-round i (front-at us x) f) small v)) (λ y. absurd (false≢true (y .1))) (or-cases (eqb x q) false e),
-          simp length-set (d .size),
-        )
+      whole : Follow-of p (made (label-of p r i) (tree p r) (node-at p i)) (f i)
+      whole = subst (λ t. Follow-of p t (f i)) (line-tree p r i h) here
 
-    pub down-next : Down i (down-line us i (node-at p i) fs)
-    unfolding Handed Right
-    down-next =
-        let g = subst (λ t. Follow-of p t f) (line-tree p r i h) (d .right i h (known-line i h)) in
-        let (stay, new, size) = handed (node-at p i) (r .lower i h) g in
-        record { size = size; right = λ l k n. go stay new l k n }
-      where
-        named : ((q : ℕ) → Right fs q → Right (down-line us i (node-at p i) fs) q) → ((q : ℕ) → member q (parts (node-at p i)) ≡ true → Right (down-line us i (node-at p i) fs) q)
-            → (l : ℕ) → l < p .count → (n : Named p i l) → Dec (i < n .line) → Right (down-line us i (node-at p i) fs) l
-        named stay new l k n (yes y) = stay l (d .right l k (inr (record { line = n .line; from = y; inside = n .inside; names = n .names })))
-        named stay new l k n (no y) = let e : n .line ≡ i = omega (arith, n .from) in new l (ap (λ x. member l (parts (node-at p x))) (sym e) ∙ n .names)
+      named : (l ≡ first → ⊥) → (l ≡ second → ⊥) → (m : Named p i l) → Dec (i < m .line) → Follow-of p (tree p r l) (f l)
+      named a b m (yes y) = d l k (inr (record { line = m .line; from = y; inside = m .inside; names = m .names }))
+      named a b m (no y) =
+          let e : m .line ≡ i = omega (arith, m .from) in
+          absurd (⊎-elim a b (part-is i l (node-at p i) (ap (λ x. member l (parts (node-at p x))) (sym e) ∙ m .names)))
 
-        go : ((q : ℕ) → Right fs q → Right (down-line us i (node-at p i) fs) q) → ((q : ℕ) → member q (parts (node-at p i)) ≡ true → Right (down-line us i (node-at p i) fs) q)
-            → (l : ℕ) → l < p .count → Known i l → Right (down-line us i (node-at p i) fs) l
-        go stay new l k (inl e) = stay l (d .right l k (inl e))
-        go stay new l k (inr n) = named stay new l k n (decLt i (n .line))
+      before : (l ≡ first → ⊥) → (l ≡ second → ⊥) → Known i l → Follow-of p (tree p r l) (f l)
+      before a b (inl e) = d l k (inl e)
+      before a b (inr m) = named a b m (decLt i (m .line))
+
+      go : Dec (l ≡ first) → Dec (l ≡ second) → Follow-of p (tree p r l) (g l)
+      go (yes a) b =
+          subst (λ x. Follow-of p (tree p r x) (g x)) (sym a) (subst (Follow-of p (tree p r first)) (sym (s .first)) (first-right u fronts i h (f i) (node-at p i) (r .lower i h) here whole))
+      go (no a) (yes b) =
+          let ne : second ≡ first → ⊥ = λ e. a (b ∙ e) in
+          subst (λ x. Follow-of p (tree p r x) (g x)) (sym b) (subst (Follow-of p (tree p r second)) (sym (s .second ne)) (second-right u fronts i h (f i) (node-at p i) (r .lower i h) here whole ne))
+      go (no a) (no b) = subst (Follow-of p (tree p r l)) (sym (s .other l a b)) (before a b n)
 
   -- when all lines have been passed every line is known
-  pub down-end : (fs : List Follow) → Down 0 fs → (l : ℕ) → l < p .count → Follow-of p (tree p r l) (follow-at fs l)
-  down-end fs d l h = d .right l h (go (known-line l h))
+  pub down-end : (ss zs os : List ℕ) (es : List Bool) → Down 0 ss zs os es → (l : ℕ) → l < p .count → Follow-of p (tree p r l) (follow-at ss zs os es l)
+  down-end ss zs os es d l h = d .right l h (go (known-line l h))
     where
       go : Known (suc l) l → Known 0 l
       go (inl e) = inl e
@@ -218,20 +257,37 @@ module _ (p : Pattern) (r : Rules p) where
   followed-of l f h d = record { node = record { tree = tree p r l; place = d .place; is = tree-index l h }; is = d .states }
 
   -- ---- as the loops have it
-  pub fronts-start : (us : List Front) → Fronts p r 0 us
-  fronts-start us l h = absurd (omega arith)
+  pub fronts-start : (xs : List ℕ) (ns : List Bool) → length xs ≡ 64 → length ns ≡ 64 → Fronts p r 0 xs ns
+  fronts-start xs ns a b = record { firsts-long = a; nulls-long = b; right = λ l h. absurd (omega arith) }
 
-  pub fronts-next : (i : ℕ) (us : List Front) (v : Front) → i < p .count → length us ≡ 64 → Fronts p r i us → v ≡ front-line us i (node-at p i) → Fronts p r (i + 1) (set us i v)
-  fronts-next i us v h n f e l k = go (decLt l i)
+  pub fronts-next : (i : ℕ) (xs : List ℕ) (ns : List Bool) (v : Front) → i < p .count → Fronts p r i xs ns
+      → v ≡ front-line i (node-at p i) (front-at xs ns (first-part i (node-at p i))) (front-at xs ns (second-part i (node-at p i)))
+      → Fronts p r (i + 1) (set xs i (v .first)) (set ns i (v .null))
+  fronts-next i xs ns v h f e = record { firsts-long = simp length-set (f .firsts-long); nulls-long = simp length-set (f .nulls-long); right = λ l k. go l k (decLt l i) }
     where
-      go : Dec (l < i) → Front-of (tree p r l) (front-at (set us i v) l)
-      go (yes y) = subst (Front-of (tree p r l)) (sym (getD-set-other us i l v blank-front (λ x. omega arith))) (f l y)
-      go (no y) =
-          let q : i ≡ l = omega arith in
-          subst (λ x. Front-of (tree p r x) (front-at (set us i v) x)) q
-          (subst (Front-of (tree p r i)) (sym e ∙ sym (getD-set-same us i v blank-front (omega (arith, r .few)))) (front-line-of p r i us h f))
+      new : ℕ → Front
+      new = front-at (set xs i (v .first)) (set ns i (v .null))
 
-  pub down-back : (us : List Front) (i : ℕ) (fs gs : List Follow) → Fronts p r (p .count) us → 0 < i → i ≤ p .count → Down i fs → gs ≡ down-line us (i - 1) (node-at p (i - 1)) fs → Down (i - 1) gs
-  down-back us i fs gs f o h d e =
-      let q : i ≡ suc (i - 1) = omega arith in
-      subst (Down (i - 1)) (sym e) (down-next us f (i - 1) (omega arith) fs (subst (λ x. Down x fs) q d))
+      go : (l : ℕ) → l < i + 1 → Dec (l < i) → Front-of (tree p r l) (front-at (set xs i (v .first)) (set ns i (v .null)) l)
+      go l k (yes y) =
+          subst (Front-of (tree p r l)) (sym (front-same (getD-set-other xs i l (v .first) 0 (λ x. omega arith)) (getD-set-other ns i l (v .null) false (λ x. omega arith)))) (f .right l y)
+      go l k (no y) =
+          let q : i ≡ l = omega arith in
+          subst (λ x. Front-of (tree p r x) (front-at (set xs i (v .first)) (set ns i (v .null)) x)) q
+          (subst (Front-of (tree p r i)) (sym e ∙ sym (front-same (getD-set-same xs i (v .first) 0 (omega (arith, r .few, f .firsts-long))) (getD-set-same ns i (v .null) false (omega (arith, r .few, f .nulls-long))))) (front-line-of p r i (front-at xs ns) h (f .right)))
+
+  pub down-back : {ss zs os ts ys ps vs ws qs : List ℕ} {es fs gs : List Bool} {w : Follow} (xs : List ℕ) (ns : List Bool) (i : ℕ) → Fronts p r (p .count) xs ns → 0 < i → i ≤ p .count → Down i ss zs os es
+      → (a b : ℕ) → a ≡ second-part (i - 1) (node-at p (i - 1)) → b ≡ first-part (i - 1) (node-at p (i - 1))
+      → Stored ss zs os es a (follow-at ss zs os es (i - 1)) ts ys ps fs → Stored ts ys ps fs b w vs ws qs gs
+      → w ≡ to-first (i - 1) (front-at xs ns a) (node-at p (i - 1)) (follow-at ss zs os es (i - 1)) → Down (i - 1) vs ws qs gs
+  down-back {ss} {zs} {os} {ts} {ys} {ps} {vs} {ws} {qs} {es} {fs} {gs} {w} xs ns i f o h d a b ea eb s t e = record {
+    sized = stored-sized t (stored-sized s (d .sized));
+    right = down-next (front-at xs ns) (f .right) (i - 1) (omega arith) (follow-at ss zs os es) (follow-at vs ws qs gs) (λ l k n. d .right l k (subst (λ x. Known x l) q n)) handed;
+  }
+    where
+      q : suc (i - 1) ≡ i
+      q = omega arith
+
+      handed : Handed (i - 1) (node-at p (i - 1)) (front-at xs ns (second-part (i - 1) (node-at p (i - 1)))) (follow-at ss zs os es) (follow-at vs ws qs gs)
+      handed = handed-on (i - 1) (node-at p (i - 1)) (front-at xs ns (second-part (i - 1) (node-at p (i - 1)))) (omega (arith, r .few)) (r .lower (i - 1) (omega arith)) (d .sized)
+          (rw ea at s) (rw eb at t) (rw ea at e)

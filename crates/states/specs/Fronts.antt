@@ -6,9 +6,8 @@ use mathlib.Core.List.{List}
 use Prim.Native.Nat.{ℕ, zero, _-_, _*_, _^_, _<_}
 use lib.Dec.{eqb}
 use lib.Bits.{bitOr}
-use lib.ListN.{getD, set}
+use lib.ListN.{length, getD}
 use lib.Pow.{pow-pos}
-use lib.Seq.{set-set, set-getD}
 use native.Mathlib.Omega.{arith}
 use Rattle.syntax.specs.declared.Leaf.{Leaf}
 use Rattle.syntax.specs.declared.Leaf.the-variants.{Nothing, Letter, Range}
@@ -32,11 +31,9 @@ use Rattle.states.specs.Unions.{pick, pick-bit}
 use Rattle.states.specs.Steps.{state-index}
 
 -- ---- going up
-abbrev pub blank-front : Front
-blank-front = record { first = 0; null = false }
-
-abbrev pub front-at : List Front → ℕ → Front
-front-at fs q = getD fs q blank-front
+-- the front of a line, from two arrays: the sets of leaves, and whether lines come through
+abbrev pub front-at : List ℕ → List Bool → ℕ → Front
+front-at xs ns l = record { first = getD xs l 0; null = getD ns l false }
 
 abbrev pub leaf-front : (index : ℕ) → Leaf → Front
 leaf-front i Nothing = record { first = 0; null = true }
@@ -53,11 +50,12 @@ either-of a b = record { first = bitOr (a .first) (b .first); null = a .null || 
 abbrev pub rounds-of : Front → Front
 rounds-of a = record { first = a .first; null = true }
 
-abbrev pub front-line : List Front → (index : ℕ) → Node → Front
-front-line fs i (Leaf-node x) = leaf-front i x
-front-line fs i (Sequence p q) = in-turn (front-at fs p) (front-at fs q)
-front-line fs i (Alternative p q) = either-of (front-at fs p) (front-at fs q)
-front-line fs i (Star p) = rounds-of (front-at fs p)
+-- the front of a line, from those of its parts
+abbrev pub front-line : (index : ℕ) → Node → Front → Front → Front
+front-line i (Leaf-node x) a b = leaf-front i x
+front-line i (Sequence p q) a b = in-turn a b
+front-line i (Alternative p q) a b = either-of a b
+front-line i (Star p) a b = rounds-of a
 
 -- a front is that of a tree: the leaves that it comes to by empty steps inside it, and whether it comes through
 pub record Front-of (t : Tree) (f : Front) : Type 0 where
@@ -65,15 +63,13 @@ pub record Front-of (t : Tree) (f : Front) : Type 0 where
   pub nulls : f .null ≡ reach nowhere t true
 
 -- ---- going down
-abbrev pub blank-follow : Follow
-blank-follow = record { state = 0; zero = 0; one = 0; end = false }
-
 -- what follows the root: the end
 abbrev pub end-follow : Follow
 end-follow = record { state = 64; zero = 0; one = 0; end = true }
 
-abbrev pub follow-at : List Follow → ℕ → Follow
-follow-at fs q = getD fs q blank-follow
+-- what follows a line, from four arrays
+abbrev pub follow-at : (states zeros ones : List ℕ) → (ends : List Bool) → ℕ → Follow
+follow-at ss zs os es l = record { state = getD ss l 0; zero = getD zs l 0; one = getD os l 0; end = getD es l false }
 
 -- what follows the first part of a sequence: the second, and what follows that where it can be empty
 abbrev pub before-second : (second : ℕ) → Front → Follow → Follow
@@ -87,12 +83,6 @@ before-second q b f = record {
 -- what follows the child of a star: the star, with flag 1 only
 abbrev pub before-round : (star : ℕ) → Front → Follow → Follow
 before-round i a f = record { state = i; zero = 0; one = bitOr (a .first) (f .one); end = f .end }
-
-abbrev pub down-line : List Front → (index : ℕ) → Node → List Follow → List Follow
-down-line us i (Leaf-node x) fs = fs
-down-line us i (Sequence p q) fs = set (set fs q (follow-at fs i)) p (before-second q (front-at us q) (follow-at fs i))
-down-line us i (Alternative p q) fs = set (set fs q (follow-at fs i)) p (follow-at fs i)
-down-line us i (Star p) fs = set fs p (before-round i (front-at us p) (follow-at fs i))
 
 -- the parts of a line: a star has one, and a leaf stands for its own
 abbrev pub first-part : (index : ℕ) → Node → ℕ
@@ -114,18 +104,6 @@ to-first i b (Sequence p q) f = before-second q b f
 to-first i b (Alternative p q) f = f
 to-first i b (Star p) f = before-round i b f
 
--- a line hands on by two stores
-pub down-stores : (us : List Front) (i : ℕ) (n : Node) (fs : List Follow)
-    → set (set fs (second-part i n) (follow-at fs i)) (first-part i n) (to-first i (front-at us (second-part i n)) n (follow-at fs i)) ≡ down-line us i n fs
-down-stores us i (Leaf-node x) fs = set-set fs i (follow-at fs i) (follow-at fs i) ∙ set-getD fs i blank-follow
-down-stores us i (Sequence p q) fs = refl
-down-stores us i (Alternative p q) fs = refl
-down-stores us i (Star p) fs = set-set fs p (follow-at fs i) (before-round i (front-at us p) (follow-at fs i))
-
-pub down-stored : (us : List Front) (i : ℕ) (n : Node) (fs : List Follow) (q p : ℕ) (b : Follow) → q ≡ second-part i n → p ≡ first-part i n → b ≡ to-first i (front-at us q) n (follow-at fs i)
-    → set (set fs q (follow-at fs i)) p b ≡ down-line us i n fs
-down-stored us i n fs q p b eq ep eb = rw (eb, ep, eq) (down-stores us i n fs)
-
 pub parts-inside : (i : ℕ) (n : Node) → i < 64 → Below i n → (first-part i n < 64) × (second-part i n < 64)
 parts-inside i (Leaf-node x) h b = (h, h)
 parts-inside i (Sequence p q) h b = (omega (arith, b .0), omega (arith, b .1))
@@ -144,9 +122,9 @@ pub record Follow-of (p : Pattern) (t : Tree) (f : Follow) : Type 0 where
 pub front-same : {x y : ℕ} {u v : Bool} → x ≡ y → u ≡ v → _≡_ {A = Front} (record { first = x; null = u }) (record { first = y; null = v })
 front-same e f = ap₂ (λ a b. record { first = a; null = b }) e f
 
-pub follow-same : {s x y z w : ℕ} {u v : Bool} → x ≡ y → z ≡ w → u ≡ v
-    → _≡_ {A = Follow} (record { state = s; zero = x; one = z; end = u }) (record { state = s; zero = y; one = w; end = v })
-follow-same {s} e f g = rw (e, f, g) refl
+pub follow-same : {s r x y z w : ℕ} {u v : Bool} → s ≡ r → x ≡ y → z ≡ w → u ≡ v
+    → _≡_ {A = Follow} (record { state = s; zero = x; one = z; end = u }) (record { state = r; zero = y; one = w; end = v })
+follow-same d e f g = rw (d, e, f, g) refl
 
 -- what is behind counts where the node comes through
 pub nowhere-through : (t : Tree) (v : Bool) → reach nowhere t v ≡ (reach nowhere t true && v)
@@ -213,15 +191,19 @@ module _ (p : Pattern) (r : Rules p) where
   pub line-tree : (i : ℕ) → i < p .count → tree i ≡ made (label-of i) tree (node-at p i)
   line-tree i h = tree-line (line-at p) i (r .lower i h)
 
-  -- the fronts of all lines below i
-  abbrev pub Fronts : (i : ℕ) → List Front → Type 0
-  Fronts i us = (l : ℕ) → l < i → Front-of (tree l) (front-at us l)
+  -- the fronts of all lines below i, in two arrays
+  pub record Fronts (i : ℕ) (xs : List ℕ) (ns : List Bool) : Type 0 where
+    pub firsts-long : length xs ≡ 64
+    pub nulls-long : length ns ≡ 64
+    pub right : (l : ℕ) → l < i → Front-of (tree l) (front-at xs ns l)
 
-  pub front-line-of : (i : ℕ) (us : List Front) → i < p .count → Fronts i us → Front-of (tree i) (front-line us i (node-at p i))
-  front-line-of i us h f = subst (λ t. Front-of t (front-line us i (node-at p i))) (sym (line-tree i h)) (go (node-at p i) (r .lower i h))
+  pub front-line-of : (i : ℕ) (u : ℕ → Front) → i < p .count → ((l : ℕ) → l < i → Front-of (tree l) (u l))
+      → Front-of (tree i) (front-line i (node-at p i) (u (first-part i (node-at p i))) (u (second-part i (node-at p i))))
+  front-line-of i u h f =
+      subst (λ t. Front-of t (front-line i (node-at p i) (u (first-part i (node-at p i))) (u (second-part i (node-at p i))))) (sym (line-tree i h)) (go (node-at p i) (r .lower i h))
     where
-      go : (k : Node) → Below i k → Front-of (made (label-of i) tree k) (front-line us i k)
+      go : (k : Node) → Below i k → Front-of (made (label-of i) tree k) (front-line i k (u (first-part i k)) (u (second-part i k)))
       go (Leaf-node x) b = leaf-front-of (label-of i) tree x
-      go (Sequence x y) b = in-turn-of (label-of i) (tree x) (tree y) (front-at us x) (front-at us y) (f x (b .0)) (f y (b .1))
-      go (Alternative x y) b = either-front-of (label-of i) (tree x) (tree y) (front-at us x) (front-at us y) (f x (b .0)) (f y (b .1))
-      go (Star x) b = rounds-front-of (label-of i) false (tree x) (front-at us x) (f x b)
+      go (Sequence x y) b = in-turn-of (label-of i) (tree x) (tree y) (u x) (u y) (f x (b .0)) (f y (b .1))
+      go (Alternative x y) b = either-front-of (label-of i) (tree x) (tree y) (u x) (u y) (f x (b .0)) (f y (b .1))
+      go (Star x) b = rounds-front-of (label-of i) false (tree x) (u x) (f x b)

@@ -26,9 +26,6 @@ use Rattle.bits.specs.Words.{word-lt, word-bit}
 use Rattle.semantics.specs.Basics.{eqb-eq, or-cases}
 use Rattle.semantics.specs.Automaton.{Location, top, fst, snd, lft, rgt, rnd}
 use Rattle.semantics.specs.Sweeps.{at-end}
-use Rattle.states.specs.declared.fronts.Front.{Front}
-use Rattle.states.specs.declared.follows.Follow.{Follow}
-use Rattle.states.specs.declared.masks.Rows.{Rows}
 use Rattle.states.specs.Nodes.{index, has, Predicate, node-word, index-lt, word-is, word-past-last}
 use Rattle.states.specs.Closure.{passes, reaches, nowhere, leaf-mask, end-mask}
 use Rattle.states.specs.Unions.{pick, union}
@@ -36,24 +33,13 @@ use Rattle.states.specs.StateSets.{state-set, words}
 use Rattle.states.specs.StateLaws.{root-planted, same-node}
 use Rattle.states.specs.Steps.{Followed, behind, takes, takers, live, entry, step-of, state-step, state-end}
 use Rattle.states.specs.Sweep.{first-one, put, sweep-of}
-use Rattle.states.specs.Fronts.{front-at, Fronts, follow-at, behind-bit, nowhere-through, tree, label-of, line-tree}
+use Rattle.states.specs.Fronts.{front-at, Fronts, follow-at, Follow-of, behind-bit, nowhere-through, tree, label-of, line-tree}
 use Rattle.states.specs.Follows.{Down, down-end, tree-index}
 
 -- ---- arrays that are filled from the front
 pub record Filled {A : Type 0} (d : A) (f : ℕ → A) (size i : ℕ) (xs : List A) : Type 0 where
   pub long : length xs ≡ size
   pub cells : (l : ℕ) → l < i → getD xs l d ≡ f l
-
-module _ {A : Type 0} (d : A) (f : ℕ → A) (size : ℕ) where
-  pub filled-start : (xs : List A) → length xs ≡ size → Filled d f size 0 xs
-  filled-start xs h = record { long = h; cells = λ l k. absurd (omega arith) }
-
-  pub filled-next : (i : ℕ) (xs : List A) (v : A) → i < size → Filled d f size i xs → v ≡ f i → Filled d f size (i + 1) (set xs i v)
-  filled-next i xs v h g e = record { long = simp length-set (g .long); cells = λ l k. go l k (decLt l i) }
-    where
-      go : (l : ℕ) → l < i + 1 → Dec (l < i) → getD (set xs i v) l d ≡ f l
-      go l k (yes y) = getD-set-other xs i l v d (λ x. omega arith) ∙ g .cells l y
-      go l k (no y) = let q : i ≡ l = omega arith in ap (λ x. getD (set xs i v) x d) (sym q) ∙ getD-set-same xs i v d (omega (arith, g .long)) ∙ e ∙ ap f q
 
 -- a word that is filled from bit 0 on
 pub word-next : (i : ℕ) (f : ℕ → Bool) (x v : ℕ) → x ≡ word-of i f → v ≡ bit (f i) * 2 ^ i → v + x ≡ word-of (i + 1) f
@@ -67,46 +53,17 @@ word-start f = refl
 pub word-fits : (i : ℕ) (f : ℕ → Bool) (x v : ℕ) → i < 64 → x ≡ word-of i f → v ≡ bit (f i) * 2 ^ i → v + x < 2 ^ 64
 word-fits i f x v h e g = omega (arith, word-next i f x v e g, word-lt (i + 1) f, pow-mono (let k : i + 1 ≤ 64 = omega arith in k))
 
--- ---- rows: for each node the leaves that it comes to
-abbrev pub row-zero : List Front → List Follow → ℕ → ℕ
-row-zero us fs l = bitOr (front-at us l .first) (pick (front-at us l .null) (follow-at fs l .zero))
+-- ---- rows: for each node the leaves that it comes to with a flag, those inside it and those behind it
+abbrev pub row : (firsts : List ℕ) → (nulls : List Bool) → (behind : List ℕ) → ℕ → ℕ
+row xs ns ks l = bitOr (entry xs l) (pick (getD ns l false) (entry ks l))
 
-abbrev pub row-one : List Front → List Follow → ℕ → ℕ
-row-one us fs l = bitOr (front-at us l .first) (pick (front-at us l .null) (follow-at fs l .one))
-
-abbrev pub row-state : List Follow → ℕ → ℕ
-row-state fs l = follow-at fs l .state
-
-abbrev pub row-end : List Front → List Follow → ℕ → Bool
-row-end us fs l = front-at us l .null && follow-at fs l .end
-
-pub record Rows-of (count : ℕ) (us : List Front) (fs : List Follow) (r : Rows) : Type 0 where
-  pub zeros : Filled 0 (row-zero us fs) 64 count (r .zero)
-  pub ones : Filled 0 (row-one us fs) 64 count (r .one)
-  pub states : Filled 0 (row-state fs) 64 count (r .followers)
-  pub ends : r .end ≡ word-of count (row-end us fs)
-
-module _ (us : List Front) (fs : List Follow) where
-  pub rows-start : Rows-of 0 us fs (record { zero = replicate 64 0; one = replicate 64 0; followers = replicate 64 0; end = 0 })
-  rows-start = record {
-    zeros = filled-start 0 (row-zero us fs) 64 (replicate 64 0) refl;
-    ones = filled-start 0 (row-one us fs) 64 (replicate 64 0) refl;
-    states = filled-start 0 (row-state fs) 64 (replicate 64 0) refl;
-    ends = word-start (row-end us fs);
-  }
-
-  pub rows-next : (i : ℕ) (r : Rows) (a b s e : ℕ) → i < 64 → Rows-of i us fs r → a ≡ row-zero us fs i → b ≡ row-one us fs i → s ≡ row-state fs i → e ≡ bit (row-end us fs i) * 2 ^ i
-      → Rows-of (i + 1) us fs (record { zero = set (r .zero) i a; one = set (r .one) i b; followers = set (r .followers) i s; end = e + r .end })
-  rows-next i r a b s e h g x y z w = record {
-    zeros = filled-next 0 (row-zero us fs) 64 i (r .zero) a h (g .zeros) x;
-    ones = filled-next 0 (row-one us fs) 64 i (r .one) b h (g .ones) y;
-    states = filled-next 0 (row-state fs) 64 i (r .followers) s h (g .states) z;
-    ends = word-next i (row-end us fs) (r .end) e (g .ends) w;
-  }
+-- whether a node comes to the end
+abbrev pub comes-to-end : (nulls ends : List Bool) → ℕ → Bool
+comes-to-end ns es l = getD ns l false && getD es l false
 
 -- ---- columns: for each leaf the nodes that come to it
-abbrev pub column : (count : ℕ) → (rows : List ℕ) → (leaf : ℕ) → ℕ
-column n rows x = word-of n (λ l. test-bit (entry rows l) x)
+abbrev pub column : (count : ℕ) → (rows : ℕ → ℕ) → (leaf : ℕ) → ℕ
+column n rows x = word-of n (λ l. test-bit (rows l) x)
 
 -- ---- the leaves that take a letter, by the lines
 abbrev pub leaf-takes : Leaf → ℕ → Bool
@@ -175,29 +132,31 @@ module _ (p : Pattern) (r : Rules p) where
       go m f (Alternative a b) = refl
       go m f (Star a) = refl
 
-  module _ (us : List Front) (fs : List Follow) (fronts : Fronts p r (p .count) us) (down : Down p r 0 fs) where
+  module _ (xs : List ℕ) (ns : List Bool) (ss zs os : List ℕ) (es : List Bool) (fronts : Fronts p r (p .count) xs ns) (down : Down p r 0 ss zs os es) where
+    -- what follows a line
+    after : (l : ℕ) → l < p .count → Follow-of p (tree p r l) (follow-at ss zs os es l)
+    after = down-end p r ss zs os es down
+
     -- what a node comes to, at the place where what follows it was found; so wherever it stands, since it stands once
-    row-reaches : (b : Bool) (l y k : ℕ) (h : l < p .count) → test-bit k y ≡ passes b (eqb y) false (down-end p r fs down l h .place)
-        → (s : Location (root p) (tree p r l)) → test-bit (bitOr (front-at us l .first) (pick (front-at us l .null) k)) y ≡ reaches b (eqb y) false (tree p r l) s
+    row-reaches : (b : Bool) (l y k : ℕ) (h : l < p .count) → test-bit k y ≡ passes b (eqb y) false (after l h .place)
+        → (s : Location (root p) (tree p r l)) → test-bit (bitOr (entry xs l) (pick (getD ns l false) k)) y ≡ reaches b (eqb y) false (tree p r l) s
     row-reaches b l y k h e s =
-        behind-bit (eqb y) (tree p r l) (front-at us l) k y (passes b (eqb y) false (down-end p r fs down l h .place)) (fronts l h .firsts y) (fronts l h .nulls) e
-        ∙ same-node (root-planted p r) (reaches b (eqb y) false) (tree p r l) (tree p r l) (down-end p r fs down l h .place) s refl
+        behind-bit (eqb y) (tree p r l) (front-at xs ns l) k y (passes b (eqb y) false (after l h .place)) (fronts .right l h .firsts y) (fronts .right l h .nulls) e
+        ∙ same-node (root-planted p r) (reaches b (eqb y) false) (tree p r l) (tree p r l) (after l h .place) s refl
 
-    pub column-zero : (rows : List ℕ) → Filled 0 (row-zero us fs) 64 (p .count) rows → (x : ℕ) → column (p .count) rows x ≡ leaf-mask (root p) (p .count) false x
+    pub column-zero : (x : ℕ) → column (p .count) (row xs ns zs) x ≡ leaf-mask (root p) (p .count) false x
     unfolding leaf-mask
-    column-zero rows g x = word-by-lines (reaches false (eqb x) false) (λ l. test-bit (entry rows l) x)
-        (λ l h s. ap (λ z. test-bit z x) (g .cells l h) ∙ row-reaches false l x (follow-at fs l .zero) h (down-end p r fs down l h .zeros x) s)
+    column-zero x = word-by-lines (reaches false (eqb x) false) (λ l. test-bit (row xs ns zs l) x) (λ l h s. row-reaches false l x (entry zs l) h (after l h .zeros x) s)
 
-    pub column-one : (rows : List ℕ) → Filled 0 (row-one us fs) 64 (p .count) rows → (x : ℕ) → column (p .count) rows x ≡ leaf-mask (root p) (p .count) true x
+    pub column-one : (x : ℕ) → column (p .count) (row xs ns os) x ≡ leaf-mask (root p) (p .count) true x
     unfolding leaf-mask
-    column-one rows g x = word-by-lines (reaches true (eqb x) false) (λ l. test-bit (entry rows l) x)
-        (λ l h s. ap (λ z. test-bit z x) (g .cells l h) ∙ row-reaches true l x (follow-at fs l .one) h (down-end p r fs down l h .ones x) s)
+    column-one x = word-by-lines (reaches true (eqb x) false) (λ l. test-bit (row xs ns os l) x) (λ l h s. row-reaches true l x (entry os l) h (after l h .ones x) s)
 
-    pub row-ends : word-of (p .count) (row-end us fs) ≡ end-mask (root p) (p .count) true
+    pub row-ends : word-of (p .count) (comes-to-end ns es) ≡ end-mask (root p) (p .count) true
     unfolding end-mask
-    row-ends = word-by-lines (reaches true nowhere true) (row-end us fs) (λ l h s.
-        ap₂ (λ x z. x && z) (fronts l h .nulls) (down-end p r fs down l h .ends) ∙ sym (nowhere-through (tree p r l) (passes true nowhere true (down-end p r fs down l h .place)))
-        ∙ same-node (root-planted p r) (reaches true nowhere true) (tree p r l) (tree p r l) (down-end p r fs down l h .place) s refl)
+    row-ends = word-by-lines (reaches true nowhere true) (comes-to-end ns es) (λ l h s.
+        ap₂ (λ x z. x && z) (fronts .right l h .nulls) (after l h .ends) ∙ sym (nowhere-through (tree p r l) (passes true nowhere true (after l h .place)))
+        ∙ same-node (root-planted p r) (reaches true nowhere true) (tree p r l) (tree p r l) (after l h .place) s refl)
 
 -- ---- the masks of a pattern, stored
 pub record Masks-of (p : Pattern) (zs os fs ks : List ℕ) (e : ℕ) : Type 0 where

@@ -11,7 +11,7 @@ use lib.Count.{trailingZeros}
 use lib.Pow.{pow-pos}
 use lib.ListN.{length, getD, set, length-set, replicate, length-replicate}
 use lib.Seq.{getD-set-same, getD-set-other}
-use borrow.Author.Tests.{lt-ltb, le-ltb, leb-true, le-leb, lt-leb, ne-eqb, eqb-true, eqb-false}
+use borrow.Author.Tests.{lt-ltb, le-ltb, leb-true, le-leb, lt-leb, ne-eqb}
 use Rattle.syntax.specs.declared.Leaf.{Leaf}
 use Rattle.syntax.specs.declared.Leaf.the-variants.{Nothing, Letter, Range}
 use Rattle.syntax.specs.declared.Node.{Node}
@@ -24,6 +24,7 @@ use Rattle.bits.specs.Bits.{bit, test-bit, word-of}
 use Rattle.bits.specs.Numbers.{test-small}
 use Rattle.bits.specs.Words.{word-bit, word-past, test-or, test-single}
 use Rattle.semantics.specs.Basics.{eqb-self, and-fst, and-snd}
+use Rattle.states.specs.Unions.{equal}
 use Rattle.states.specs.Steps.{entry}
 use Rattle.states.specs.Joining.{same-bits, lowest-lt, lowest-on, lowest-cleared, lowest-out}
 use Rattle.states.specs.Masks.{Filled, column, leaf-takes, node-takes, line-takers}
@@ -37,13 +38,6 @@ pub record Marked (chosen : ℕ → Bool) (i : ℕ) (before now : List ℕ) : Ty
 pub record Marking (chosen : ℕ → Bool) (i : ℕ) (before : List ℕ) (rest : ℕ → Bool) (now : List ℕ) : Type 0 where
   pub long : length now ≡ length before
   pub together : (x : ℕ) → x < length before → (l : ℕ) → (test-bit (entry now x) l || (rest x && eqb i l)) ≡ (test-bit (entry before x) l || (chosen x && eqb i l))
-
-pub equal : (m n : ℕ) → Dec (m ≡ n)
-equal m n = go (eqb m n) refl
-  where
-    go : (b : Bool) → eqb m n ≡ b → Dec (m ≡ n)
-    go true e = yes (eqb-true m n e)
-    go false e = no (eqb-false m n e)
 
 module _ (chosen : ℕ → Bool) (i : ℕ) (before : List ℕ) where
   pub marking-start : Marking chosen i before chosen before
@@ -272,5 +266,9 @@ takers-next p i cells now = scattered-next (λ l. node-takes (node-at p l)) 128 
 pub takers-end : (p : Pattern) (i : ℕ) (cells : List ℕ) → i ≡ p .count → Scattered (λ l. node-takes (node-at p l)) 128 i cells → Filled 0 (λ c. line-takers p c (p .count)) 128 128 cells
 takers-end p i cells e s = scattered-end (λ l. node-takes (node-at p l)) 128 (p .count) 128 cells (omega arith) (rw e at s)
 
-pub columns-end : (rows : List ℕ) (count i : ℕ) (cells : List ℕ) → count ≤ 64 → i ≡ count → Scattered (λ l. test-bit (entry rows l)) 64 i cells → Filled 0 (column count rows) 64 count cells
-columns-end rows count i cells h e s = scattered-end (λ l. test-bit (entry rows l)) 64 count count cells h (rw e at s)
+pub columns-next : (rows : ℕ → ℕ) (i w : ℕ) (cells now : List ℕ) → Scattered (λ l. test-bit (rows l)) 64 i cells → w ≡ rows i → Marked (test-bit w) i cells now
+    → Scattered (λ l. test-bit (rows l)) 64 (i + 1) now
+columns-next rows i w cells now s e m = scattered-next (λ l. test-bit (rows l)) 64 i cells now s (rw e at m)
+
+pub columns-end : (rows : ℕ → ℕ) (count i : ℕ) (cells : List ℕ) → count ≤ 64 → i ≡ count → Scattered (λ l. test-bit (rows l)) 64 i cells → Filled 0 (column count rows) 64 count cells
+columns-end rows count i cells h e s = scattered-end (λ l. test-bit (rows l)) 64 count count cells h (rw e at s)

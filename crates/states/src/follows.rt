@@ -3,7 +3,7 @@ ghost use mathlib.Core.Path.{_≡_};
 ghost use Prim.Native.Nat.{_<_};
 ghost use Rattle.syntax.specs.TreeLaws.{Rules};
 ghost use Rattle.states.specs.Fronts.{before-second, before-round, first-part, second-part, to-first, Fronts};
-ghost use Rattle.states.specs.Follows.{Down};
+ghost use Rattle.states.specs.Follows.{Sized, Stored, Down};
 use super::fronts::Front;
 use super::word::both;
 use super::word::join;
@@ -44,7 +44,7 @@ fn before_round(star: u8, front: Front, follow: Follow) -> Follow
 }
 
 // The parts of line i: a star has one, and a leaf stands for its own.
-fn first_part(node: Node, i: usize) -> usize
+pub fn first_part(node: Node, i: usize) -> usize
     ensures { λ r. ⌜ r ≡ first-part i node ⌝ }
 {
     match node {
@@ -55,7 +55,7 @@ fn first_part(node: Node, i: usize) -> usize
     }
 }
 
-fn second_part(node: Node, i: usize) -> usize
+pub fn second_part(node: Node, i: usize) -> usize
     ensures { λ r. ⌜ r ≡ second-part i node ⌝ }
 {
     match node {
@@ -79,29 +79,65 @@ fn to_first(node: Node, i: usize, front: Front, follow: Follow) -> Follow
     }
 }
 
-pub fn follows_of(pattern: Pattern, fronts: [Front; 64]) -> [Follow; 64]
-    requires { ⌜ Rules pattern × ((good : Rules pattern) → Fronts pattern good (pattern .count) fronts) ⌝ }
-    ensures { λ r. ⌜ ((good : Rules pattern) → Down pattern good 0 r) ⌝ }
+// Stores what follows line i.
+fn put_follow(
+    states: &mut [u8],
+    zeros: &mut [u64],
+    ones: &mut [u64],
+    ends: &mut [bool],
+    i: usize,
+    follow: Follow,
+)
+    requires { ⌜ (i < 64) × Sized (now states) (now zeros) (now ones) (now ends) ⌝ }
+    ensures { λ _.
+        ⌜ Stored (now (states .entry)) (now (zeros .entry)) (now (ones .entry)) (now (ends .entry)) i follow (now (states .exit)) (now (zeros .exit)) (now (ones .exit)) (now (ends .exit)) ⌝ }
 {
-    let blank = Follow {
+    states[i] = follow.state;
+    zeros[i] = follow.zero;
+    ones[i] = follow.one;
+    ends[i] = follow.end;
+}
+
+// What follows each line, into four lent arrays. The end follows the last line; each line hands on to its parts.
+pub fn put_follows(
+    p: Pattern,
+    firsts: &[u64],
+    nulls: &[bool],
+    states: &mut [u8],
+    zeros: &mut [u64],
+    ones: &mut [u64],
+    ends: &mut [bool],
+)
+    requires { ⌜ Rules p × ((good : Rules p) → Fronts p good (p .count) (now firsts) (now nulls)) × Sized (now states) (now zeros) (now ones) (now ends) ⌝ }
+    ensures { λ _.
+        ⌜ ((good : Rules p) → Down p good 0 (now (states .exit)) (now (zeros .exit)) (now (ones .exit)) (now (ends .exit))) ⌝ }
+{
+    let end = Follow {
         state: 64,
         zero: 0u64,
         one: 0u64,
         end: true,
     };
-    let mut follows = [blank; 64];
-    let mut i = pattern.count;
+    put_follow(states, zeros, ones, ends, p.count - 1, end);
+    let mut i = p.count;
     while 0 < i {
         i -= 1;
-        let line = pattern.lines[i];
+        let line = p.lines[i];
         let node = line.node;
-        let follow = follows[i];
-        let q = second_part(node, i);
-        let p = first_part(node, i);
-        let front = fronts[q];
+        let x = first_part(node, i);
+        let y = second_part(node, i);
+        let follow = Follow {
+            state: states[i],
+            zero: zeros[i],
+            one: ones[i],
+            end: ends[i],
+        };
+        let front = Front {
+            first: firsts[y],
+            null: nulls[y],
+        };
         let before = to_first(node, i, front, follow);
-        follows[q] = follow;
-        follows[p] = before;
+        put_follow(states, zeros, ones, ends, y, follow);
+        put_follow(states, zeros, ones, ends, x, before);
     }
-    follows
 }

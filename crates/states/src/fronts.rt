@@ -1,8 +1,11 @@
 // Going up: what each node comes to by empty steps inside itself.
 ghost use mathlib.Core.Path.{_≡_};
 ghost use Prim.Native.Nat.{_<_};
-ghost use Rattle.syntax.specs.TreeLaws.{Below, Rules};
+ghost use lib.ListN.{length};
+ghost use Rattle.syntax.specs.TreeLaws.{Rules};
 ghost use Rattle.states.specs.Fronts.{leaf-front, in-turn, either-of, front-line, Fronts};
+use super::follows::first_part;
+use super::follows::second_part;
 use super::word::both;
 use super::word::either;
 use super::word::join;
@@ -56,49 +59,44 @@ fn either_of(a: Front, b: Front) -> Front
     }
 }
 
-// The front of line i, from those of its parts.
-fn front_of(fronts: [Front; 64], node: Node, i: usize) -> Front
-    requires { ⌜ (i < 64) × Below i node ⌝ }
-    ensures { λ r. ⌜ r ≡ front-line fronts i node ⌝ }
+// The front of line i, from those of its first and second part.
+fn front_of(node: Node, i: usize, a: Front, b: Front) -> Front
+    requires { ⌜ i < 64 ⌝ }
+    ensures { λ r. ⌜ r ≡ front-line i node a b ⌝ }
 {
     match node {
         Node::Leaf(leaf) => leaf_front(leaf, i),
-        Node::Sequence(p, q) => {
-            let a = fronts[p as usize];
-            let b = fronts[q as usize];
-            in_turn(a, b)
-        }
-        Node::Alternative(p, q) => {
-            let a = fronts[p as usize];
-            let b = fronts[q as usize];
-            either_of(a, b)
-        }
-        Node::Star(p) => {
-            let a = fronts[p as usize];
-            Front {
-                first: a.first,
-                null: true,
-            }
-        }
+        Node::Sequence(_, _) => in_turn(a, b),
+        Node::Alternative(_, _) => either_of(a, b),
+        Node::Star(_) => Front {
+            first: a.first,
+            null: true,
+        },
     }
 }
 
-pub fn fronts_of(p: Pattern) -> [Front; 64]
-    requires { ⌜ Rules p ⌝ }
-    ensures { λ r. ⌜ ((good : Rules p) → Fronts p good (p .count) r) ⌝ }
+// The fronts of all lines, into two lent arrays: arrays of structs would be copied at each call.
+pub fn put_fronts(p: Pattern, firsts: &mut [u64], nulls: &mut [bool])
+    requires { ⌜ Rules p × (length (now firsts) ≡ 64) × (length (now nulls) ≡ 64) ⌝ }
+    ensures { λ _. ⌜ ((good : Rules p) → Fronts p good (p .count) (now (firsts .exit)) (now (nulls .exit))) ⌝ }
 {
-    let blank = Front {
-        first: 0,
-        null: false,
-    };
-    let mut fronts = [blank; 64];
     let mut i = 0;
     while i < p.count {
         let line = p.lines[i];
         let node = line.node;
-        let front = front_of(fronts, node, i);
-        fronts[i] = front;
+        let x = first_part(node, i);
+        let y = second_part(node, i);
+        let a = Front {
+            first: firsts[x],
+            null: nulls[x],
+        };
+        let b = Front {
+            first: firsts[y],
+            null: nulls[y],
+        };
+        let front = front_of(node, i, a, b);
+        firsts[i] = front.first;
+        nulls[i] = front.null;
         i += 1;
     }
-    fronts
 }

@@ -3,24 +3,25 @@ ghost use mathlib.Core.Path.{_≡_};
 ghost use Prim.Native.Nat.{_≤_, _<_};
 ghost use Rattle.bits.specs.Bits.{bit, in-front};
 ghost use Rattle.states.specs.StateSets.{words as words-of};
-ghost use Rattle.states.specs.Steps.{behind, entry, step-of};
+ghost use Rattle.states.specs.Steps.{behind, step-of};
 ghost use Rattle.states.specs.Sweep.{Sweepable, sweep-of};
 ghost use Rattle.states.specs.Memo.{Remembers};
 ghost use Rattle.syntax.specs.TreeLaws.{Rules};
 ghost use Rattle.states.specs.Masks.{Masks-of};
-ghost use Rattle.states.specs.Fill.{Fillable};
+ghost use Rattle.states.specs.Fill.{Blank, Fillable};
 
 mod fronts; // fronts.rt: what each node comes to inside itself
 mod follows; // follows.rt: what each node comes to behind itself
 mod masks; // masks.rt: the masks of a pattern
 mod word; // word.rt: bits of words
 
-use follows::follows_of;
-use fronts::fronts_of;
-use masks::all_takers;
-use masks::columns_of;
-use masks::rows_of;
+use follows::put_follows;
+use fronts::put_fronts;
+use masks::ends_of;
+use masks::put_columns;
+use masks::put_takers;
 use syntax::Pattern;
+use word::both;
 use word::single;
 use word::times;
 
@@ -28,16 +29,6 @@ use word::times;
 pub struct Words {
     pub zero: u64,
     pub one: u64,
-}
-
-// The masks of a pattern: by leaf the nodes that come to it, with flag 0 and with flag 1, and the leaf's follower; by letter the leaves
-// that take it; and the flag 1 state set of the tape's end.
-pub struct PatternMasks {
-    pub zero: [u64; 64],
-    pub one: [u64; 64],
-    pub followers: [u8; 64],
-    pub takers: [u64; 128],
-    pub end: u64,
 }
 
 // 1 if a state, a node or 64 for the end, is open at the next position with flag 1, else 0.
@@ -77,36 +68,37 @@ pub fn step(
     Words { zero: a, one: b }
 }
 
-// The step for a letter, from what was remembered of the last one where that was from the same state set. Three cells of the memo are the
-// letter's: the state set of the next position, and the two that the step gave.
+// A step from what was remembered of the last one in this slot, where that was for the same leaves and from the same state set. Four cells
+// of the memo are the slot's: the leaves, the state set of the next position, and the two that the step gave.
 fn recall(
     zero: &[u64; 64],
     one: &[u64; 64],
     followers: &[u8; 64],
-    takers: &[u64; 128],
-    c: usize,
+    takers: u64,
     next: u64,
     last: bool,
+    slot: usize,
     memo: &mut [u64],
 ) -> Words
-    requires { ⌜ (c < 128) × Remembers (now zero) (now one) (now followers) (now takers) (now memo) ⌝ }
+    requires { ⌜ (slot < 32) × Remembers (now zero) (now one) (now followers) (now memo) ⌝ }
     ensures { λ r.
-        ⌜ (r ≡ step-of (now (zero .entry)) (now (one .entry)) (now (followers .entry)) (entry (now (takers .entry)) c) next last) × Remembers (now (zero .entry)) (now (one .entry)) (now (followers .entry)) (now (takers .entry)) (now (memo .exit)) ⌝ }
+        ⌜ (r ≡ step-of (now (zero .entry)) (now (one .entry)) (now (followers .entry)) takers next last) × Remembers (now (zero .entry)) (now (one .entry)) (now (followers .entry)) (now (memo .exit)) ⌝ }
 {
     if last {
-        return step(zero, one, followers, takers[c], next, last);
+        return step(zero, one, followers, takers, next, last);
     }
-    let k = 3 * c;
-    if memo[k] == next {
+    let k = 4 * slot;
+    if both(memo[k] == takers, memo[k + 1] == next) {
         return Words {
-            zero: memo[k + 1],
-            one: memo[k + 2],
+            zero: memo[k + 2],
+            one: memo[k + 3],
         };
     }
-    let r = step(zero, one, followers, takers[c], next, last);
-    memo[k] = next;
-    memo[k + 1] = r.zero;
-    memo[k + 2] = r.one;
+    let r = step(zero, one, followers, takers, next, last);
+    memo[k] = takers;
+    memo[k + 1] = next;
+    memo[k + 2] = r.zero;
+    memo[k + 3] = r.one;
     r
 }
 
@@ -127,14 +119,23 @@ fn sweep(
     let n = tape.len();
     words[2 * n] = 0;
     words[2 * n + 1] = end;
-    let mut memo = [0u64; 384];
+    let mut memo = [0u64; 128];
     let mut next = end;
     let mut last = true;
     let mut i = n;
     while 0 < i {
         i -= 1;
         let c = tape[i] as usize;
-        let r = recall(zero, one, followers, takers, c, next, last, &mut memo);
+        let r = recall(
+            zero,
+            one,
+            followers,
+            takers[c],
+            next,
+            last,
+            c % 32,
+            &mut memo,
+        );
         words[2 * i] = r.zero;
         words[2 * i + 1] = r.one;
         next = r.one;
@@ -142,29 +143,37 @@ fn sweep(
     }
 }
 
-// The masks of a pattern, made once.
-pub fn masks_of(p: Pattern) -> PatternMasks
-    requires { ⌜ Rules p ⌝ }
-    ensures { λ r. ⌜ Masks-of p (r .zero) (r .one) (r .followers) (r .takers) (r .end) ⌝ }
+// The masks of a pattern, made once, into lent arrays. Gives the flag 1 state set of the tape's end.
+pub fn put_masks(
+    p: Pattern,
+    zero: &mut [u64],
+    one: &mut [u64],
+    followers: &mut [u8],
+    takers: &mut [u64],
+) -> u64
+    requires { ⌜ Rules p × Blank (now zero) (now one) (now followers) (now takers) ⌝ }
+    ensures { λ r. ⌜ Masks-of p (now (zero .exit)) (now (one .exit)) (now (followers .exit)) (now (takers .exit)) r ⌝ }
 {
     let count = p.count;
-    let fronts = fronts_of(p);
-    let follows = follows_of(p, fronts);
-    let rows = rows_of(count, fronts, follows);
-    let row_zero = rows.zero;
-    let row_one = rows.one;
-    let followers = rows.followers;
-    let end = rows.end;
-    let zero = columns_of(&row_zero, count);
-    let one = columns_of(&row_one, count);
-    let takers = all_takers(p);
-    PatternMasks {
-        zero,
-        one,
+    let mut firsts = [0u64; 64];
+    let mut nulls = [false; 64];
+    let mut zeros = [0u64; 64];
+    let mut ones = [0u64; 64];
+    let mut ends = [false; 64];
+    put_fronts(p, &mut firsts, &mut nulls);
+    put_follows(
+        p,
+        &firsts,
+        &nulls,
         followers,
-        takers,
-        end,
-    }
+        &mut zeros,
+        &mut ones,
+        &mut ends,
+    );
+    put_columns(count, &firsts, &nulls, &zeros, zero);
+    put_columns(count, &firsts, &nulls, &ones, one);
+    put_takers(p, takers);
+    ends_of(count, &nulls, &ends)
 }
 
 // THE FIRST SWEEP: fills words 2i and 2i + 1 with the state sets of position i, flag 0 and flag 1, for each position of the tape, its end
@@ -173,10 +182,10 @@ pub fn fill(p: Pattern, tape: &[u8], words: &mut [u64])
     requires { ⌜ Fillable p (now tape) (now words) ⌝ }
     ensures { λ _. ⌜ now (words .exit) ≡ in-front (words-of p (now (tape .entry))) (now (words .entry)) ⌝ }
 {
-    let masks = masks_of(p);
-    let zero = masks.zero;
-    let one = masks.one;
-    let followers = masks.followers;
-    let takers = masks.takers;
-    sweep(&zero, &one, &followers, &takers, masks.end, tape, words);
+    let mut zero = [0u64; 64];
+    let mut one = [0u64; 64];
+    let mut followers = [0u8; 64];
+    let mut takers = [0u64; 128];
+    let end = put_masks(p, &mut zero, &mut one, &mut followers, &mut takers);
+    sweep(&zero, &one, &followers, &takers, end, tape, words);
 }

@@ -3,57 +3,18 @@
 ghost use mathlib.Core.Path.{_≡_};
 ghost use mathlib.Core.Bool.{true};
 ghost use Prim.Native.Nat.{_<_, _≤_};
-ghost use lib.ListN.{length};
+ghost use lib.ListN.{length, replicate};
 ghost use Rattle.syntax.specs.Table.{leaf-good, node-good};
 ghost use Rattle.syntax.specs.TreeLaws.{Rules};
-ghost use Rattle.bits.specs.Bits.{test-bit};
-ghost use Rattle.states.specs.Masks.{Filled, Rows-of, column, leaf-takes, node-takes, line-takers};
+ghost use Rattle.bits.specs.Bits.{test-bit, word-of};
+ghost use Rattle.states.specs.Masks.{Filled, row, comes-to-end, column, leaf-takes, node-takes, line-takers};
 ghost use Rattle.states.specs.Scatter.{Marked, between};
-use super::follows::Follow;
-use super::fronts::Front;
 use super::word::both;
 use super::word::join;
 use super::word::single;
 use syntax::Leaf;
 use syntax::Node;
 use syntax::Pattern;
-
-// For each node the leaves that it comes to with flag 0 and with flag 1, and its follower; and the nodes that come to the end with flag 1.
-pub struct Rows {
-    pub zero: [u64; 64],
-    pub one: [u64; 64],
-    pub followers: [u8; 64],
-    pub end: u64,
-}
-
-pub fn rows_of(count: usize, fronts: [Front; 64], follows: [Follow; 64]) -> Rows
-    requires { ⌜ count ≤ 64 ⌝ }
-    ensures { λ r. ⌜ Rows-of count fronts follows r ⌝ }
-{
-    let mut zero = [0u64; 64];
-    let mut one = [0u64; 64];
-    let mut followers = [0u8; 64];
-    let mut end: u64 = 0;
-    let mut i = 0;
-    while i < count {
-        let front = fronts[i];
-        let follow = follows[i];
-        let a = join(front.first, follow.zero, front.null);
-        let b = join(front.first, follow.one, front.null);
-        let e = single(i, both(front.null, follow.end));
-        zero[i] = a;
-        one[i] = b;
-        followers[i] = follow.state;
-        end = e + end;
-        i += 1;
-    }
-    Rows {
-        zero,
-        one,
-        followers,
-        end,
-    }
-}
 
 // Joins the bit of line i to the cells of a row: those whose bits are set in it.
 fn put_row(cells: &mut [u64], row: u64, i: usize)
@@ -69,18 +30,35 @@ fn put_row(cells: &mut [u64], row: u64, i: usize)
     }
 }
 
-// For each leaf the nodes that come to it, from the leaves that each node comes to.
-pub fn columns_of(rows: &[u64; 64], count: usize) -> [u64; 64]
-    requires { ⌜ count ≤ 64 ⌝ }
-    ensures { λ r. ⌜ Filled 0 (column count (now (rows .entry))) 64 count r ⌝ }
+// For each leaf the nodes that come to it with a flag: each line's bit goes to the leaves that the line comes to, those inside it and, where
+// it can be empty, those behind it with that flag.
+pub fn put_columns(count: usize, firsts: &[u64], nulls: &[bool], behind: &[u64], cells: &mut [u64])
+    requires { ⌜ (count ≤ 64) × (length (now firsts) ≡ 64) × (length (now nulls) ≡ 64) × (length (now behind) ≡ 64) ⌝ }
+    requires { ⌜ now cells ≡ replicate 64 0 ⌝ }
+    ensures { λ _.
+        ⌜ Filled 0 (column count (row (now (firsts .entry)) (now (nulls .entry)) (now (behind .entry)))) 64 count (now (cells .exit)) ⌝ }
 {
-    let mut columns = [0u64; 64];
     let mut i = 0;
     while i < count {
-        put_row(&mut columns, rows[i], i);
+        let line = join(firsts[i], behind[i], nulls[i]);
+        put_row(cells, line, i);
         i += 1;
     }
-    columns
+}
+
+// The nodes that come to the end with flag 1.
+pub fn ends_of(count: usize, nulls: &[bool], ends: &[bool]) -> u64
+    requires { ⌜ (count ≤ 64) × (length (now nulls) ≡ 64) × (length (now ends) ≡ 64) ⌝ }
+    ensures { λ r. ⌜ r ≡ word-of count (comes-to-end (now (nulls .entry)) (now (ends .entry))) ⌝ }
+{
+    let mut word: u64 = 0;
+    let mut i = 0;
+    while i < count {
+        let e = single(i, both(nulls[i], ends[i]));
+        word = e + word;
+        i += 1;
+    }
+    word
 }
 
 // Joins the bit of line i to the cells of the letters from low to high.
@@ -122,17 +100,15 @@ fn put_node(cells: &mut [u64], node: Node, i: usize)
 }
 
 // For each letter the leaves that take it.
-pub fn all_takers(p: Pattern) -> [u64; 128]
-    requires { ⌜ Rules p ⌝ }
-    ensures { λ r. ⌜ Filled 0 (λ c. line-takers p c (p .count)) 128 128 r ⌝ }
+pub fn put_takers(p: Pattern, takers: &mut [u64])
+    requires { ⌜ Rules p × (now takers ≡ replicate 128 0) ⌝ }
+    ensures { λ _. ⌜ Filled 0 (λ c. line-takers p c (p .count)) 128 128 (now (takers .exit)) ⌝ }
 {
-    let mut takers = [0u64; 128];
     let mut i = 0;
     while i < p.count {
         let line = p.lines[i];
         let node = line.node;
-        put_node(&mut takers, node, i);
+        put_node(takers, node, i);
         i += 1;
     }
-    takers
 }

@@ -1,19 +1,42 @@
+use mathlib.Core.Path.{refl}
 use Rattle.states.specs.Fill.{fill-sweepable, filled-words}
 use borrow.Author.Needs.{needs}
 use Rattle.states.proofs.fill.Statement.{statement}
 use Rattle.states.proofs.fill.Tie as tie
 
-masks-of-requires : tie.Need-masks-of-requires
-masks-of-requires c κs = search needs
+slice-aggregate-put-masks : tie.Need-slice-aggregate-put-masks
+slice-aggregate-put-masks c = search needs
+
+slice-aggregate-put-masks-2 : tie.Need-slice-aggregate-put-masks-2
+slice-aggregate-put-masks-2 c = search needs
+
+slice-aggregate-put-masks-3 : tie.Need-slice-aggregate-put-masks-3
+slice-aggregate-put-masks-3 c = search needs
+
+slice-aggregate-put-masks-4 : tie.Need-slice-aggregate-put-masks-4
+slice-aggregate-put-masks-4 c = search needs
+
+put-masks-requires : tie.Need-put-masks-requires
+put-masks-requires c κs = search needs
 
 sweep-requires : tie.Need-sweep-requires
-sweep-requires c κs = fill-sweepable _ _ _ (c .before .before .before .before .before .before .before .before .before .before .before .before .pre)
+sweep-requires c κs = fill-sweepable _ _ _ (c .before .before .before .before .before .before .before .before .before .before .before .before .before .before .before .before .pre)
 
 same-length : tie.Need-same-length
 same-length c = search needs
 
 returns : tie.Need-returns
-returns c = filled-words _ _ _ _ _ _ _ _ _ (c .before .before .before .before .before .before .before .before .before .before .before .before .before .before .before .pre) (c .before .before .before .before .before .before .before .before .before .before .before .before .masks-of .ensures) (c .before .before .sweep .ensures)
+returns c = filled-words _ _ _ _ _ _ _ _ _ (c .before .before .before .before .before .before .before .before .before .before .before .before .before .before .before .before .before .before .before .pre) (c .before .before .before .before .before .before .before .before .before .before .before .before .put-masks .ensures) (c .before .before .sweep .ensures)
 
 pub fill-spec : {M : Type 1} → statement M
-fill-spec = tie.close (tie.spec masks-of-requires sweep-requires same-length returns)
+fill-spec =
+    tie.close
+    (tie.spec
+    slice-aggregate-put-masks
+    slice-aggregate-put-masks-2
+    slice-aggregate-put-masks-3
+    slice-aggregate-put-masks-4
+    put-masks-requires
+    sweep-requires
+    same-length
+    returns)

@@ -1,4 +1,4 @@
-use Prim.Native.Nat.{_≤_, _+_, _-_, _*_}
+use Prim.Native.Nat.{_≤_, _<_, _+_, _-_, _*_}
 use native.Mathlib.Omega.{arith}
 use lib.ListN.{length, length-set}
 use mathlib.Core.Path.{_≡_, refl, _∙_}
@@ -9,7 +9,7 @@ use Rattle.states.proofs.sweep.Statement.{statement}
 use Rattle.states.proofs.sweep.Tie as tie
 
 abbrev Inv-loop : tie.InvT-loop
-Inv-loop zero one followers takers end tape words₀ n memo₀ next₀ last₀ i₀ words memo next last i = (n ≡ length tape) × (2 * (length tape + 1) ≤ length words₀) × Filling zero one followers takers end tape words₀ i next last words × Remembers zero one followers takers memo
+Inv-loop zero one followers takers end tape words₀ n memo₀ next₀ last₀ i₀ words memo next last i = (n ≡ length tape) × (2 * (length tape + 1) ≤ length words₀) × Filling zero one followers takers end tape words₀ i next last words × Remembers zero one followers memo
 
 abbrev μ-loop : tie.MeasureT-loop
 μ-loop zero one followers takers end tape words₀ n memo₀ next₀ last₀ i₀ words memo next last i = i
@@ -36,7 +36,7 @@ slice-write-words-2 : tie.Need-slice-write-words-2 Inv-loop μ-loop
 slice-write-words-2 c = simp length-set (omega (arith, c .before .before .pre .room))
 
 loop-holds : tie.Need-loop-holds Inv-loop μ-loop
-loop-holds c = (refl, simp length-set (c .before .before .pre .room), filling-start _ _ _ _ _ _ (c .before .before .args .words .now) (c .before .before .pre .room), remembers-start _ _ _ _)
+loop-holds c = (refl, simp length-set (c .before .before .pre .room), filling-start _ _ _ _ _ _ (c .before .before .args .words .now) (c .before .before .pre .room), remembers-start _ _ _)
 
 sub-i : tie.Need-sub-i Inv-loop μ-loop
 sub-i c = search needs
@@ -47,11 +47,17 @@ shared-slice-read-c c = search needs
 cast-c : tie.Need-cast-c Inv-loop μ-loop
 cast-c c = omega (arith, c .before .before .before .before .before .pre .letters (c .before .before .loop .i - 1))
 
+mul-recall : tie.Need-mul-recall Inv-loop μ-loop
+mul-recall c = omega (arith, c .before .before .before .before .before .pre .letters (c .before .before .loop .i - 1))
+
+element-copy-out-recall : tie.Need-element-copy-out-recall Inv-loop μ-loop
+element-copy-out-recall c = c .before .before .before .before .before .pre .letters (c .before .before .loop .i - 1)
+
 slice-aggregate-recall : tie.Need-slice-aggregate-recall Inv-loop μ-loop
 slice-aggregate-recall c = search needs
 
 recall-requires : tie.Need-recall-requires Inv-loop μ-loop
-recall-requires c κs = (c .before .before .before .before .before .before .pre .letters (c .before .before .before .loop .i - 1), c .before .before .before .loop .inv .3)
+recall-requires c κs = (omega arith, c .before .before .before .before .loop .inv .3)
 
 mul-words-5 : tie.Need-mul-words-5 Inv-loop μ-loop
 mul-words-5 c = search needs
@@ -72,13 +78,13 @@ mul-words-8 : tie.Need-mul-words-8 Inv-loop μ-loop
 mul-words-8 c = search needs
 
 slice-write-words-4 : tie.Need-slice-write-words-4 Inv-loop μ-loop
-slice-write-words-4 c = simp length-set (omega (arith, c .before .before .before .before .before .loop .inv .2 .same, c .before .before .before .before .before .loop .inv .2 .inside, c .before .before .before .before .before .loop .inv .1))
+slice-write-words-4 c = simp length-set (omega (arith, c .before .before .before .before .before .before .loop .inv .2 .same, c .before .before .before .before .before .before .loop .inv .2 .inside, c .before .before .before .before .before .before .loop .inv .1))
 
 loop-less : tie.Need-loop-less Inv-loop μ-loop
 loop-less c = search needs
 
 loop-again : tie.Need-loop-again Inv-loop μ-loop
-loop-again c = (c .before .before .before .before .before .loop .inv .0, c .before .before .before .before .before .loop .inv .1, filling-down _ _ _ _ _ _ _ (c .before .before .before .before .before .loop .inv .1) _ _ _ _ _ _ (c .before .before .before .before .loop-test .taken) (c .before .before .before .before .before .loop .inv .2) refl (c .before .recall .ensures .0), c .before .recall .ensures .1)
+loop-again c = (c .before .before .before .before .before .before .loop .inv .0, c .before .before .before .before .before .before .loop .inv .1, filling-down _ _ _ _ _ _ _ (c .before .before .before .before .before .before .loop .inv .1) _ _ _ _ _ _ (c .before .before .before .before .before .loop-test .taken) (c .before .before .before .before .before .before .loop .inv .2) refl (c .before .recall .ensures .0), c .before .recall .ensures .1)
 
 same-length : tie.Need-same-length Inv-loop μ-loop
 same-length c = c .before .loop .inv .2 .same ∙ simp length-set
@@ -103,6 +109,8 @@ sweep-spec =
     sub-i
     shared-slice-read-c
     cast-c
+    mul-recall
+    element-copy-out-recall
     slice-aggregate-recall
     recall-requires
     mul-words-5

@@ -1,3 +1,4 @@
+use mathlib.Core.Path.{refl}
 use Rattle.states.specs.Fronts.{follow-same}
 use borrow.Author.Needs.{needs}
 use Rattle.states.proofs.follows.before_second.Statement.{statement}
@@ -13,7 +14,7 @@ both-requires : tie.Need-both-requires
 both-requires c κs = search needs
 
 returns : tie.Need-returns
-returns c = follow-same (c .before .before .join .ensures) (c .before .join2 .ensures) (c .both .ensures)
+returns c = follow-same refl (c .before .before .join .ensures) (c .before .join2 .ensures) (c .both .ensures)
 
 pub before-second-spec : {M : Type 1} → statement M
 before-second-spec = tie.close (tie.spec join-requires join-requires-2 both-requires returns)

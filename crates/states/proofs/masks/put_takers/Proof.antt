@@ -1,0 +1,59 @@
+use mathlib.Core.Path.{sym, ap, subst, _∙_}
+use native.Mathlib.Omega.{arith}
+use Prim.Native.Nat.{_≤_, _-_}
+use lib.ListN.{length}
+use Rattle.syntax.specs.Table.{node-at}
+use Rattle.states.specs.Masks.{node-takes}
+use Rattle.states.specs.Scatter.{Scattered, line-node-good, takers-start, takers-next, takers-end}
+use borrow.Author.Needs.{needs}
+use Rattle.states.proofs.masks.put_takers.Statement.{statement}
+use Rattle.states.proofs.masks.put_takers.Tie as tie
+
+abbrev Inv-loop : tie.InvT-loop
+Inv-loop takers₀ p i₀ takers i = (i ≤ p .count) × Scattered (λ l. node-takes (node-at p l)) 128 i takers
+
+abbrev μ-loop : tie.MeasureT-loop
+μ-loop takers₀ p i₀ takers i = p .count - i
+
+loop-holds : tie.Need-loop-holds Inv-loop μ-loop
+loop-holds c = (omega arith, subst (Scattered _ 128 0) (sym (c .before .pre .1)) (takers-start (c .before .args .t1)))
+
+mul-line : tie.Need-mul-line Inv-loop μ-loop
+mul-line c = omega (arith, c .loop-test .taken, c .before .before .before .pre .0 .few)
+
+element-copy-out-line : tie.Need-element-copy-out-line Inv-loop μ-loop
+element-copy-out-line c = omega (arith, c .loop-test .taken, c .before .before .before .pre .0 .few)
+
+put-node-requires : tie.Need-put-node-requires Inv-loop μ-loop
+put-node-requires c κs = (omega (arith, c .before .before .loop-test .taken, c .before .before .before .before .before .pre .0 .few), omega (arith, c .before .before .before .loop .inv .1 .long), line-node-good (c .before .before .before .before .before .args .t1) (c .before .before .before .before .before .pre .0) _ (c .before .before .loop-test .taken))
+
+add-i : tie.Need-add-i Inv-loop μ-loop
+add-i c = search needs
+
+loop-less : tie.Need-loop-less Inv-loop μ-loop
+loop-less c = search needs
+
+loop-again : tie.Need-loop-again Inv-loop μ-loop
+loop-again c = (omega (arith, c .before .before .before .before .before .loop-test .taken), takers-next (c .before .before .before .before .before .before .before .before .args .t1) _ _ _ (c .before .before .before .before .before .before .loop .inv .1) (c .before .before .put-node .ensures))
+
+same-length : tie.Need-same-length Inv-loop μ-loop
+same-length c = c .before .loop .inv .1 .long ∙ sym (ap length (c .before .before .before .pre .1))
+
+returns : tie.Need-returns Inv-loop μ-loop
+returns c = takers-end (c .before .before .before .args .t1) _ _ (omega (arith, c .before .loop .inv .0, c .loop-test .left)) (c .before .loop .inv .1)
+
+pub put-takers-spec : {M : Type 1} → statement M
+put-takers-spec =
+    tie.close
+    (tie.spec
+    Inv-loop
+    μ-loop
+    loop-holds
+    mul-line
+    element-copy-out-line
+    put-node-requires
+    add-i
+    loop-less
+    loop-again
+    same-length
+    returns)
