@@ -1,12 +1,12 @@
 -- THE FILL: what is asked of a caller, and that the masks which the fill makes are those of the pattern.
 use mathlib.Core.Path.{_≡_, ap, _∙_}
-use mathlib.Core.Bool.{Bool, true}
+use mathlib.Core.Bool.{Bool, true, false}
 use mathlib.Core.List.{List, [], _∷_}
 use Prim.Native.Nat.{ℕ, zero, suc, _+_, _*_, _≤_, _<_}
 use native.Mathlib.Omega.{arith}
 use borrow.Author.Tests.{leb-true}
 use lib.Dec.{leb}
-use lib.ListN.{length, getD, replicate}
+use lib.ListN.{length, getD, replicate, length-replicate, getD-replicate}
 use Rattle.syntax.specs.declared.Pattern.{Pattern}
 use Rattle.syntax.specs.Letter.{is-letter}
 use Rattle.syntax.specs.TreeLaws.{Rules}
@@ -16,7 +16,7 @@ use Rattle.states.specs.StateSets.{words}
 use Rattle.states.specs.Sweep.{Sweepable, sweep-of}
 use Rattle.states.specs.Fronts.{Fronts, follow-at}
 use Rattle.states.specs.Follows.{Down, down-end, followed-of}
-use Rattle.states.specs.Masks.{Filled, row, comes-to-end, column, column-zero, column-one, row-ends, line-takers, line-takers-are, Masks-of, All-letters, sweep-words}
+use Rattle.states.specs.Masks.{Filled, row, comes-to-end, column, column-says, row-ends, line-takers, line-takers-are, Masks-of, All-letters, sweep-words}
 
 -- a tested table, "at most 3,600 letters, all from 33 to 126", and 2 × (n + 1) words
 pub record Fillable (p : Pattern) (tape words : List ℕ) : Type 0 where
@@ -41,24 +41,27 @@ all-letters (c ∷ w) h = (h 0 (omega arith), all-letters w (λ j k. h (suc j) (
 pub fill-sweepable : (p : Pattern) (tape ws : List ℕ) → Fillable p tape ws → Sweepable tape ws
 fill-sweepable p tape ws f = record { few = f .few; letters = small-letters tape (f .letters); room = f .room }
 
--- arrays in which nothing is marked, and room for the followers
+-- arrays in which nothing is marked, and room for the followers and the leaves that take a letter
 pub record Blank (zs os fs ks : List ℕ) : Type 0 where
-  pub zeros : zs ≡ replicate 64 0
-  pub ones : os ≡ replicate 64 0
+  pub zeros : Filled 0 (λ x. 0) 64 64 zs
+  pub ones : Filled 0 (λ x. 0) 64 64 os
   pub followers : length fs ≡ 64
-  pub takers : ks ≡ replicate 128 0
+  pub takers : length ks ≡ 128
+
+pub none-marked : (n : ℕ) → Filled {A = ℕ} 0 (λ x. 0) n n (replicate n 0)
+none-marked n = record { long = length-replicate n 0; cells = λ x h. getD-replicate n x 0 0 h }
 
 -- the masks that are made of fronts and of what follows
-pub masks-made : (p : Pattern) (r : Rules p) (xs : List ℕ) (ns : List Bool) (ss zs os : List ℕ) (es : List Bool) (cs ds ks : List ℕ) (e : ℕ)
-    → Fronts p r (p .count) xs ns → Down p r 0 ss zs os es
-    → Filled 0 (column (p .count) (row xs ns zs)) 64 (p .count) cs → Filled 0 (column (p .count) (row xs ns os)) 64 (p .count) ds
+pub masks-made : (p : Pattern) (r : Rules p) (xs : List ℕ) (ns : List Bool) (ss bs : List ℕ) (es : List Bool) (cs ds ks : List ℕ) (e : ℕ)
+    → Fronts p r (p .count) xs ns → Down p r 0 ss bs es
+    → Filled 0 (column (p .count) (row xs ns bs 0)) 64 (p .count) cs → Filled 0 (column (p .count) (row xs ns bs 1)) 64 (p .count) ds
     → Filled 0 (λ c. line-takers p c (p .count)) 128 128 ks → e ≡ word-of (p .count) (comes-to-end ns es) → Masks-of p cs ds ss ks e
-masks-made p r xs ns ss zs os es cs ds ks e u d z o k w = record {
-  zeros = λ x h. z .cells x h ∙ column-zero p r xs ns ss zs os es u d x;
-  ones = λ x h. o .cells x h ∙ column-one p r xs ns ss zs os es u d x;
-  follows = λ x h. followed-of p r x (follow-at ss zs os es x) h (down-end p r ss zs os es d x h);
+masks-made p r xs ns ss bs es cs ds ks e u d z o k w = record {
+  zeros = λ x h. z .cells x h ∙ column-says p r xs ns ss bs es u d false x;
+  ones = λ x h. o .cells x h ∙ column-says p r xs ns ss bs es u d true x;
+  follows = λ x h. followed-of p r x (follow-at ss bs es x) h (down-end p r ss bs es d x h);
   letters = λ c h. k .cells c (omega (arith, letter-small c h)) ∙ line-takers-are p r c;
-  ends = w ∙ row-ends p r xs ns ss zs os es u d;
+  ends = w ∙ row-ends p r xs ns ss bs es u d;
 }
 
 -- so that the buffer holds the words of the definition

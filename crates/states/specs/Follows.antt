@@ -4,7 +4,7 @@ use mathlib.Core.Path.{_≡_, refl, sym, ap, ap₂, subst, _∙_}
 use mathlib.Core.Bool.{Bool, true, false, _&&_, _||_, false≢true}
 use mathlib.Core.Logic.{_⊎_, inl, inr, ⊎-elim}
 use mathlib.Core.List.{List, [], _∷_, _++_}
-use Prim.Native.Nat.{ℕ, zero, suc, _+_, _-_, _≤_, _<_}
+use Prim.Native.Nat.{ℕ, zero, suc, _+_, _-_, _*_, _≤_, _<_}
 use native.Mathlib.Omega.{arith}
 use native.Mathlib.Decide.{decLt}
 use lib.Dec.{eqb}
@@ -90,40 +90,38 @@ part-is i l (Sequence x y) h = ⊎-elim (λ e. inl (sym (eqb-eq x l e))) (λ e. 
 part-is i l (Alternative x y) h = ⊎-elim (λ e. inl (sym (eqb-eq x l e))) (λ e. ⊎-elim (λ f. inr (sym (eqb-eq y l f))) (λ f. absurd (false≢true (f .1))) (or-cases (eqb y l) false (e .1))) (or-cases (eqb x l) (eqb y l || false) h)
 part-is i l (Star x) h = ⊎-elim (λ e. inl (sym (eqb-eq x l e))) (λ f. absurd (false≢true (f .1))) (or-cases (eqb x l) false h)
 
--- ---- the four arrays
-pub record Sized (ss zs os : List ℕ) (es : List Bool) : Type 0 where
+-- ---- the three arrays
+pub record Sized (ss ks : List ℕ) (es : List Bool) : Type 0 where
   pub states : length ss ≡ 64
-  pub zeros : length zs ≡ 64
-  pub ones : length os ≡ 64
+  pub behind : length ks ≡ 128
   pub ends : length es ≡ 64
 
 -- what follows line a is stored
-pub record Stored (ss zs os : List ℕ) (es : List Bool) (a : ℕ) (v : Follow) (ts ys ps : List ℕ) (fs : List Bool) : Type 0 where
+pub record Stored (ss ks : List ℕ) (es : List Bool) (a : ℕ) (v : Follow) (ts ys : List ℕ) (fs : List Bool) : Type 0 where
   pub states : ts ≡ set ss a (v .state)
-  pub zeros : ys ≡ set zs a (v .zero)
-  pub ones : ps ≡ set os a (v .one)
+  pub behind : ys ≡ set (set ks (2 * a) (v .zero)) (2 * a + 1) (v .one)
   pub ends : fs ≡ set es a (v .end)
 
-module _ {ss zs os : List ℕ} {es : List Bool} {a : ℕ} {v : Follow} {ts ys ps : List ℕ} {fs : List Bool} (s : Stored ss zs os es a v ts ys ps fs) where
-  stored-here : Sized ss zs os es → a < 64 → follow-at ts ys ps fs a ≡ v
+module _ {ss ks : List ℕ} {es : List Bool} {a : ℕ} {v : Follow} {ts ys : List ℕ} {fs : List Bool} (s : Stored ss ks es a v ts ys fs) where
+  stored-here : Sized ss ks es → a < 64 → follow-at ts ys fs a ≡ v
   stored-here z h =
       follow-same (ap (λ x. getD x a 0) (s .states) ∙ getD-set-same ss a (v .state) 0 (omega (arith, z .states)))
-      (ap (λ x. getD x a 0) (s .zeros) ∙ getD-set-same zs a (v .zero) 0 (omega (arith, z .zeros)))
-      (ap (λ x. getD x a 0) (s .ones) ∙ getD-set-same os a (v .one) 0 (omega (arith, z .ones)))
+      (ap (λ x. getD x (2 * a) 0) (s .behind) ∙ getD-set-other (set ks (2 * a) (v .zero)) (2 * a + 1) (2 * a) (v .one) 0 (λ q. omega arith) ∙ getD-set-same ks (2 * a) (v .zero) 0 (omega (arith, z .behind)))
+      (ap (λ x. getD x (2 * a + 1) 0) (s .behind) ∙ getD-set-same (set ks (2 * a) (v .zero)) (2 * a + 1) (v .one) 0 (simp length-set (omega (arith, z .behind))))
       (ap (λ x. getD x a false) (s .ends) ∙ getD-set-same es a (v .end) false (omega (arith, z .ends)))
 
-  stored-other : (l : ℕ) → (l ≡ a → ⊥) → follow-at ts ys ps fs l ≡ follow-at ss zs os es l
+  stored-other : (l : ℕ) → (l ≡ a → ⊥) → follow-at ts ys fs l ≡ follow-at ss ks es l
   stored-other l h =
       follow-same (ap (λ x. getD x l 0) (s .states) ∙ getD-set-other ss a l (v .state) 0 h)
-      (ap (λ x. getD x l 0) (s .zeros) ∙ getD-set-other zs a l (v .zero) 0 h)
-      (ap (λ x. getD x l 0) (s .ones) ∙ getD-set-other os a l (v .one) 0 h)
+      (ap (λ x. getD x (2 * l) 0) (s .behind) ∙ getD-set-other (set ks (2 * a) (v .zero)) (2 * a + 1) (2 * l) (v .one) 0 (λ q. omega arith) ∙ getD-set-other ks (2 * a) (2 * l) (v .zero) 0 (λ q. h (omega arith)))
+      (ap (λ x. getD x (2 * l + 1) 0) (s .behind) ∙ getD-set-other (set ks (2 * a) (v .zero)) (2 * a + 1) (2 * l + 1) (v .one) 0 (λ q. h (omega arith))
+      ∙ getD-set-other ks (2 * a) (2 * l + 1) (v .zero) 0 (λ q. omega arith))
       (ap (λ x. getD x l false) (s .ends) ∙ getD-set-other es a l (v .end) false h)
 
-  pub stored-sized : Sized ss zs os es → Sized ts ys ps fs
+  pub stored-sized : Sized ss ks es → Sized ts ys fs
   stored-sized z = record {
     states = rw (s .states) (simp length-set (z .states));
-    zeros = rw (s .zeros) (simp length-set (z .zeros));
-    ones = rw (s .ones) (simp length-set (z .ones));
+    behind = rw (s .behind) (simp length-set (z .behind));
     ends = rw (s .ends) (simp length-set (z .ends));
   }
 
@@ -134,9 +132,9 @@ pub record Handed (i : ℕ) (k : Node) (b : Front) (f g : ℕ → Follow) : Type
   pub other : (l : ℕ) → (l ≡ first-part i k → ⊥) → (l ≡ second-part i k → ⊥) → g l ≡ f l
 
 -- by two stores, that of the second part before that of the first
-pub handed-on : {ss zs os ts ys ps vs xs qs : List ℕ} {es fs ws : List Bool} {w : Follow} (i : ℕ) (k : Node) (b : Front) → i < 64 → Below i k → Sized ss zs os es
-    → Stored ss zs os es (second-part i k) (follow-at ss zs os es i) ts ys ps fs → Stored ts ys ps fs (first-part i k) w vs xs qs ws → w ≡ to-first i b k (follow-at ss zs os es i)
-    → Handed i k b (follow-at ss zs os es) (follow-at vs xs qs ws)
+pub handed-on : {ss ks ts ys vs xs : List ℕ} {es fs ws : List Bool} {w : Follow} (i : ℕ) (k : Node) (b : Front) → i < 64 → Below i k → Sized ss ks es
+    → Stored ss ks es (second-part i k) (follow-at ss ks es i) ts ys fs → Stored ts ys fs (first-part i k) w vs xs ws → w ≡ to-first i b k (follow-at ss ks es i)
+    → Handed i k b (follow-at ss ks es) (follow-at vs xs ws)
 handed-on i k b h l z s t e = record {
   first = stored-here t (stored-sized s z) (parts-inside i k h l .0) ∙ e;
   second = λ n. stored-other t (second-part i k) n ∙ stored-here s z (parts-inside i k h l .1);
@@ -170,19 +168,19 @@ module _ (p : Pattern) (r : Rules p) where
           inr (record { line = n .line; from = part-below (n .line) l (node-at p (n .line)) (r .lower (n .line) (n .inside)) (n .names); inside = n .inside; names = n .names })
 
   -- ---- the arrays of what follows
-  pub record Down (i : ℕ) (ss zs os : List ℕ) (es : List Bool) : Type 0 where
-    pub sized : Sized ss zs os es
-    pub right : (l : ℕ) → l < p .count → Known i l → Follow-of p (tree p r l) (follow-at ss zs os es l)
+  pub record Down (i : ℕ) (ss ks : List ℕ) (es : List Bool) : Type 0 where
+    pub sized : Sized ss ks es
+    pub right : (l : ℕ) → l < p .count → Known i l → Follow-of p (tree p r l) (follow-at ss ks es l)
 
   -- at the start nothing but the last line is known: the end follows it
-  pub down-start : {ss zs os ts ys ps : List ℕ} {es fs : List Bool} → Sized ss zs os es → Stored ss zs os es (p .count - 1) end-follow ts ys ps fs → Down (p .count) ts ys ps fs
+  pub down-start : {ss ks ts ys : List ℕ} {es fs : List Bool} → Sized ss ks es → Stored ss ks es (p .count - 1) end-follow ts ys fs → Down (p .count) ts ys fs
   unfolding root
-  down-start {ts = ts} {ys = ys} {ps = ps} {fs = fs} z s = record { sized = stored-sized s z; right = λ l h k. ⊎-elim (λ e. last l e) (λ n. absurd (omega (arith, n .from, n .inside))) k }
+  down-start {ts = ts} {ys = ys} {fs = fs} z s = record { sized = stored-sized s z; right = λ l h k. ⊎-elim (λ e. last l e) (λ n. absurd (omega (arith, n .from, n .inside))) k }
     where
-      last : (l : ℕ) → suc l ≡ p .count → Follow-of p (tree p r l) (follow-at ts ys ps fs l)
+      last : (l : ℕ) → suc l ≡ p .count → Follow-of p (tree p r l) (follow-at ts ys fs l)
       last l e =
           let i : p .count - 1 ≡ l = omega arith in
-          subst (λ x. Follow-of p (tree p r x) (follow-at ts ys ps fs x)) i
+          subst (λ x. Follow-of p (tree p r x) (follow-at ts ys fs x)) i
           (subst (Follow-of p (tree p r (p .count - 1))) (sym (stored-here s z (omega (arith, r .few, r .one)))) (record { place = top; states = refl; zeros = nothing-bit; ones = nothing-bit; ends = refl }))
 
   made-index : (m : Label) (f : ℕ → Tree) (k : Node) → index (made m f k) ≡ m .index
@@ -246,8 +244,8 @@ module _ (p : Pattern) (r : Rules p) where
       go (no a) (no b) = subst (Follow-of p (tree p r l)) (sym (s .other l a b)) (before a b n)
 
   -- when all lines have been passed every line is known
-  pub down-end : (ss zs os : List ℕ) (es : List Bool) → Down 0 ss zs os es → (l : ℕ) → l < p .count → Follow-of p (tree p r l) (follow-at ss zs os es l)
-  down-end ss zs os es d l h = d .right l h (go (known-line l h))
+  pub down-end : (ss ks : List ℕ) (es : List Bool) → Down 0 ss ks es → (l : ℕ) → l < p .count → Follow-of p (tree p r l) (follow-at ss ks es l)
+  down-end ss ks es d l h = d .right l h (go (known-line l h))
     where
       go : Known (suc l) l → Known 0 l
       go (inl e) = inl e
@@ -276,18 +274,19 @@ module _ (p : Pattern) (r : Rules p) where
           subst (λ x. Front-of (tree p r x) (front-at (set xs i (v .first)) (set ns i (v .null)) x)) q
           (subst (Front-of (tree p r i)) (sym e ∙ sym (front-same (getD-set-same xs i (v .first) 0 (omega (arith, r .few, f .firsts-long))) (getD-set-same ns i (v .null) false (omega (arith, r .few, f .nulls-long))))) (front-line-of p r i (front-at xs ns) h (f .right)))
 
-  pub down-back : {ss zs os ts ys ps vs ws qs : List ℕ} {es fs gs : List Bool} {w : Follow} (xs : List ℕ) (ns : List Bool) (i : ℕ) → Fronts p r (p .count) xs ns → 0 < i → i ≤ p .count → Down i ss zs os es
+  pub down-back : {ss ks ts ys vs ws : List ℕ} {es fs gs : List Bool} {w : Follow} (xs : List ℕ) (ns : List Bool) (i : ℕ) → Fronts p r (p .count) xs ns → 0 < i → i ≤ p .count → Down i ss ks es
       → (a b : ℕ) → a ≡ second-part (i - 1) (node-at p (i - 1)) → b ≡ first-part (i - 1) (node-at p (i - 1))
-      → Stored ss zs os es a (follow-at ss zs os es (i - 1)) ts ys ps fs → Stored ts ys ps fs b w vs ws qs gs
-      → w ≡ to-first (i - 1) (front-at xs ns a) (node-at p (i - 1)) (follow-at ss zs os es (i - 1)) → Down (i - 1) vs ws qs gs
-  down-back {ss} {zs} {os} {ts} {ys} {ps} {vs} {ws} {qs} {es} {fs} {gs} {w} xs ns i f o h d a b ea eb s t e = record {
+      → Stored ss ks es a (follow-at ss ks es (i - 1)) ts ys fs → Stored ts ys fs b w vs ws gs
+      → w ≡ to-first (i - 1) (front-at xs ns a) (node-at p (i - 1)) (follow-at ss ks es (i - 1)) → Down (i - 1) vs ws gs
+  down-back {ss} {ks} {ts} {ys} {vs} {ws} {es} {fs} {gs} {w} xs ns i f o h d a b ea eb s t e = record {
     sized = stored-sized t (stored-sized s (d .sized));
-    right = down-next (front-at xs ns) (f .right) (i - 1) (omega arith) (follow-at ss zs os es) (follow-at vs ws qs gs) (λ l k n. d .right l k (subst (λ x. Known x l) q n)) handed;
+    right = down-next (front-at xs ns) (f .right) (i - 1) (omega arith) (follow-at ss ks es) (follow-at vs ws gs) (λ l k n. d .right l k (subst (λ x. Known x l) q n)) handed;
   }
     where
       q : suc (i - 1) ≡ i
       q = omega arith
 
-      handed : Handed (i - 1) (node-at p (i - 1)) (front-at xs ns (second-part (i - 1) (node-at p (i - 1)))) (follow-at ss zs os es) (follow-at vs ws qs gs)
-      handed = handed-on (i - 1) (node-at p (i - 1)) (front-at xs ns (second-part (i - 1) (node-at p (i - 1)))) (omega (arith, r .few)) (r .lower (i - 1) (omega arith)) (d .sized)
+      handed : Handed (i - 1) (node-at p (i - 1)) (front-at xs ns (second-part (i - 1) (node-at p (i - 1)))) (follow-at ss ks es) (follow-at vs ws gs)
+      handed =
+          handed-on (i - 1) (node-at p (i - 1)) (front-at xs ns (second-part (i - 1) (node-at p (i - 1)))) (omega (arith, r .few)) (r .lower (i - 1) (omega arith)) (d .sized)
           (rw ea at s) (rw eb at t) (rw ea at e)

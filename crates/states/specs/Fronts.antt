@@ -3,7 +3,7 @@
 use mathlib.Core.Path.{_≡_, refl, sym, ap, ap₂, subst, fun-ext, _∙_}
 use mathlib.Core.Bool.{Bool, true, false, _&&_, _||_, or-false, or-true, and-true, and-false}
 use mathlib.Core.List.{List}
-use Prim.Native.Nat.{ℕ, zero, _-_, _*_, _^_, _<_}
+use Prim.Native.Nat.{ℕ, zero, _+_, _-_, _*_, _^_, _<_}
 use lib.Dec.{eqb}
 use lib.Bits.{bitOr}
 use lib.ListN.{length, getD}
@@ -67,9 +67,9 @@ pub record Front-of (t : Tree) (f : Front) : Type 0 where
 abbrev pub end-follow : Follow
 end-follow = record { state = 64; zero = 0; one = 0; end = true }
 
--- what follows a line, from four arrays
-abbrev pub follow-at : (states zeros ones : List ℕ) → (ends : List Bool) → ℕ → Follow
-follow-at ss zs os es l = record { state = getD ss l 0; zero = getD zs l 0; one = getD os l 0; end = getD es l false }
+-- what follows a line, from three arrays: in the second cell 2l is that of flag 0, and cell 2l + 1 that of flag 1
+abbrev pub follow-at : (states behind : List ℕ) → (ends : List Bool) → ℕ → Follow
+follow-at ss ks es l = record { state = getD ss l 0; zero = getD ks (2 * l) 0; one = getD ks (2 * l + 1) 0; end = getD es l false }
 
 -- what follows the first part of a sequence: the second, and what follows that where it can be empty
 abbrev pub before-second : (second : ℕ) → Front → Follow → Follow

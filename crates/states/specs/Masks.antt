@@ -41,6 +41,17 @@ pub record Filled {A : Type 0} (d : A) (f : ℕ → A) (size i : ℕ) (xs : List
   pub long : length xs ≡ size
   pub cells : (l : ℕ) → l < i → getD xs l d ≡ f l
 
+module _ {A : Type 0} (d : A) (f : ℕ → A) (size : ℕ) where
+  pub filled-start : (xs : List A) → length xs ≡ size → Filled d f size 0 xs
+  filled-start xs h = record { long = h; cells = λ l k. absurd (omega arith) }
+
+  pub filled-next : (i : ℕ) (xs : List A) (v : A) → i < size → Filled d f size i xs → v ≡ f i → Filled d f size (i + 1) (set xs i v)
+  filled-next i xs v h g e = record { long = simp length-set (g .long); cells = λ l k. go l k (decLt l i) }
+    where
+      go : (l : ℕ) → l < i + 1 → Dec (l < i) → getD (set xs i v) l d ≡ f l
+      go l k (yes y) = getD-set-other xs i l v d (λ x. omega arith) ∙ g .cells l y
+      go l k (no y) = let q : i ≡ l = omega arith in ap (λ x. getD (set xs i v) x d) (sym q) ∙ getD-set-same xs i v d (omega (arith, g .long)) ∙ e ∙ ap f q
+
 -- a word that is filled from bit 0 on
 pub word-next : (i : ℕ) (f : ℕ → Bool) (x v : ℕ) → x ≡ word-of i f → v ≡ bit (f i) * 2 ^ i → v + x ≡ word-of (i + 1) f
 unfolding word-of
@@ -54,8 +65,8 @@ pub word-fits : (i : ℕ) (f : ℕ → Bool) (x v : ℕ) → i < 64 → x ≡ wo
 word-fits i f x v h e g = omega (arith, word-next i f x v e g, word-lt (i + 1) f, pow-mono (let k : i + 1 ≤ 64 = omega arith in k))
 
 -- ---- rows: for each node the leaves that it comes to with a flag, those inside it and those behind it
-abbrev pub row : (firsts : List ℕ) → (nulls : List Bool) → (behind : List ℕ) → ℕ → ℕ
-row xs ns ks l = bitOr (entry xs l) (pick (getD ns l false) (entry ks l))
+abbrev pub row : (firsts : List ℕ) → (nulls : List Bool) → (behind : List ℕ) → (flag : ℕ) → ℕ → ℕ
+row xs ns ks b l = bitOr (entry xs l) (pick (getD ns l false) (entry ks (2 * l + b)))
 
 -- whether a node comes to the end
 abbrev pub comes-to-end : (nulls ends : List Bool) → ℕ → Bool
@@ -132,10 +143,10 @@ module _ (p : Pattern) (r : Rules p) where
       go m f (Alternative a b) = refl
       go m f (Star a) = refl
 
-  module _ (xs : List ℕ) (ns : List Bool) (ss zs os : List ℕ) (es : List Bool) (fronts : Fronts p r (p .count) xs ns) (down : Down p r 0 ss zs os es) where
+  module _ (xs : List ℕ) (ns : List Bool) (ss ks : List ℕ) (es : List Bool) (fronts : Fronts p r (p .count) xs ns) (down : Down p r 0 ss ks es) where
     -- what follows a line
-    after : (l : ℕ) → l < p .count → Follow-of p (tree p r l) (follow-at ss zs os es l)
-    after = down-end p r ss zs os es down
+    after : (l : ℕ) → l < p .count → Follow-of p (tree p r l) (follow-at ss ks es l)
+    after = down-end p r ss ks es down
 
     -- what a node comes to, at the place where what follows it was found; so wherever it stands, since it stands once
     row-reaches : (b : Bool) (l y k : ℕ) (h : l < p .count) → test-bit k y ≡ passes b (eqb y) false (after l h .place)
@@ -144,13 +155,13 @@ module _ (p : Pattern) (r : Rules p) where
         behind-bit (eqb y) (tree p r l) (front-at xs ns l) k y (passes b (eqb y) false (after l h .place)) (fronts .right l h .firsts y) (fronts .right l h .nulls) e
         ∙ same-node (root-planted p r) (reaches b (eqb y) false) (tree p r l) (tree p r l) (after l h .place) s refl
 
-    pub column-zero : (x : ℕ) → column (p .count) (row xs ns zs) x ≡ leaf-mask (root p) (p .count) false x
-    unfolding leaf-mask
-    column-zero x = word-by-lines (reaches false (eqb x) false) (λ l. test-bit (row xs ns zs l) x) (λ l h s. row-reaches false l x (entry zs l) h (after l h .zeros x) s)
+    behind-says : (b : Bool) (l y : ℕ) (h : l < p .count) → test-bit (entry ks (2 * l + bit b)) y ≡ passes b (eqb y) false (after l h .place)
+    behind-says false l y h = let e : 2 * l + 0 ≡ 2 * l = omega arith in ap (λ x. test-bit (entry ks x) y) e ∙ after l h .zeros y
+    behind-says true l y h = after l h .ones y
 
-    pub column-one : (x : ℕ) → column (p .count) (row xs ns os) x ≡ leaf-mask (root p) (p .count) true x
+    pub column-says : (b : Bool) (x : ℕ) → column (p .count) (row xs ns ks (bit b)) x ≡ leaf-mask (root p) (p .count) b x
     unfolding leaf-mask
-    column-one x = word-by-lines (reaches true (eqb x) false) (λ l. test-bit (row xs ns os l) x) (λ l h s. row-reaches true l x (entry os l) h (after l h .ones x) s)
+    column-says b x = word-by-lines (reaches b (eqb x) false) (λ l. test-bit (row xs ns ks (bit b) l) x) (λ l h s. row-reaches b l x (entry ks (2 * l + bit b)) h (behind-says b l x h) s)
 
     pub row-ends : word-of (p .count) (comes-to-end ns es) ≡ end-mask (root p) (p .count) true
     unfolding end-mask

@@ -9,7 +9,7 @@ use lib.Dec.{eqb, leb, ltb}
 use lib.Bits.{bitOr, bitAnd}
 use lib.Count.{trailingZeros}
 use lib.Pow.{pow-pos}
-use lib.ListN.{length, getD, set, length-set, replicate, length-replicate}
+use lib.ListN.{length, getD, set, length-set}
 use lib.Seq.{getD-set-same, getD-set-other}
 use borrow.Author.Tests.{lt-ltb, le-ltb, leb-true, le-leb, lt-leb, ne-eqb}
 use Rattle.syntax.specs.declared.Leaf.{Leaf}
@@ -107,13 +107,8 @@ pub record Scattered (f : ℕ → ℕ → Bool) (size i : ℕ) (cells : List ℕ
   pub bits : (x : ℕ) → x < size → (l : ℕ) → test-bit (entry cells x) l ≡ (ltb l i && f l x)
 
 module _ (f : ℕ → ℕ → Bool) (size : ℕ) where
-  pub scattered-start : Scattered f size 0 (replicate size 0)
-  scattered-start = record { long = length-replicate size 0; bits = λ x h l. ap (λ z. test-bit z l) (zeros size x) ∙ test-small 0 l (pow-pos l) ∙ sym (ap (λ z. z && f l x) (le-ltb l 0 (omega arith))) }
-    where
-      zeros : (n x : ℕ) → entry (replicate n 0) x ≡ 0
-      zeros zero x = refl
-      zeros (suc n) zero = refl
-      zeros (suc n) (suc x) = zeros n x
+  pub scattered-start : (cells : List ℕ) → Filled 0 (λ x. 0) size size cells → Scattered f size 0 cells
+  scattered-start cells z = record { long = z .long; bits = λ x h l. ap (λ k. test-bit k l) (z .cells x h) ∙ test-small 0 l (pow-pos l) ∙ sym (ap (λ k. k && f l x) (le-ltb l 0 (omega arith))) }
 
   pub scattered-next : (i : ℕ) (cells now : List ℕ) → Scattered f size i cells → Marked (f i) i cells now → Scattered f size (i + 1) now
   scattered-next i cells now s m = record {
@@ -256,8 +251,8 @@ pub line-node-good : (p : Pattern) → Rules p → (i : ℕ) → i < p .count �
 unfolding line-good
 line-node-good p r i h = and-snd (leb (line-at p i .account) 9) (node-good (line-at p i .node)) (r .formed i h)
 
-pub takers-start : (p : Pattern) → Scattered (λ l. node-takes (node-at p l)) 128 0 (replicate 128 0)
-takers-start p = scattered-start (λ l. node-takes (node-at p l)) 128
+pub takers-start : (p : Pattern) (cells : List ℕ) → Filled 0 (λ x. 0) 128 128 cells → Scattered (λ l. node-takes (node-at p l)) 128 0 cells
+takers-start p cells = scattered-start (λ l. node-takes (node-at p l)) 128 cells
 
 pub takers-next : (p : Pattern) (i : ℕ) (cells now : List ℕ) → Scattered (λ l. node-takes (node-at p l)) 128 i cells → Marked (node-takes (node-at p i)) i cells now
     → Scattered (λ l. node-takes (node-at p l)) 128 (i + 1) now

@@ -79,38 +79,29 @@ fn to_first(node: Node, i: usize, front: Front, follow: Follow) -> Follow
     }
 }
 
-// Stores what follows line i.
-fn put_follow(
-    states: &mut [u8],
-    zeros: &mut [u64],
-    ones: &mut [u64],
-    ends: &mut [bool],
-    i: usize,
-    follow: Follow,
-)
-    requires { ⌜ (i < 64) × Sized (now states) (now zeros) (now ones) (now ends) ⌝ }
+// Stores what follows line i. Two cells of `behind` are the line's: flag 0 and flag 1.
+fn put_follow(states: &mut [u8], behind: &mut [u64], ends: &mut [bool], i: usize, follow: Follow)
+    requires { ⌜ (i < 64) × Sized (now states) (now behind) (now ends) ⌝ }
     ensures { λ _.
-        ⌜ Stored (now (states .entry)) (now (zeros .entry)) (now (ones .entry)) (now (ends .entry)) i follow (now (states .exit)) (now (zeros .exit)) (now (ones .exit)) (now (ends .exit)) ⌝ }
+        ⌜ Stored (now (states .entry)) (now (behind .entry)) (now (ends .entry)) i follow (now (states .exit)) (now (behind .exit)) (now (ends .exit)) ⌝ }
 {
     states[i] = follow.state;
-    zeros[i] = follow.zero;
-    ones[i] = follow.one;
+    behind[2 * i] = follow.zero;
+    behind[2 * i + 1] = follow.one;
     ends[i] = follow.end;
 }
 
-// What follows each line, into four lent arrays. The end follows the last line; each line hands on to its parts.
+// What follows each line, into three lent arrays. The end follows the last line; each line hands on to its parts.
 pub fn put_follows(
     p: Pattern,
     firsts: &[u64],
     nulls: &[bool],
     states: &mut [u8],
-    zeros: &mut [u64],
-    ones: &mut [u64],
+    behind: &mut [u64],
     ends: &mut [bool],
 )
-    requires { ⌜ Rules p × ((good : Rules p) → Fronts p good (p .count) (now firsts) (now nulls)) × Sized (now states) (now zeros) (now ones) (now ends) ⌝ }
-    ensures { λ _.
-        ⌜ ((good : Rules p) → Down p good 0 (now (states .exit)) (now (zeros .exit)) (now (ones .exit)) (now (ends .exit))) ⌝ }
+    requires { ⌜ Rules p × ((good : Rules p) → Fronts p good (p .count) (now firsts) (now nulls)) × Sized (now states) (now behind) (now ends) ⌝ }
+    ensures { λ _. ⌜ ((good : Rules p) → Down p good 0 (now (states .exit)) (now (behind .exit)) (now (ends .exit))) ⌝ }
 {
     let end = Follow {
         state: 64,
@@ -118,7 +109,7 @@ pub fn put_follows(
         one: 0u64,
         end: true,
     };
-    put_follow(states, zeros, ones, ends, p.count - 1, end);
+    put_follow(states, behind, ends, p.count - 1, end);
     let mut i = p.count;
     while 0 < i {
         i -= 1;
@@ -128,8 +119,8 @@ pub fn put_follows(
         let y = second_part(node, i);
         let follow = Follow {
             state: states[i],
-            zero: zeros[i],
-            one: ones[i],
+            zero: behind[2 * i],
+            one: behind[2 * i + 1],
             end: ends[i],
         };
         let front = Front {
@@ -137,7 +128,7 @@ pub fn put_follows(
             null: nulls[y],
         };
         let before = to_first(node, i, front, follow);
-        put_follow(states, zeros, ones, ends, y, follow);
-        put_follow(states, zeros, ones, ends, x, before);
+        put_follow(states, behind, ends, y, follow);
+        put_follow(states, behind, ends, x, before);
     }
 }

@@ -143,7 +143,8 @@ fn sweep(
     }
 }
 
-// The masks of a pattern, made once, into lent arrays. Gives the flag 1 state set of the tape's end.
+// The masks of a pattern, made once, into lent arrays. Gives the flag 1 state set of the tape's end. The cells of the letters hold what
+// follows each line until their turn comes: stack is short where this runs.
 pub fn put_masks(
     p: Pattern,
     zero: &mut [u64],
@@ -157,21 +158,11 @@ pub fn put_masks(
     let count = p.count;
     let mut firsts = [0u64; 64];
     let mut nulls = [false; 64];
-    let mut zeros = [0u64; 64];
-    let mut ones = [0u64; 64];
     let mut ends = [false; 64];
     put_fronts(p, &mut firsts, &mut nulls);
-    put_follows(
-        p,
-        &firsts,
-        &nulls,
-        followers,
-        &mut zeros,
-        &mut ones,
-        &mut ends,
-    );
-    put_columns(count, &firsts, &nulls, &zeros, zero);
-    put_columns(count, &firsts, &nulls, &ones, one);
+    put_follows(p, &firsts, &nulls, followers, takers, &mut ends);
+    put_columns(count, &firsts, &nulls, takers, 0, zero);
+    put_columns(count, &firsts, &nulls, takers, 1, one);
     put_takers(p, takers);
     ends_of(count, &nulls, &ends)
 }

@@ -3,7 +3,7 @@
 ghost use mathlib.Core.Path.{_≡_};
 ghost use mathlib.Core.Bool.{true};
 ghost use Prim.Native.Nat.{_<_, _≤_};
-ghost use lib.ListN.{length, replicate};
+ghost use lib.ListN.{length};
 ghost use Rattle.syntax.specs.Table.{leaf-good, node-good};
 ghost use Rattle.syntax.specs.TreeLaws.{Rules};
 ghost use Rattle.bits.specs.Bits.{test-bit, word-of};
@@ -30,17 +30,24 @@ fn put_row(cells: &mut [u64], row: u64, i: usize)
     }
 }
 
-// For each leaf the nodes that come to it with a flag: each line's bit goes to the leaves that the line comes to, those inside it and, where
-// it can be empty, those behind it with that flag.
-pub fn put_columns(count: usize, firsts: &[u64], nulls: &[bool], behind: &[u64], cells: &mut [u64])
-    requires { ⌜ (count ≤ 64) × (length (now firsts) ≡ 64) × (length (now nulls) ≡ 64) × (length (now behind) ≡ 64) ⌝ }
-    requires { ⌜ now cells ≡ replicate 64 0 ⌝ }
+// For each leaf the nodes that come to it with a flag, 0 or 1: each line's bit goes to the leaves that the line comes to, those inside it
+// and, where it can be empty, those behind it with that flag.
+pub fn put_columns(
+    count: usize,
+    firsts: &[u64],
+    nulls: &[bool],
+    behind: &[u64],
+    flag: usize,
+    cells: &mut [u64],
+)
+    requires { ⌜ (count ≤ 64) × (length (now firsts) ≡ 64) × (length (now nulls) ≡ 64) × (length (now behind) ≡ 128) × (flag ≤ 1) ⌝ }
+    requires { ⌜ Filled 0 (λ x. 0) 64 64 (now cells) ⌝ }
     ensures { λ _.
-        ⌜ Filled 0 (column count (row (now (firsts .entry)) (now (nulls .entry)) (now (behind .entry)))) 64 count (now (cells .exit)) ⌝ }
+        ⌜ Filled 0 (column count (row (now (firsts .entry)) (now (nulls .entry)) (now (behind .entry)) flag)) 64 count (now (cells .exit)) ⌝ }
 {
     let mut i = 0;
     while i < count {
-        let line = join(firsts[i], behind[i], nulls[i]);
+        let line = join(firsts[i], behind[2 * i + flag], nulls[i]);
         put_row(cells, line, i);
         i += 1;
     }
@@ -99,11 +106,23 @@ fn put_node(cells: &mut [u64], node: Node, i: usize)
     }
 }
 
-// For each letter the leaves that take it.
+fn clear(cells: &mut [u64])
+    requires { ⌜ length (now cells) ≡ 128 ⌝ }
+    ensures { λ _. ⌜ Filled 0 (λ x. 0) 128 128 (now (cells .exit)) ⌝ }
+{
+    let mut i = 0;
+    while i < 128 {
+        cells[i] = 0;
+        i += 1;
+    }
+}
+
+// For each letter the leaves that take it. Whatever the cells held before is gone.
 pub fn put_takers(p: Pattern, takers: &mut [u64])
-    requires { ⌜ Rules p × (now takers ≡ replicate 128 0) ⌝ }
+    requires { ⌜ Rules p × (length (now takers) ≡ 128) ⌝ }
     ensures { λ _. ⌜ Filled 0 (λ c. line-takers p c (p .count)) 128 128 (now (takers .exit)) ⌝ }
 {
+    clear(takers);
     let mut i = 0;
     while i < p.count {
         let line = p.lines[i];

@@ -1,5 +1,5 @@
 use mathlib.Core.Path.{refl}
-use Rattle.states.specs.Fill.{fill-sweepable, filled-words}
+use Rattle.states.specs.Fill.{none-marked, fill-sweepable, filled-words}
 use borrow.Author.Needs.{needs}
 use Rattle.states.proofs.fill.Statement.{statement}
 use Rattle.states.proofs.fill.Tie as tie
@@ -17,7 +17,7 @@ slice-aggregate-put-masks-4 : tie.Need-slice-aggregate-put-masks-4
 slice-aggregate-put-masks-4 c = search needs
 
 put-masks-requires : tie.Need-put-masks-requires
-put-masks-requires c κs = search needs
+put-masks-requires c κs = (c .before .before .before .before .before .before .pre .rules, record { zeros = none-marked 64; ones = none-marked 64; followers = refl; takers = refl })
 
 sweep-requires : tie.Need-sweep-requires
 sweep-requires c κs = fill-sweepable _ _ _ (c .before .before .before .before .before .before .before .before .before .before .before .before .before .before .before .before .pre)

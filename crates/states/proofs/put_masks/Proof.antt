@@ -1,5 +1,5 @@
-use mathlib.Core.Path.{refl, sym, ap, _∙_}
-use lib.ListN.{length}
+use mathlib.Core.Path.{refl, sym, _∙_}
+use native.Mathlib.Omega.{arith}
 use Rattle.states.specs.Fill.{masks-made}
 use borrow.Author.Needs.{needs}
 use Rattle.states.proofs.put_masks.Statement.{statement}
@@ -23,14 +23,8 @@ slice-aggregate-put-follows-2 c = search needs
 slice-aggregate-put-follows-3 : tie.Need-slice-aggregate-put-follows-3
 slice-aggregate-put-follows-3 c = search needs
 
-slice-aggregate-put-follows-4 : tie.Need-slice-aggregate-put-follows-4
-slice-aggregate-put-follows-4 c = search needs
-
-slice-aggregate-put-follows-5 : tie.Need-slice-aggregate-put-follows-5
-slice-aggregate-put-follows-5 c = search needs
-
 put-follows-requires : tie.Need-put-follows-requires
-put-follows-requires c κs = (c .before .before .before .before .before .before .before .before .before .before .before .before .before .before .before .pre .0, λ good. c .before .before .before .before .before .before .before .before .put-fronts .ensures good, record { states = c .before .before .before .before .before .before .before .before .before .before .before .before .before .before .before .pre .1 .followers; zeros = refl; ones = refl; ends = refl })
+put-follows-requires c κs = (c .before .before .before .before .before .before .before .before .before .before .before .before .before .before .pre .0, λ good. c .before .before .before .before .before .before .before .put-fronts .ensures good, record { states = c .before .before .before .before .before .before .before .before .before .before .before .before .before .before .pre .1 .followers; behind = c .before .before .before .before .before .before .before .before .before .before .before .before .before .before .pre .1 .takers; ends = refl })
 
 slice-aggregate-put-columns : tie.Need-slice-aggregate-put-columns
 slice-aggregate-put-columns c = search needs
@@ -38,26 +32,20 @@ slice-aggregate-put-columns c = search needs
 slice-aggregate-put-columns-2 : tie.Need-slice-aggregate-put-columns-2
 slice-aggregate-put-columns-2 c = search needs
 
+put-columns-requires : tie.Need-put-columns-requires
+put-columns-requires c κs = ((c .before .before .before .before .before .before .before .before .before .before .before .before .before .before .before .before .before .before .before .before .before .before .before .before .pre .0 .few, c .before .before .before .before .before .before .before .before .before .before .before .before .before .before .before .before .before .put-fronts .ensures (c .before .before .before .before .before .before .before .before .before .before .before .before .before .before .before .before .before .before .before .before .before .before .before .before .pre .0) .firsts-long, c .before .before .before .before .before .before .before .before .before .before .before .before .before .before .before .before .before .put-fronts .ensures (c .before .before .before .before .before .before .before .before .before .before .before .before .before .before .before .before .before .before .before .before .before .before .before .before .pre .0) .nulls-long, c .before .before .before .before .before .before .before .before .before .put-follows .ensures (c .before .before .before .before .before .before .before .before .before .before .before .before .before .before .before .before .before .before .before .before .before .before .before .before .pre .0) .sized .behind, omega arith), c .before .before .before .before .before .before .before .before .before .before .before .before .before .before .before .before .before .before .before .before .before .before .before .before .pre .1 .zeros)
+
 slice-aggregate-put-columns-3 : tie.Need-slice-aggregate-put-columns-3
 slice-aggregate-put-columns-3 c = search needs
-
-put-columns-requires : tie.Need-put-columns-requires
-put-columns-requires c κs = ((c .before .before .before .before .before .before .before .before .before .before .before .before .before .before .before .before .before .before .before .before .before .before .before .before .before .pre .0 .few, c .before .before .before .before .before .before .before .before .before .before .before .before .before .before .before .before .before .before .put-fronts .ensures (c .before .before .before .before .before .before .before .before .before .before .before .before .before .before .before .before .before .before .before .before .before .before .before .before .before .pre .0) .firsts-long, c .before .before .before .before .before .before .before .before .before .before .before .before .before .before .before .before .before .before .put-fronts .ensures (c .before .before .before .before .before .before .before .before .before .before .before .before .before .before .before .before .before .before .before .before .before .before .before .before .before .pre .0) .nulls-long, c .before .before .before .before .before .before .before .before .before .put-follows .ensures (c .before .before .before .before .before .before .before .before .before .before .before .before .before .before .before .before .before .before .before .before .before .before .before .before .before .pre .0) .sized .zeros), c .before .before .before .before .before .before .before .before .before .before .before .before .before .before .before .before .before .before .before .before .before .before .before .before .before .pre .1 .zeros)
 
 slice-aggregate-put-columns-4 : tie.Need-slice-aggregate-put-columns-4
 slice-aggregate-put-columns-4 c = search needs
 
-slice-aggregate-put-columns-5 : tie.Need-slice-aggregate-put-columns-5
-slice-aggregate-put-columns-5 c = search needs
-
-slice-aggregate-put-columns-6 : tie.Need-slice-aggregate-put-columns-6
-slice-aggregate-put-columns-6 c = search needs
-
 put-columns-requires-2 : tie.Need-put-columns-requires-2
-put-columns-requires-2 c κs = ((c .before .before .before .before .before .before .before .before .before .before .before .before .before .before .before .before .before .before .before .before .before .before .before .before .before .before .before .before .before .before .before .before .pre .0 .few, c .before .before .before .before .before .before .before .before .before .before .before .before .before .before .before .before .before .before .before .before .before .before .before .before .before .put-fronts .ensures (c .before .before .before .before .before .before .before .before .before .before .before .before .before .before .before .before .before .before .before .before .before .before .before .before .before .before .before .before .before .before .before .before .pre .0) .firsts-long, c .before .before .before .before .before .before .before .before .before .before .before .before .before .before .before .before .before .before .before .before .before .before .before .before .before .put-fronts .ensures (c .before .before .before .before .before .before .before .before .before .before .before .before .before .before .before .before .before .before .before .before .before .before .before .before .before .before .before .before .before .before .before .before .pre .0) .nulls-long, c .before .before .before .before .before .before .before .before .before .before .before .before .before .before .before .before .put-follows .ensures (c .before .before .before .before .before .before .before .before .before .before .before .before .before .before .before .before .before .before .before .before .before .before .before .before .before .before .before .before .before .before .before .before .pre .0) .sized .ones), c .before .before .before .before .before .before .before .before .before .before .before .before .before .before .before .before .before .before .before .before .before .before .before .before .before .before .before .before .before .before .before .before .pre .1 .ones)
+put-columns-requires-2 c κs = ((c .before .before .before .before .before .before .before .before .before .before .before .before .before .before .before .before .before .before .before .before .before .before .before .before .before .before .before .before .before .before .before .pre .0 .few, c .before .before .before .before .before .before .before .before .before .before .before .before .before .before .before .before .before .before .before .before .before .before .before .before .put-fronts .ensures (c .before .before .before .before .before .before .before .before .before .before .before .before .before .before .before .before .before .before .before .before .before .before .before .before .before .before .before .before .before .before .before .pre .0) .firsts-long, c .before .before .before .before .before .before .before .before .before .before .before .before .before .before .before .before .before .before .before .before .before .before .before .before .put-fronts .ensures (c .before .before .before .before .before .before .before .before .before .before .before .before .before .before .before .before .before .before .before .before .before .before .before .before .before .before .before .before .before .before .before .pre .0) .nulls-long, c .before .before .before .before .before .before .before .before .before .before .before .before .before .before .before .before .put-follows .ensures (c .before .before .before .before .before .before .before .before .before .before .before .before .before .before .before .before .before .before .before .before .before .before .before .before .before .before .before .before .before .before .before .pre .0) .sized .behind, omega arith), c .before .before .before .before .before .before .before .before .before .before .before .before .before .before .before .before .before .before .before .before .before .before .before .before .before .before .before .before .before .before .before .pre .1 .ones)
 
 put-takers-requires : tie.Need-put-takers-requires
-put-takers-requires c κs = (c .before .before .before .before .before .before .before .before .before .before .before .before .before .before .before .before .before .before .before .before .before .before .before .before .before .before .before .before .before .before .before .before .before .before .before .before .pre .0, c .before .before .before .before .before .before .before .before .before .before .before .before .before .before .before .before .before .before .before .before .before .before .before .before .before .before .before .before .before .before .before .before .before .before .before .before .pre .1 .takers)
+put-takers-requires c κs = (c .before .before .before .before .before .before .before .before .before .before .before .before .before .before .before .before .before .before .before .before .before .before .before .before .before .before .before .before .before .before .before .before .before .before .before .pre .0, c .before .before .before .before .before .before .before .before .before .before .before .before .before .before .before .before .before .before .before .before .put-follows .ensures (c .before .before .before .before .before .before .before .before .before .before .before .before .before .before .before .before .before .before .before .before .before .before .before .before .before .before .before .before .before .before .before .before .before .before .before .pre .0) .sized .behind)
 
 slice-aggregate-ends-of : tie.Need-slice-aggregate-ends-of
 slice-aggregate-ends-of c = search needs
@@ -66,22 +54,22 @@ slice-aggregate-ends-of-2 : tie.Need-slice-aggregate-ends-of-2
 slice-aggregate-ends-of-2 c = search needs
 
 ends-of-requires : tie.Need-ends-of-requires
-ends-of-requires c κs = (c .before .before .before .before .before .before .before .before .before .before .before .before .before .before .before .before .before .before .before .before .before .before .before .before .before .before .before .before .before .before .before .before .before .before .before .before .before .before .before .before .before .pre .0 .few, c .before .before .before .before .before .before .before .before .before .before .before .before .before .before .before .before .before .before .before .before .before .before .before .before .before .before .before .before .before .before .before .before .before .before .put-fronts .ensures (c .before .before .before .before .before .before .before .before .before .before .before .before .before .before .before .before .before .before .before .before .before .before .before .before .before .before .before .before .before .before .before .before .before .before .before .before .before .before .before .before .before .pre .0) .nulls-long, c .before .before .before .before .before .before .before .before .before .before .before .before .before .before .before .before .before .before .before .before .before .before .before .before .before .put-follows .ensures (c .before .before .before .before .before .before .before .before .before .before .before .before .before .before .before .before .before .before .before .before .before .before .before .before .before .before .before .before .before .before .before .before .before .before .before .before .before .before .before .before .before .pre .0) .sized .ends)
+ends-of-requires c κs = (c .before .before .before .before .before .before .before .before .before .before .before .before .before .before .before .before .before .before .before .before .before .before .before .before .before .before .before .before .before .before .before .before .before .before .before .before .before .before .before .before .pre .0 .few, c .before .before .before .before .before .before .before .before .before .before .before .before .before .before .before .before .before .before .before .before .before .before .before .before .before .before .before .before .before .before .before .before .before .put-fronts .ensures (c .before .before .before .before .before .before .before .before .before .before .before .before .before .before .before .before .before .before .before .before .before .before .before .before .before .before .before .before .before .before .before .before .before .before .before .before .before .before .before .before .pre .0) .nulls-long, c .before .before .before .before .before .before .before .before .before .before .before .before .before .before .before .before .before .before .before .before .before .before .before .before .before .put-follows .ensures (c .before .before .before .before .before .before .before .before .before .before .before .before .before .before .before .before .before .before .before .before .before .before .before .before .before .before .before .before .before .before .before .before .before .before .before .before .before .before .before .before .pre .0) .sized .ends)
 
 same-length : tie.Need-same-length
-same-length c = c .before .before .before .before .before .before .before .before .before .before .before .before .before .before .before .before .put-columns .ensures .long ∙ sym (ap length (c .before .before .before .before .before .before .before .before .before .before .before .before .before .before .before .before .before .before .before .before .before .before .before .before .before .before .before .before .before .before .before .before .before .before .before .before .before .before .before .before .before .before .pre .1 .zeros))
+same-length c = c .before .before .before .before .before .before .before .before .before .before .before .before .before .before .before .before .put-columns .ensures .long ∙ sym (c .before .before .before .before .before .before .before .before .before .before .before .before .before .before .before .before .before .before .before .before .before .before .before .before .before .before .before .before .before .before .before .before .before .before .before .before .before .before .before .before .before .pre .1 .zeros .long)
 
 same-length-2 : tie.Need-same-length-2
-same-length-2 c = c .before .before .before .before .before .before .before .before .before .put-columns2 .ensures .long ∙ sym (ap length (c .before .before .before .before .before .before .before .before .before .before .before .before .before .before .before .before .before .before .before .before .before .before .before .before .before .before .before .before .before .before .before .before .before .before .before .before .before .before .before .before .before .before .pre .1 .ones))
+same-length-2 c = c .before .before .before .before .before .before .before .before .before .put-columns2 .ensures .long ∙ sym (c .before .before .before .before .before .before .before .before .before .before .before .before .before .before .before .before .before .before .before .before .before .before .before .before .before .before .before .before .before .before .before .before .before .before .before .before .before .before .before .before .before .pre .1 .ones .long)
 
 same-length-3 : tie.Need-same-length-3
-same-length-3 c = c .before .before .before .before .before .before .before .before .before .before .before .before .before .before .before .before .before .before .before .before .before .before .before .before .before .before .put-follows .ensures (c .before .before .before .before .before .before .before .before .before .before .before .before .before .before .before .before .before .before .before .before .before .before .before .before .before .before .before .before .before .before .before .before .before .before .before .before .before .before .before .before .before .before .pre .0) .sized .states ∙ sym (c .before .before .before .before .before .before .before .before .before .before .before .before .before .before .before .before .before .before .before .before .before .before .before .before .before .before .before .before .before .before .before .before .before .before .before .before .before .before .before .before .before .before .pre .1 .followers)
+same-length-3 c = c .before .before .before .before .before .before .before .before .before .before .before .before .before .before .before .before .before .before .before .before .before .before .before .before .before .before .put-follows .ensures (c .before .before .before .before .before .before .before .before .before .before .before .before .before .before .before .before .before .before .before .before .before .before .before .before .before .before .before .before .before .before .before .before .before .before .before .before .before .before .before .before .before .pre .0) .sized .states ∙ sym (c .before .before .before .before .before .before .before .before .before .before .before .before .before .before .before .before .before .before .before .before .before .before .before .before .before .before .before .before .before .before .before .before .before .before .before .before .before .before .before .before .before .pre .1 .followers)
 
 same-length-4 : tie.Need-same-length-4
-same-length-4 c = c .before .before .before .before .before .put-takers .ensures .long ∙ sym (ap length (c .before .before .before .before .before .before .before .before .before .before .before .before .before .before .before .before .before .before .before .before .before .before .before .before .before .before .before .before .before .before .before .before .before .before .before .before .before .before .before .before .before .before .pre .1 .takers))
+same-length-4 c = c .before .before .before .before .before .put-takers .ensures .long ∙ sym (c .before .before .before .before .before .before .before .before .before .before .before .before .before .before .before .before .before .before .before .before .before .before .before .before .before .before .before .before .before .before .before .before .before .before .before .before .before .before .before .before .before .pre .1 .takers)
 
 returns : tie.Need-returns
-returns c = masks-made _ (c .before .before .before .before .before .before .before .before .before .before .before .before .before .before .before .before .before .before .before .before .before .before .before .before .before .before .before .before .before .before .before .before .before .before .before .before .before .before .before .before .before .before .pre .0) _ _ _ _ _ _ _ _ _ _ (c .before .before .before .before .before .before .before .before .before .before .before .before .before .before .before .before .before .before .before .before .before .before .before .before .before .before .before .before .before .before .before .before .before .before .before .put-fronts .ensures (c .before .before .before .before .before .before .before .before .before .before .before .before .before .before .before .before .before .before .before .before .before .before .before .before .before .before .before .before .before .before .before .before .before .before .before .before .before .before .before .before .before .before .pre .0)) (c .before .before .before .before .before .before .before .before .before .before .before .before .before .before .before .before .before .before .before .before .before .before .before .before .before .before .put-follows .ensures (c .before .before .before .before .before .before .before .before .before .before .before .before .before .before .before .before .before .before .before .before .before .before .before .before .before .before .before .before .before .before .before .before .before .before .before .before .before .before .before .before .before .before .pre .0)) (c .before .before .before .before .before .before .before .before .before .before .before .before .before .before .before .before .put-columns .ensures) (c .before .before .before .before .before .before .before .before .before .put-columns2 .ensures) (c .before .before .before .before .before .put-takers .ensures) (c .ends-of .ensures)
+returns c = masks-made _ (c .before .before .before .before .before .before .before .before .before .before .before .before .before .before .before .before .before .before .before .before .before .before .before .before .before .before .before .before .before .before .before .before .before .before .before .before .before .before .before .before .before .pre .0) _ _ _ _ _ _ _ _ _ (c .before .before .before .before .before .before .before .before .before .before .before .before .before .before .before .before .before .before .before .before .before .before .before .before .before .before .before .before .before .before .before .before .before .before .put-fronts .ensures (c .before .before .before .before .before .before .before .before .before .before .before .before .before .before .before .before .before .before .before .before .before .before .before .before .before .before .before .before .before .before .before .before .before .before .before .before .before .before .before .before .before .pre .0)) (c .before .before .before .before .before .before .before .before .before .before .before .before .before .before .before .before .before .before .before .before .before .before .before .before .before .before .put-follows .ensures (c .before .before .before .before .before .before .before .before .before .before .before .before .before .before .before .before .before .before .before .before .before .before .before .before .before .before .before .before .before .before .before .before .before .before .before .before .before .before .before .before .before .pre .0)) (c .before .before .before .before .before .before .before .before .before .before .before .before .before .before .before .before .put-columns .ensures) (c .before .before .before .before .before .before .before .before .before .put-columns2 .ensures) (c .before .before .before .before .before .put-takers .ensures) (c .ends-of .ensures)
 
 pub put-masks-spec : {M : Type 1} → statement M
 put-masks-spec =
@@ -93,16 +81,12 @@ put-masks-spec =
     slice-aggregate-put-follows
     slice-aggregate-put-follows-2
     slice-aggregate-put-follows-3
-    slice-aggregate-put-follows-4
-    slice-aggregate-put-follows-5
     put-follows-requires
     slice-aggregate-put-columns
     slice-aggregate-put-columns-2
-    slice-aggregate-put-columns-3
     put-columns-requires
+    slice-aggregate-put-columns-3
     slice-aggregate-put-columns-4
-    slice-aggregate-put-columns-5
-    slice-aggregate-put-columns-6
     put-columns-requires-2
     put-takers-requires
     slice-aggregate-ends-of

@@ -1,7 +1,6 @@
-use mathlib.Core.Path.{_≡_, sym, ap, subst, _∙_}
+use mathlib.Core.Path.{_≡_, sym, _∙_}
 use native.Mathlib.Omega.{arith}
 use Prim.Native.Nat.{_≤_, _-_}
-use lib.ListN.{length}
 use Rattle.bits.specs.Bits.{test-bit}
 use Rattle.states.specs.Masks.{row}
 use Rattle.states.specs.Scatter.{Scattered, scattered-start, columns-next, columns-end}
@@ -10,13 +9,13 @@ use Rattle.states.proofs.masks.put_columns.Statement.{statement}
 use Rattle.states.proofs.masks.put_columns.Tie as tie
 
 abbrev Inv-loop : tie.InvT-loop
-Inv-loop count firsts nulls behind cells₀ i₀ cells i = (i ≤ count) × Scattered (λ l. test-bit (row firsts nulls behind l)) 64 i cells
+Inv-loop count firsts nulls behind flag cells₀ i₀ cells i = (i ≤ count) × Scattered (λ l. test-bit (row firsts nulls behind flag l)) 64 i cells
 
 abbrev μ-loop : tie.MeasureT-loop
-μ-loop count firsts nulls behind cells₀ i₀ cells i = count - i
+μ-loop count firsts nulls behind flag cells₀ i₀ cells i = count - i
 
 loop-holds : tie.Need-loop-holds Inv-loop μ-loop
-loop-holds c = (omega arith, subst (Scattered _ 64 0) (sym (c .before .before .before .before .pre .1)) (scattered-start _ 64))
+loop-holds c = (omega arith, scattered-start _ 64 _ (c .before .before .before .before .pre .1))
 
 mul-join : tie.Need-mul-join Inv-loop μ-loop
 mul-join c = omega (arith, c .loop-test .taken, c .before .before .before .before .before .before .pre .0 .0)
@@ -27,8 +26,14 @@ shared-slice-read-join c = omega (arith, c .before .loop-test .taken, c .before 
 mul-join-2 : tie.Need-mul-join-2 Inv-loop μ-loop
 mul-join-2 c = omega (arith, c .before .loop-test .taken, c .before .before .before .before .before .before .before .pre .0 .0)
 
+add-join : tie.Need-add-join Inv-loop μ-loop
+add-join c = omega (arith, c .before .loop-test .taken, c .before .before .before .before .before .before .before .pre .0 .0, c .before .before .before .before .before .before .before .pre .0 .4)
+
+mul-join-3 : tie.Need-mul-join-3 Inv-loop μ-loop
+mul-join-3 c = omega (arith, c .before .loop-test .taken, c .before .before .before .before .before .before .before .pre .0 .0, c .before .before .before .before .before .before .before .pre .0 .4)
+
 shared-slice-read-join-2 : tie.Need-shared-slice-read-join-2 Inv-loop μ-loop
-shared-slice-read-join-2 c = omega (arith, c .before .before .loop-test .taken, c .before .before .before .before .before .before .before .before .pre .0 .0, c .before .before .before .before .before .before .before .before .pre .0 .3)
+shared-slice-read-join-2 c = omega (arith, c .before .before .loop-test .taken, c .before .before .before .before .before .before .before .before .pre .0 .0, c .before .before .before .before .before .before .before .before .pre .0 .3, c .before .before .before .before .before .before .before .before .pre .0 .4)
 
 shared-slice-read-join-3 : tie.Need-shared-slice-read-join-3 Inv-loop μ-loop
 shared-slice-read-join-3 c = omega (arith, c .before .before .before .loop-test .taken, c .before .before .before .before .before .before .before .before .before .pre .0 .0, c .before .before .before .before .before .before .before .before .before .pre .0 .2)
@@ -46,13 +51,13 @@ loop-less : tie.Need-loop-less Inv-loop μ-loop
 loop-less c = search needs
 
 loop-again : tie.Need-loop-again Inv-loop μ-loop
-loop-again c = (omega (arith, c .before .before .before .before .before .before .before .before .loop-test .taken), columns-next (row (c .before .before .before .before .before .before .before .before .before .before .before .before .before .before .args .firsts .now) (c .before .before .before .before .before .before .before .before .before .before .before .before .before .before .args .nulls .now) (c .before .before .before .before .before .before .before .before .before .before .before .before .before .before .args .behind .now)) _ _ _ _ (c .before .before .before .before .before .before .before .before .before .loop .inv .1) (c .before .before .before .before .join .ensures) (c .before .before .put-row .ensures))
+loop-again c = (omega (arith, c .before .before .before .before .before .before .before .before .loop-test .taken), columns-next (row (c .before .before .before .before .before .before .before .before .before .before .before .before .before .before .args .firsts .now) (c .before .before .before .before .before .before .before .before .before .before .before .before .before .before .args .nulls .now) (c .before .before .before .before .before .before .before .before .before .before .before .before .before .before .args .behind .now) (c .before .before .before .before .before .before .before .before .before .before .before .before .before .before .args .flag)) _ _ _ _ (c .before .before .before .before .before .before .before .before .before .loop .inv .1) (c .before .before .before .before .join .ensures) (c .before .before .put-row .ensures))
 
 same-length : tie.Need-same-length Inv-loop μ-loop
-same-length c = c .before .loop .inv .1 .long ∙ sym (ap length (c .before .before .before .before .before .before .pre .1))
+same-length c = c .before .loop .inv .1 .long ∙ sym (c .before .before .before .before .before .before .pre .1 .long)
 
 returns : tie.Need-returns Inv-loop μ-loop
-returns c = columns-end (row (c .before .before .before .before .before .before .args .firsts .now) (c .before .before .before .before .before .before .args .nulls .now) (c .before .before .before .before .before .before .args .behind .now)) _ _ _ (c .before .before .before .before .before .before .pre .0 .0) (omega (arith, c .before .loop .inv .0, c .loop-test .left)) (c .before .loop .inv .1)
+returns c = columns-end (row (c .before .before .before .before .before .before .args .firsts .now) (c .before .before .before .before .before .before .args .nulls .now) (c .before .before .before .before .before .before .args .behind .now) (c .before .before .before .before .before .before .args .flag)) _ _ _ (c .before .before .before .before .before .before .pre .0 .0) (omega (arith, c .before .loop .inv .0, c .loop-test .left)) (c .before .loop .inv .1)
 
 pub put-columns-spec : {M : Type 1} → statement M
 put-columns-spec =
@@ -64,6 +69,8 @@ put-columns-spec =
     mul-join
     shared-slice-read-join
     mul-join-2
+    add-join
+    mul-join-3
     shared-slice-read-join-2
     shared-slice-read-join-3
     join-requires
