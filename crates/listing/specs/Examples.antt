@@ -3,9 +3,9 @@ use mathlib.Core.Path.{_≡_, refl}
 use mathlib.Core.List.{List, [], _∷_}
 use Prim.Native.Nat.{ℕ}
 use Rattle.syntax.specs.Letter.{is-letter, in-range}
-use Rattle.syntax.specs.Text.{rows, digit, one-digit, two-digits, place, single, account, node-of-none, node-of-one, range-of, parts-of, node-of-two, node-of, line-of, row-line, forms}
+use Rattle.loading.specs.Text.{rows, digit, one-digit, two-digits, place, single, account, node-of-none, node-of-one, range-of, parts-of, node-of-two, node-of, line-of, row-line, forms}
 use Rattle.syntax.specs.Table.{no-lines, line-good, wrongly-names, unnamed, tree-fault, obeys}
-use Rattle.syntax.specs.Load.{table, load-answer, load-table}
+use Rattle.loading.specs.Load.{table, load-answer, load-table}
 use Rattle.syntax.specs.Trees.{tree-of, root}
 use Rattle.semantics.specs.Sweeps.{readable, greedy}
 use Rattle.semantics.specs.Accounts.{accounts, litres, total, totals}

@@ -9,14 +9,14 @@ use lib.Dec.{ltb, leb, eqb}
 use lib.ListN.{length, take, drop, getD, length-append, length-drop, List·getD-append}
 use lib.Seq.{take-at, take-length}
 use Rattle.syntax.specs.declared.Pattern.{Pattern}
-use Rattle.syntax.specs.declared.Loaded.{Loaded}
-use Rattle.syntax.specs.declared.Outcome.the-variants.{Lines, Refused as Not-loaded}
+use Rattle.loading.specs.declared.Loaded.{Loaded}
+use Rattle.loading.specs.declared.Outcome.the-variants.{Lines, Refused as Not-loaded}
 use Rattle.syntax.specs.declared.Refusal.{Refusal}
 use Rattle.syntax.specs.declared.Refusal.the-variants.{LineForm, Tree as Tree-fault, TapeTooLong, TapeByte, Unreadable, WordsTooShort, CodeTooShort, NotACode, TapeTooShort, NoSuchVisit}
 use Rattle.syntax.specs.Refusals.{answer, refused, number}
 use Rattle.syntax.specs.Table.{obeys}
 use Rattle.syntax.specs.Trees.{root}
-use Rattle.syntax.specs.Load.{outcome-answer, load-answer, Loads}
+use Rattle.loading.specs.Load.{outcome-answer, load-answer, Loads}
 use Rattle.bits.specs.Bits.{cell-count, pack, in-front}
 use Rattle.bits.specs.Packing.{length-pack}
 use Rattle.bits.specs.Handed.{held-pack}

@@ -14,11 +14,11 @@ use Rattle.syntax.specs.declared.Pattern.{Pattern}
 use Rattle.syntax.specs.declared.Refusal.the-variants.{Tree as Tree-fault, TapeTooLong}
 use Rattle.syntax.specs.Refusals.{refused}
 use Rattle.syntax.specs.Table.{obeys}
-use Rattle.syntax.specs.Text.{Row, byte-front, rows, place, single, account, line-of, row-line, fault, line-front, forms}
-use Rattle.syntax.specs.Load.{forms-answer, forms-table, load-answer, load-table}
-use Rattle.syntax.specs.Scans.{first-fields, first-closed, first-size, parts-say, account-says}
-use Rattle.syntax.specs.Scanning.{line-no-place, line-no-long, line-no-kind, line-short, line-alone, line-account, account-no-long, parts-no-long, parts-no-second, parts-no-more}
-use Rattle.syntax.specs.Lines.{rows-first}
+use Rattle.loading.specs.Text.{Row, byte-front, rows, place, single, account, line-of, row-line, fault, line-front, forms}
+use Rattle.loading.specs.Load.{forms-answer, forms-table, load-answer, load-table}
+use Rattle.loading.specs.Scans.{first-fields, first-closed, first-size, parts-say, account-says}
+use Rattle.loading.specs.Scanning.{line-no-place, line-no-long, line-no-kind, line-short, line-alone, line-account, account-no-long, parts-no-long, parts-no-second, parts-no-more}
+use Rattle.loading.specs.Lines.{rows-first}
 use Rattle.parser.specs.Parse.{early}
 use Rattle.listing.specs.Listing.{refused-line, read-listing, early-cause, pattern-listing, closed, tape-of, listing-of}
 
