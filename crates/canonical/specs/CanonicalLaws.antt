@@ -15,7 +15,7 @@ use Rattle.syntax.specs.declared.Pattern.{Pattern}
 use Rattle.syntax.specs.declared.Refusal.{Refusal}
 use Rattle.syntax.specs.declared.Refusal.the-variants.{LineForm, Tree as Tree-fault, TapeTooLong, TapeByte, Unreadable, WordsTooShort, CodeTooShort, NotACode, TapeTooShort, NoSuchVisit}
 use Rattle.syntax.specs.Bools.{and-snd}
-use Rattle.syntax.specs.Letter.{is-letter}
+use Rattle.syntax.specs.Letter.{is-letter, first-bad}
 use Rattle.syntax.specs.Refusals.{Answer, answer, refused, number}
 use Rattle.syntax.specs.Table.{obeys, line-at, node-at, line-good, node-good}
 use Rattle.syntax.specs.Tree.{Label, Tree, nothing, letter, range, seq, alt, star}
@@ -31,7 +31,7 @@ use Rattle.codes.specs.Flatten.{whole-code, letters-of, room-answer, too-long, 
 use Rattle.codes.specs.Measures.{whole-handed, whole-value, spells}
 use Rattle.parser.specs.declared.Parsed.{Parsed}
 use Rattle.parser.specs.declared.Parsed.the-variants.{Bits as Parsed-bits, Refused as Not-parsed}
-use Rattle.parser.specs.Parse.{parsed-answer, first-bad, early, Parses-by, Parses}
+use Rattle.parser.specs.Parse.{parsed-answer, early, Parses-by, Parses}
 use Rattle.canonical.specs.declared.Canonicalized.{Canonicalized}
 use Rattle.canonical.specs.declared.Canonicalized.the-variants.{Bits}
 use Rattle.canonical.specs.Canonicalize.{canonicalized-answer, passed-flattened, passed-parsed, Read-by, Settles-by, Canonicalizes}

@@ -2,7 +2,7 @@
 use mathlib.Core.Path.{_≡_, refl}
 use mathlib.Core.List.{List, [], _∷_}
 use Prim.Native.Nat.{ℕ}
-use Rattle.syntax.specs.Letter.{is-letter, in-range}
+use Rattle.syntax.specs.Letter.{is-letter, in-range, first-bad}
 use Rattle.loading.specs.Text.{rows, digit, one-digit, two-digits, place, single, account, node-of-none, node-of-one, range-of, parts-of, node-of-two, node-of, line-of, row-line, forms}
 use Rattle.syntax.specs.Table.{no-lines, line-good, wrongly-names, unnamed, tree-fault, obeys}
 use Rattle.loading.specs.Load.{table, load-answer, load-table}
@@ -13,7 +13,7 @@ use Rattle.semantics.specs.Decode.{value-of}
 use Rattle.states.specs.StateSets.{state-set}
 use Rattle.states.specs.Nodes.{node-word}
 use Rattle.bits.specs.Bits.{pack, word-of, count-below}
-use Rattle.parser.specs.Parse.{first-bad, early}
+use Rattle.parser.specs.Parse.{early}
 use Rattle.listing.specs.Listing.{digits, decimal, hex-digit, hex-byte, hex, field, entry, line, tape-line, account-line, account-lines, open-lines, refused-line, listing, read-listing, early-cause, pattern-listing, closed, tape-of, listing-of}
 
 -- the pattern's text, line by line

@@ -8,6 +8,7 @@ use borrow.Author.Tests.{le-ltb, ltb-false, le-leb, eq-eqb, ne-eqb}
 use lib.Dec.{ltb, leb, eqb}
 use lib.ListN.{length, take, drop, getD, length-append, length-drop, List·getD-append}
 use lib.Seq.{take-at, take-length}
+use Rattle.syntax.specs.Letter.{first-bad}
 use Rattle.syntax.specs.declared.Pattern.{Pattern}
 use Rattle.loading.specs.declared.Loaded.{Loaded}
 use Rattle.loading.specs.declared.Outcome.the-variants.{Lines, Refused as Not-loaded}
@@ -32,7 +33,7 @@ use Rattle.codes.specs.Totals.{entries-by, entries-of, totals-answer, totals-li
 use Rattle.canonical.specs.RoundTrip.{canonical-whole, canonical-spells}
 use Rattle.parser.specs.declared.Parsed.{Parsed}
 use Rattle.parser.specs.declared.Parsed.the-variants.{Bits, Refused}
-use Rattle.parser.specs.Parse.{parsed-answer, first-bad, early, Reads-greedily, Parses-by, Parses}
+use Rattle.parser.specs.Parse.{parsed-answer, early, Reads-greedily, Parses-by, Parses}
 use Rattle.parser.specs.ParseLaws.{greedy-few}
 use Rattle.listing.specs.declared.Listed.{Listed}
 use Rattle.listing.specs.declared.Listed.the-variants.{Bytes, TooShort}

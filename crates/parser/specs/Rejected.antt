@@ -1,19 +1,17 @@
 -- 01, the bodies to try on reading: "The first round read, then stop bits (2)", "One code for all tapes (2, 3)", "Every tape unreadable (2)".
 -- On the pattern a* the contract of `parse` leaves one answer for each of two tapes, so each of these bodies breaks it.
 use mathlib.Core.Path.{_≡_, refl, sym, ap, _∙_}
-use mathlib.Core.Bool.{Bool, true, false}
+use mathlib.Core.Bool.{true, false}
 use mathlib.Core.List.{List, [], _∷_}
 use Prim.Native.Nat.{ℕ, _+_, _*_, _≤_}
 use native.Mathlib.Omega.{arith}
 use borrow.Author.Tests.{le-ltb}
 use lib.ListN.{length, getD, replicate}
 use Rattle.syntax.specs.declared.Leaf.the-variants.{Letter}
-use Rattle.syntax.specs.declared.Line.{Line}
-use Rattle.syntax.specs.declared.Node.{Node}
 use Rattle.syntax.specs.declared.Node.the-variants.{Leaf as Leaf-node, Star}
 use Rattle.syntax.specs.declared.Pattern.{Pattern}
 use Rattle.syntax.specs.declared.Refusal.the-variants.{Unreadable}
-use Rattle.syntax.specs.Letter.{is-letter}
+use Rattle.syntax.specs.Letter.{is-letter, first-bad}
 use Rattle.syntax.specs.Refusals.{answer, refused}
 use Rattle.syntax.specs.Table.{blank, obeys, line-good, wrongly-names, unnamed, tree-fault}
 use Rattle.syntax.specs.Trees.{root, tree-of}
@@ -21,7 +19,7 @@ use Rattle.bits.specs.Bits.{cell-count, pack, in-front}
 use Rattle.semantics.specs.Sweeps.{readable, greedy}
 use Rattle.semantics.specs.GreedyLaws.{greedy-canonical}
 use Rattle.parser.specs.declared.Parsed.{Parsed}
-use Rattle.parser.specs.Parse.{parsed-answer, first-bad, early, Reads-greedily, Parses}
+use Rattle.parser.specs.Parse.{parsed-answer, early, Parses}
 
 -- what reading answers and leaves where a tape is readable and the buffers suffice
 pub reads-greedy : (p : Pattern) (tape ws us xs ys : List ℕ) (r : Parsed) → Parses p tape ws us xs ys r → obeys p ≡ true → length tape ≤ 3600 → length tape ≤ first-bad tape

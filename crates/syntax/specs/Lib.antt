@@ -1,5 +1,6 @@
 pub mod Bools
 pub mod Letter
+pub mod LetterLaws
 pub mod Tree
 pub mod Refusals
 pub mod RefusalLaws

@@ -1,6 +1,6 @@
-// Patterns: the table of nodes and the test of the pattern rules.
+// Patterns: the table of nodes, the test of the pattern rules, and letters.
 ghost use mathlib.Core.Path.{_≡_};
-ghost use Rattle.syntax.specs.Letter.{is-letter};
+ghost use Rattle.syntax.specs.Letter.{is-letter, first-bad};
 ghost use Rattle.syntax.specs.Table.{no-lines, obeys};
 
 pub mod naming; // naming.rt: which nodes are named as parts
@@ -83,6 +83,22 @@ pub fn is_letter(c: u8) -> bool
         return false;
     }
     c <= Pattern::LAST_LETTER
+}
+
+// The position of the first byte that is no letter, the tape's length where there is none.
+pub fn first_bad(tape: &[u8]) -> usize
+    ensures { λ r. ⌜ r ≡ first-bad (now (tape .entry)) ⌝ }
+{
+    let mut i = 0;
+    loop {
+        if tape.len() <= i {
+            break i;
+        }
+        if !is_letter(tape[i]) {
+            break i;
+        }
+        i += 1;
+    }
 }
 
 // Whether a table obeys the pattern rules. Nothing at or past its count is looked at.
