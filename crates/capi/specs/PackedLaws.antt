@@ -12,7 +12,7 @@ use Rattle.syntax.specs.declared.Pattern.{Pattern}
 use Rattle.syntax.specs.declared.Refusal.{Refusal}
 use Rattle.syntax.specs.declared.Refusal.the-variants.{LineForm, Tree as Tree-fault, TapeTooLong, TapeByte, Unreadable, WordsTooShort, CodeTooShort, NotACode, TapeTooShort, NoSuchVisit}
 use Rattle.loading.specs.declared.Loaded.{Loaded}
-use Rattle.syntax.specs.Letter.{first-bad}
+use Rattle.syntax.specs.Letter.{first-bad, letter-limit}
 use Rattle.syntax.specs.Refusals.{answer, refused, number}
 use Rattle.syntax.specs.Table.{obeys}
 use Rattle.syntax.specs.Trees.{root}
@@ -20,7 +20,7 @@ use Rattle.loading.specs.Load.{load-table, load-answer, outcome-answer, Loads}
 use Rattle.semantics.specs.Visits.{Visit}
 use Rattle.codes.specs.declared.Flattened.{Flattened}
 use Rattle.codes.specs.declared.Totalled.{Totalled}
-use Rattle.codes.specs.Flatten.{letter-limit, bad-table, no-code, too-long, flattened-answer, Flattens}
+use Rattle.codes.specs.Flatten.{bad-table, no-code, too-long, flattened-answer, Flattens}
 use Rattle.codes.specs.Totals.{totals-outcome, Totals}
 use Rattle.spans.specs.declared.Spanned.{Spanned}
 use Rattle.spans.specs.declared.SpanOutcome.the-variants.{Shown, Refused}
@@ -105,7 +105,7 @@ module _ (p : Pattern) (tape code : List ℕ) (count l k : ℕ) (s : Spanned) (h
   shown-zero e = sym (ap (λ a. a .number) (h .answers)) ∙ ap (λ o. span-outcome o .number) e
 
   -- start and length fit 16 bits each
-  pub shown-small : s .outcome ≡ Shown → s .start + s .length ≤ 3600
+  pub shown-small : s .outcome ≡ Shown → s .start + s .length ≤ letter-limit
   unfolding span-answer
   shown-small e =
       let (a, v) = answered (obeys p) (leb (length tape) letter-limit) (ltb (first-bad tape) (length tape)) (first-bad tape) (code-of-tape (root p) tape code count) (span-visit p code count l k) (shown-zero e) in

@@ -10,12 +10,12 @@ use lib.Dec.{leb, ltb, eqb}
 use lib.ListN.{length}
 use Rattle.syntax.specs.declared.Pattern.{Pattern}
 use Rattle.syntax.specs.declared.Refusal.the-variants.{TapeByte}
-use Rattle.syntax.specs.Letter.{first-bad}
+use Rattle.syntax.specs.Letter.{first-bad, letter-limit}
 use Rattle.syntax.specs.Refusals.{answer, refused}
 use Rattle.syntax.specs.Table.{obeys}
 use Rattle.syntax.specs.Trees.{root}
 use Rattle.semantics.specs.Visits.{Visit}
-use Rattle.codes.specs.Flatten.{letter-limit, bad-table, no-code, too-long}
+use Rattle.codes.specs.Flatten.{bad-table, no-code, too-long}
 use Rattle.spans.specs.declared.Spanned.{Spanned}
 use Rattle.spans.specs.declared.SpanOutcome.the-variants.{Shown}
 use Rattle.spans.specs.Spans.{code-of-tape, span-visit, visit-answer, span-answer, start-of, size-of, span-shown, Spans}
@@ -48,7 +48,7 @@ module _ (p : Pattern) (tape code : List ℕ) (count l k : ℕ) (x : Visit) (e :
     lengths = sym (ap size-of e);
   }
 
-  pub shown-within : x .start + x .size ≤ 3600
+  pub shown-within : x .start + x .size ≤ letter-limit
   unfolding shown
   shown-within = omega (arith, part p tape code count l k shown shown-spans .fits, leb-true (length tape) letter-limit (shown-is .0))
 

@@ -16,6 +16,7 @@ use Rattle.syntax.specs.declared.Node.{Node}
 use Rattle.syntax.specs.declared.Node.the-variants.{Leaf as Leaf-node, Sequence, Alternative, Star}
 use Rattle.syntax.specs.declared.Refusal.{Refusal}
 use Rattle.syntax.specs.declared.Refusal.the-variants.{Tree as Tree-fault, TapeTooLong, NotACode}
+use Rattle.syntax.specs.Letter.{letter-limit}
 use Rattle.syntax.specs.Tree.{Label, Tree}
 use Rattle.syntax.specs.Trees.{made, tree-of, root}
 use Rattle.syntax.specs.TreeLaws.{Below, Rules, obeys-iff, tree-line}
@@ -32,7 +33,7 @@ use Rattle.columns.specs.ColumnLaws.{holds-tree}
 use Rattle.codes.specs.declared.TotalsOutcome.the-variants.{Added, Refused}
 use Rattle.codes.specs.declared.Totalled.{Totalled}
 use Rattle.codes.specs.declared.walk.Measured.{Measured}
-use Rattle.codes.specs.Flatten.{letter-limit, whole-code, letters-of}
+use Rattle.codes.specs.Flatten.{whole-code, letters-of}
 use Rattle.codes.specs.Totals.{entries-by, entries-of, totals-answer, totals-litres, no-litres, totals-outcome, Totals}
 use Rattle.codes.specs.Words.{same-seen}
 use Rattle.codes.specs.Handed.{held-length}

@@ -7,7 +7,7 @@ use lib.Dec.{ltb}
 use lib.ListN.{length}
 use Rattle.syntax.specs.declared.Pattern.{Pattern}
 use Rattle.syntax.specs.declared.Refusal.the-variants.{Tree as Tree-fault, TapeTooLong, TapeByte, Unreadable, WordsTooShort, CodeTooShort}
-use Rattle.syntax.specs.Letter.{first-bad}
+use Rattle.syntax.specs.Letter.{first-bad, letter-limit}
 use Rattle.syntax.specs.Refusals.{Answer, answer, refused}
 use Rattle.syntax.specs.Table.{obeys}
 use Rattle.syntax.specs.Tree.{Tree}
@@ -27,7 +27,7 @@ parsed-answer (Refused r) = refused r
 unfoldable pub early : Pattern → (tape : List ℕ) → (words : ℕ) → Answer
 early p tape n =
     cond (not (obeys p)) (refused (Tree-fault 0))
-    (cond (ltb 3600 (length tape)) (refused TapeTooLong)
+    (cond (ltb letter-limit (length tape)) (refused TapeTooLong)
     (cond (ltb (first-bad tape) (length tape)) (refused (TapeByte (first-bad tape)))
     (cond (ltb n (2 * (length tape + 1))) (refused (WordsTooShort (2 * (length tape + 1)))) (answer 0 0))))
 

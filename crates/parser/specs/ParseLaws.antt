@@ -10,7 +10,7 @@ use borrow.Author.Tests.{lt-ltb, le-ltb}
 use lib.ListN.{length, getD, drop, length-append, length-drop, List·getD-append}
 use Rattle.syntax.specs.declared.Pattern.{Pattern}
 use Rattle.syntax.specs.declared.Refusal.the-variants.{Tree as Tree-fault, TapeTooLong, TapeByte, Unreadable, WordsTooShort, CodeTooShort}
-use Rattle.syntax.specs.Letter.{first-bad}
+use Rattle.syntax.specs.Letter.{first-bad, letter-limit}
 use Rattle.syntax.specs.Refusals.{answer, refused}
 use Rattle.syntax.specs.Table.{obeys, line-at}
 use Rattle.syntax.specs.Tree.{Tree, nothing, letter, range, seq, alt, star}
@@ -78,7 +78,7 @@ pub root-choices : (p : Pattern) → obeys p ≡ true → choices (root p) ≤ 6
 root-choices p h = let r = obeys-iff p .0 h in omega (arith, choices-nodes (root p), root-nodes p r, r .few)
 
 -- no code of a tape within the limit passes 65,536 bytes
-pub greedy-few : (p : Pattern) → obeys p ≡ true → (tape : List ℕ) → length tape ≤ 3600 → readable (root p) tape ≡ true → length (greedy (root p) tape) ≤ 524288
+pub greedy-few : (p : Pattern) → obeys p ≡ true → (tape : List ℕ) → length tape ≤ letter-limit → readable (root p) tape ≡ true → length (greedy (root p) tape) ≤ 524288
 greedy-few p h tape few reads =
     let c = greedy-canonical (root p) tape reads in
     rw (c .written) at (code-fits (root p) (c .value) (root-choices p h) (c .greedy .solid) (rw (c .greedy .spells) few))
@@ -218,19 +218,19 @@ module _ (p : Pattern) (tape ws xs : List ℕ) where
   parse-rules e = rw e (refl, refl, refl)
 
   module _ (good : obeys p ≡ true) where
-    pub parse-long : 3600 < length tape → Parses p tape ws ws xs xs (Refused TapeTooLong)
+    pub parse-long : letter-limit < length tape → Parses p tape ws ws xs xs (Refused TapeTooLong)
     unfolding Parses early
-    parse-long h = rw (good, lt-ltb 3600 (length tape) h) (refl, refl, refl)
+    parse-long h = rw (good, lt-ltb letter-limit (length tape) h) (refl, refl, refl)
 
-    module _ (few : length tape ≤ 3600) where
+    module _ (few : length tape ≤ letter-limit) where
       pub parse-byte : (bad : ℕ) → bad ≡ first-bad tape → bad < length tape → Parses p tape ws ws xs xs (Refused (TapeByte bad))
       unfolding Parses early
-      parse-byte bad e h = rw (good, le-ltb 3600 (length tape) few, ← e, lt-ltb bad (length tape) h) (refl, refl, refl)
+      parse-byte bad e h = rw (good, le-ltb letter-limit (length tape) few, ← e, lt-ltb bad (length tape) h) (refl, refl, refl)
 
       module _ (letters : length tape ≤ first-bad tape) where
         pub parse-words : (needed : ℕ) → needed ≡ 2 * (length tape + 1) → length ws < needed → Parses p tape ws ws xs xs (Refused (WordsTooShort needed))
         unfolding Parses early
-        parse-words needed e h = rw (good, le-ltb 3600 (length tape) few, le-ltb (first-bad tape) (length tape) letters, ← e, lt-ltb (length ws) needed h) (refl, refl, refl)
+        parse-words needed e h = rw (good, le-ltb letter-limit (length tape) few, le-ltb (first-bad tape) (length tape) letters, ← e, lt-ltb (length ws) needed h) (refl, refl, refl)
 
         module _ (room : 2 * (length tape + 1) ≤ length ws) where
           pub fillable : Fillable p tape ws
@@ -238,7 +238,7 @@ module _ (p : Pattern) (tape ws xs : List ℕ) where
 
           on : (us ys : List ℕ) (a : Parsed) → us ≡ in-front (words p tape) ws → Reads-greedily (root p) tape xs ys (parsed-answer a) → Parses p tape ws us xs ys a
           unfolding Parses early
-          on us ys a e r = rw (good, le-ltb 3600 (length tape) few, le-ltb (first-bad tape) (length tape) letters, le-ltb (length ws) (2 * (length tape + 1)) room) (e, r)
+          on us ys a e r = rw (good, le-ltb letter-limit (length tape) few, le-ltb (first-bad tape) (length tape) letters, le-ltb (length ws) (2 * (length tape + 1)) room) (e, r)
 
           module _ (us : List ℕ) (filled : us ≡ in-front (words p tape) ws) (o : Bool) (eo : o ≡ test-bit (getD us (2 * 0 + bit true) 0) (p .count - 1)) where
             -- the root's mark says whether the tape is readable

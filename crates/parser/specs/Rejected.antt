@@ -11,7 +11,7 @@ use Rattle.syntax.specs.declared.Leaf.the-variants.{Letter}
 use Rattle.syntax.specs.declared.Node.the-variants.{Leaf as Leaf-node, Star}
 use Rattle.syntax.specs.declared.Pattern.{Pattern}
 use Rattle.syntax.specs.declared.Refusal.the-variants.{Unreadable}
-use Rattle.syntax.specs.Letter.{is-letter, first-bad}
+use Rattle.syntax.specs.Letter.{is-letter, first-bad, letter-limit}
 use Rattle.syntax.specs.Refusals.{answer, refused}
 use Rattle.syntax.specs.Table.{blank, obeys, line-good, wrongly-names, unnamed, tree-fault}
 use Rattle.syntax.specs.Trees.{root, tree-of}
@@ -22,12 +22,12 @@ use Rattle.parser.specs.declared.Parsed.{Parsed}
 use Rattle.parser.specs.Parse.{parsed-answer, early, Parses}
 
 -- what reading answers and leaves where a tape is readable and the buffers suffice
-pub reads-greedy : (p : Pattern) (tape ws us xs ys : List ℕ) (r : Parsed) → Parses p tape ws us xs ys r → obeys p ≡ true → length tape ≤ 3600 → length tape ≤ first-bad tape
+pub reads-greedy : (p : Pattern) (tape ws us xs ys : List ℕ) (r : Parsed) → Parses p tape ws us xs ys r → obeys p ≡ true → length tape ≤ letter-limit → length tape ≤ first-bad tape
     → 2 * (length tape + 1) ≤ length ws → readable (root p) tape ≡ true → cell-count 8 (length (greedy (root p) tape)) ≤ length xs
     → (parsed-answer r ≡ answer 0 (length (greedy (root p) tape))) × (ys ≡ in-front (pack 8 (greedy (root p) tape)) xs)
 unfolding Parses early
 reads-greedy p tape ws us xs ys r h good few letters room reads fit =
-    let w = rw (good, le-ltb 3600 (length tape) few, le-ltb (first-bad tape) (length tape) letters, le-ltb (length ws) (2 * (length tape + 1)) room) at h in
+    let w = rw (good, le-ltb letter-limit (length tape) few, le-ltb (first-bad tape) (length tape) letters, le-ltb (length ws) (2 * (length tape + 1)) room) at h in
     w .1 .fits (greedy (root p) tape) (greedy-canonical (root p) tape reads) fit
 
 -- the pattern a*, as a table of 64 lines

@@ -3,6 +3,7 @@ ghost use mathlib.Core.Path.{_≡_};
 ghost use mathlib.Core.Bool.{true};
 ghost use Prim.Native.Nat.{_≤_, _<_};
 ghost use lib.ListN.{length};
+ghost use Rattle.syntax.specs.Letter.{letter-limit};
 ghost use Rattle.columns.specs.Columns.{Good};
 ghost use Rattle.sweep.specs.Sweeping.{Ready};
 ghost use Rattle.parser.specs.Parse.{Parses};
@@ -34,7 +35,7 @@ fn bytes_missing(
     size: usize,
 ) -> usize
     requires { ⌜ Good (now kind) (now first) (now second) ⌝ }
-    requires { ⌜ (l < 64) × (length (now tape) ≤ 3600) ⌝ }
+    requires { ⌜ (l < 64) × (length (now tape) ≤ letter-limit) ⌝ }
     requires { ⌜ Ready (now kind) (now first) (now second) (now words) (now tape) l 0 true 0 ⌝ }
     ensures { λ r.
         ⌜ ((s : Ready (now (kind .entry)) (now (first .entry)) (now (second .entry)) (now (words .entry)) (now (tape .entry)) l 0 true 0) → Missing (s .it .bits) (length (now (tape .entry))) size r) ⌝ }

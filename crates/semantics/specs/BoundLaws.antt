@@ -9,6 +9,7 @@ use native.Mathlib.Nat.{mul-le-mul-left, mul-le-mul-right}
 use native.Mathlib.Omega.{arith}
 use lib.Dec.{leb}
 use lib.ListN.{length, length-append}
+use Rattle.syntax.specs.Letter.{letter-limit}
 use Rattle.syntax.specs.Tree.{Tree, nothing, letter, range, seq, alt, star}
 use Rattle.semantics.specs.Value.{Value, flat-rounds, nonproblematic-rounds, flat, nonproblematic}
 use Rattle.semantics.specs.Code.{bits-of, code-rounds, code, code-limit, choices}
@@ -75,7 +76,7 @@ few-bits-some t v ok h = go (code-within t v ok)
     go (inr p) = omega arith
 
 -- 01's limits: a pattern has at most 64 nodes, so at most 64 of them are choices; a tape has at most 3,600 letters. So no code without empty rounds passes the limit of codes.
-pub code-fits : (t : Tree) (v : Value t) → choices t ≤ 64 → nonproblematic t v ≡ true → length (flat t v) ≤ 3600 → length (code t v) ≤ code-limit
+pub code-fits : (t : Tree) (v : Value t) → choices t ≤ 64 → nonproblematic t v ≡ true → length (flat t v) ≤ letter-limit → length (code t v) ≤ code-limit
 code-fits t v few ok h = go (code-within t v ok)
   where
     go : Within (choices t) (length (flat t v)) (length (code t v)) → length (code t v) ≤ code-limit

@@ -9,14 +9,14 @@ use lib.Dec.{leb, ltb, eqb}
 use lib.ListN.{length, take, drop}
 use Rattle.syntax.specs.declared.Pattern.{Pattern}
 use Rattle.syntax.specs.declared.Refusal.the-variants.{TapeByte}
-use Rattle.syntax.specs.Letter.{first-bad}
+use Rattle.syntax.specs.Letter.{first-bad, letter-limit}
 use Rattle.syntax.specs.Trees.{root}
 use Rattle.syntax.specs.Table.{obeys}
 use Rattle.syntax.specs.Refusals.{number, refused}
 use Rattle.semantics.specs.Visits.{Visit, visit}
 use Rattle.semantics.specs.VisitLaws.{visit-shows}
 use Rattle.spans.specs.declared.Spanned.{Spanned}
-use Rattle.codes.specs.Flatten.{letter-limit, bad-table, no-code, too-long}
+use Rattle.codes.specs.Flatten.{bad-table, no-code, too-long}
 use Rattle.codes.specs.Measures.{whole-handed, whole-value, spells}
 use Rattle.spans.specs.Spans.{code-of-tape, visit-by, span-visit, visit-answer, span-answer, start-of, size-of, span-shown, piece-of, Spans}
 use Rattle.spans.specs.SpanLaws.{tape-whole, tape-letters}

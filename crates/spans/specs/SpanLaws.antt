@@ -12,7 +12,7 @@ use lib.Seq.{drop-cons}
 use Rattle.syntax.specs.declared.Pattern.{Pattern}
 use Rattle.syntax.specs.declared.Refusal.{Refusal}
 use Rattle.syntax.specs.declared.Refusal.the-variants.{LineForm, Tree as Tree-fault, TapeTooLong, TapeByte, Unreadable, WordsTooShort, CodeTooShort, NotACode, TapeTooShort, NoSuchVisit}
-use Rattle.syntax.specs.Letter.{first-bad}
+use Rattle.syntax.specs.Letter.{first-bad, letter-limit}
 use Rattle.syntax.specs.Tree.{Tree}
 use Rattle.syntax.specs.Trees.{root}
 use Rattle.syntax.specs.Table.{obeys}
@@ -27,7 +27,7 @@ use Rattle.spans.specs.declared.SpanOutcome.the-variants.{Shown}
 use Rattle.spans.specs.declared.find.Found.{Found}
 use Rattle.codes.specs.declared.Flattened.the-variants.{Letters, Refused as Flatten-refused}
 use Rattle.codes.specs.declared.walk.Measured.{Measured}
-use Rattle.codes.specs.Flatten.{letter-limit, whole-code, letters-of, too-long, no-code, flatten-answer, flatten-tape, Flattens}
+use Rattle.codes.specs.Flatten.{whole-code, letters-of, too-long, no-code, flatten-answer, flatten-tape, Flattens}
 use Rattle.spans.specs.Spans.{same, code-of-tape, visit-by, span-visit, visit-answer, span-answer, start-of, size-of, span-shown, refused-span, Spans}
 use Rattle.codes.specs.Measures.{value-see, whole-handed, whole-value, spells, measured, measured-yes, measured-letters}
 use Rattle.spans.specs.Traces.{trace, trace-visits, trace-at, hit, found-by, found-in}
@@ -74,7 +74,7 @@ module _ (p : Pattern) (tape code : List ℕ) (count l k : ℕ) where
           unfolding code-of-tape
           span-whole = and-both (whole-code (root p) code count) (same (letters-of (root p) code count) tape) w .0
 
-          span-few : length (letters-of (root p) code count) ≤ 3600
+          span-few : length (letters-of (root p) code count) ≤ letter-limit
           unfolding code-of-tape
           span-few = let e = same-length (letters-of (root p) code count) tape (and-both (whole-code (root p) code count) (same (letters-of (root p) code count) tape) w .1) in omega arith
 
@@ -119,7 +119,7 @@ module _ (p : Pattern) (tape code : List ℕ) (count l k : ℕ) where
                     record { answers = sym (given ∙ ap visit-answer e); starts = ap (λ z. z .start) g ∙ sym (ap start-of s); lengths = ap (λ z. z .size) g ∙ sym (ap size-of s) }
 
 -- ── the walk that looks for the visit may start ──
-pub seek-ready : (t : Tree) (code : List ℕ) (count : ℕ) (m : Measured) → m ≡ measured t code count → m .whole ≡ true → m .letters ≤ 3600 → Seeking (trace-at code count t 0) 0
+pub seek-ready : (t : Tree) (code : List ℕ) (count : ℕ) (m : Measured) → m ≡ measured t code count → m .whole ≡ true → m .letters ≤ letter-limit → Seeking (trace-at code count t 0) 0
 unfolding trace-at
 seek-ready t code count m em f h =
     let w = measured-yes t code count m em f in
@@ -146,7 +146,7 @@ module _ (p : Pattern) (tape code : List ℕ) (count : ℕ) where
   unfolding code-of-tape
   tape-letters w = same-length (letters-of (root p) code count) tape (and-both (whole-code (root p) code count) (same (letters-of (root p) code count) tape) w .1)
 
-  pub span-letters : code-of-tape (root p) tape code count ≡ true → length tape ≤ letter-limit → (m : Measured) → m ≡ measured (root p) code count → m .whole ≡ true → m .letters ≤ 3600
+  pub span-letters : code-of-tape (root p) tape code count ≡ true → length tape ≤ letter-limit → (m : Measured) → m ≡ measured (root p) code count → m .whole ≡ true → m .letters ≤ letter-limit
   span-letters w h m em f =
       let n = measured-letters (root p) code count m em f in
       let e = tape-letters w in

@@ -9,7 +9,7 @@ use lib.ListN.{length, take, drop}
 use Rattle.syntax.specs.declared.Pattern.{Pattern}
 use Rattle.syntax.specs.declared.Refusal.{Refusal}
 use Rattle.syntax.specs.declared.Refusal.the-variants.{TapeByte, NoSuchVisit}
-use Rattle.syntax.specs.Letter.{first-bad}
+use Rattle.syntax.specs.Letter.{first-bad, letter-limit}
 use Rattle.syntax.specs.Tree.{Tree}
 use Rattle.syntax.specs.Trees.{root}
 use Rattle.syntax.specs.Table.{obeys}
@@ -21,7 +21,7 @@ use Rattle.semantics.specs.Decode.{value-of}
 use Rattle.spans.specs.declared.SpanOutcome.{SpanOutcome}
 use Rattle.spans.specs.declared.SpanOutcome.the-variants.{Shown, Refused}
 use Rattle.spans.specs.declared.Spanned.{Spanned}
-use Rattle.codes.specs.Flatten.{letter-limit, whole-code, letters-of, bad-table, no-code, too-long}
+use Rattle.codes.specs.Flatten.{whole-code, letters-of, bad-table, no-code, too-long}
 
 abbrev pub same : (xs ys : List ℕ) → Bool
 same [] [] = true

@@ -3,6 +3,7 @@ ghost use mathlib.Core.Path.{_≡_};
 ghost use mathlib.Core.Bool.{true};
 ghost use Prim.Native.Nat.{_≤_};
 ghost use lib.ListN.{length};
+ghost use Rattle.syntax.specs.Letter.{letter-limit};
 ghost use Rattle.syntax.specs.Table.{obeys};
 ghost use Rattle.syntax.specs.Trees.{root};
 ghost use Rattle.spans.specs.Spans.{code-of-tape};
@@ -28,10 +29,10 @@ fn begins(own: &[u8], tape: &[u8]) -> bool
 
 // Whether a code is a code of a tape: it is spelled and compared.
 pub fn spells(p: Pattern, code: &[u8], count: u32, tape: &[u8]) -> bool
-    requires { ⌜ (obeys p ≡ true) × (length (now tape) ≤ 3600) ⌝ }
+    requires { ⌜ (obeys p ≡ true) × (length (now tape) ≤ letter-limit) ⌝ }
     ensures { λ r. ⌜ r ≡ code-of-tape (root p) (now (tape .entry)) (now (code .entry)) count ⌝ }
 {
-    let mut own: [u8; 3600] = [0; 3600];
+    let mut own = [0u8; Pattern::MAX_LETTERS];
     let answer = flatten(p, code, count, &mut own);
     match answer {
         Flattened::Refused(_) => false,

@@ -12,6 +12,10 @@ is-letter c = leb 33 c && leb c 126
 unfoldable pub in-range : (low high c : ℕ) → Bool
 in-range low high c = is-letter c && (leb low c && leb c high)
 
+-- 01: "Tapes hold at most 3,600 letters"; in code `Pattern::MAX_LETTERS`
+abbrev pub letter-limit : ℕ
+letter-limit = 3600
+
 -- 01, cause 4: "tape byte outside 33 to 126", with the "first such position"; the tape's length where every byte is a letter
 unfoldable pub first-bad : (tape : List ℕ) → ℕ
 first-bad [] = 0
