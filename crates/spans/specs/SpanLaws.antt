@@ -12,6 +12,7 @@ use lib.Seq.{drop-cons}
 use Rattle.syntax.specs.declared.Pattern.{Pattern}
 use Rattle.syntax.specs.declared.Refusal.{Refusal}
 use Rattle.syntax.specs.declared.Refusal.the-variants.{LineForm, Tree as Tree-fault, TapeTooLong, TapeByte, Unreadable, WordsTooShort, CodeTooShort, NotACode, TapeTooShort, NoSuchVisit}
+use Rattle.syntax.specs.Bools.{and-fst, and-snd}
 use Rattle.syntax.specs.Letter.{first-bad, letter-limit}
 use Rattle.syntax.specs.Tree.{Tree}
 use Rattle.syntax.specs.Trees.{root}
@@ -33,15 +34,11 @@ use Rattle.codes.specs.Measures.{value-see, whole-handed, whole-value, spells, 
 use Rattle.spans.specs.Traces.{trace, trace-visits, trace-at, hit, found-by, found-in}
 use Rattle.spans.specs.Seeks.{Seeking, Finds, same-trace}
 
-and-both : (a b : Bool) → (a && b) ≡ true → (a ≡ true) × (b ≡ true)
-and-both true b e = (refl, e)
-and-both false b e = absurd (false≢true e)
-
 same-length : (xs ys : List ℕ) → same xs ys ≡ true → length xs ≡ length ys
 same-length [] [] e = refl
 same-length [] (y ∷ ys) e = absurd (false≢true e)
 same-length (x ∷ xs) [] e = absurd (false≢true e)
-same-length (x ∷ xs) (y ∷ ys) e = ap suc (same-length xs ys (and-both (eqb x y) (same xs ys) e .1))
+same-length (x ∷ xs) (y ∷ ys) e = ap suc (same-length xs ys (and-snd (eqb x y) (same xs ys) e))
 
 module _ (p : Pattern) (tape code : List ℕ) (count l k : ℕ) where
   refusal : (r : Refusal) → span-answer p tape code count l k ≡ refused r → eqb (refused r .number) 0 ≡ false → Spans p tape code count l k (refused-span r)
@@ -72,11 +69,11 @@ module _ (p : Pattern) (tape code : List ℕ) (count l k : ℕ) where
         module _ (w : code-of-tape (root p) tape code count ≡ true) where
           pub span-whole : whole-code (root p) code count ≡ true
           unfolding code-of-tape
-          span-whole = and-both (whole-code (root p) code count) (same (letters-of (root p) code count) tape) w .0
+          span-whole = and-fst (whole-code (root p) code count) (same (letters-of (root p) code count) tape) w
 
           span-few : length (letters-of (root p) code count) ≤ letter-limit
           unfolding code-of-tape
-          span-few = let e = same-length (letters-of (root p) code count) tape (and-both (whole-code (root p) code count) (same (letters-of (root p) code count) tape) w .1) in omega arith
+          span-few = let e = same-length (letters-of (root p) code count) tape (and-snd (whole-code (root p) code count) (same (letters-of (root p) code count) tape) w) in omega arith
 
           given : span-answer p tape code count l k ≡ visit-answer (span-visit p code count l k)
           unfolding span-answer
@@ -140,11 +137,11 @@ module _ (p : Pattern) (tape code : List ℕ) (count : ℕ) where
 
   pub tape-whole : code-of-tape (root p) tape code count ≡ true → whole-code (root p) code count ≡ true
   unfolding code-of-tape
-  tape-whole w = and-both (whole-code (root p) code count) (same (letters-of (root p) code count) tape) w .0
+  tape-whole w = and-fst (whole-code (root p) code count) (same (letters-of (root p) code count) tape) w
 
   pub tape-letters : code-of-tape (root p) tape code count ≡ true → length (letters-of (root p) code count) ≡ length tape
   unfolding code-of-tape
-  tape-letters w = same-length (letters-of (root p) code count) tape (and-both (whole-code (root p) code count) (same (letters-of (root p) code count) tape) w .1)
+  tape-letters w = same-length (letters-of (root p) code count) tape (and-snd (whole-code (root p) code count) (same (letters-of (root p) code count) tape) w)
 
   pub span-letters : code-of-tape (root p) tape code count ≡ true → length tape ≤ letter-limit → (m : Measured) → m ≡ measured (root p) code count → m .whole ≡ true → m .letters ≤ letter-limit
   span-letters w h m em f =
