@@ -3,10 +3,10 @@ use mathlib.Core.Path.{_≡_}
 use mathlib.Core.Bool.{Bool, false, not, true}
 use mathlib.Core.Logic.{inl, inr}
 use mathlib.Core.List.{_++_, _∷_, List, []}
-use Prim.Native.Nat.{_+_, _-_, _≤_, suc, ℕ}
+use Prim.Native.Nat.{_*_, _+_, _≤_, suc, ℕ}
 use lib.ListN.{length}
 use Rattle.syntax.specs.Tree.{Tree, nothing, letter, range, seq, alt, star}
-use Rattle.bits.specs.Bits.{bits-of}
+use Rattle.bits.specs.Bits.{bits-of, byte-limit}
 use Rattle.semantics.specs.Value.{Value, flat, nonproblematic}
 use Rattle.semantics.specs.Order.{Greedy}
 
@@ -27,7 +27,7 @@ code (star m again t) vs = code-rounds again (code t) vs
 
 -- 01: "at most 65,536 bytes", in bits
 abbrev pub code-limit : ℕ
-code-limit = 524288
+code-limit = byte-limit * 8
 
 -- 01: "Within that limit, a code of a pattern is all the bits that one of its readings writes, and no more."
 pub record IsCode (t : Tree) (bits : List Bool) : Type 0 where
