@@ -97,7 +97,7 @@ all-zero (b ∷ bs) = not b && all-zero bs
 unfoldable pub exact : (w : ℕ) → (cells : List ℕ) → (count : ℕ) → Bool
 exact w xs n = eqb (length xs) (cell-count w n) && all-zero (drop n (unpack w xs))
 
--- 01: "at most 65,536 bytes"
+-- 01: "at most 65,536 bytes"; in code `Pattern::MAX_CODE_BYTES`
 abbrev pub byte-limit : ℕ
 byte-limit = 65536
 

@@ -11,17 +11,11 @@ use borrow.Author.Tests.{eqb-true, eqb-false, eq-eqb, ne-eqb, leb-true, le-leb, 
 use lib.ListN.{length, take, drop, getD, take-append-drop, drop-of-length-le}
 use lib.Pow.{pow-pos, split, mod-pow-add}
 use lib.Seq.{drop-nil, length-take-le}
+use Rattle.syntax.specs.Bools.{and-fst, and-snd, and-intro}
 use Rattle.bits.specs.Bits.{bit, test-bit, bits-of, cell, cell-count, fill, pack, unpack, Small, high-bits, held, all-zero, exact, byte-limit, handed-good}
 use Rattle.bits.specs.Numbers.{bit-parity, drop-bits, cell-nil}
 use Rattle.bits.specs.Packing.{cells-whole, cells-begun, cells-enough, length-fill, length-pack, length-unpack, pad, unpack-fill, unpack-pack, fill-unpack}
 use Rattle.bits.specs.Reading.{from-cell}
-
-and-both : (a b : Bool) → (a && b) ≡ true → (a ≡ true) × (b ≡ true)
-and-both true b e = (refl, e)
-and-both false b e = absurd (false≢true e)
-
-and-true : {a b : Bool} → a ≡ true → b ≡ true → (a && b) ≡ true
-and-true p q = rw (p, q)
 
 -- ---- bits that are 0 pack to nothing
 
@@ -36,7 +30,7 @@ drop-zeros : (w : ℕ) (bs zs : List Bool) → all-zero zs ≡ true → (ys : Li
 drop-zeros zero bs zs h = (zs, h, refl)
 drop-zeros (suc w) [] [] h = ([], refl, refl)
 drop-zeros (suc w) [] (z ∷ zs) h =
-    let (ys, o, e) = drop-zeros w [] zs (and-both (not z) (all-zero zs) h .1) in
+    let (ys, o, e) = drop-zeros w [] zs (and-snd (not z) (all-zero zs) h) in
     (ys, o, e ∙ ap (λ l. l ++ ys) (drop-nil w))
 drop-zeros (suc w) (b ∷ bs) zs h = drop-zeros w bs zs h
 
@@ -64,13 +58,13 @@ pub exact-pack : (w : ℕ) (bs : List Bool) → exact w (pack w bs) (length bs) 
 unfolding exact pack
 exact-pack w bs =
     let k = cell-count w (length bs) in
-    and-true (eq-eqb (length (fill w k bs)) k (length-fill w k bs)) (ap (λ l. all-zero (drop (length bs) l)) (unpack-fill w k bs) ∙ pad-zeros bs (k * w))
+    and-intro (eq-eqb (length (fill w k bs)) k (length-fill w k bs)) (ap (λ l. all-zero (drop (length bs) l)) (unpack-fill w k bs) ∙ pad-zeros bs (k * w))
 
 -- EXACT MEANS PACKED: cells and a count are exact if and only if they are the packing and the count of the bits that they hold
 module _ (w : ℕ) (h : 0 < w) (xs : List ℕ) (n : ℕ) where
   pub exact-length : exact w xs n ≡ true → length xs ≡ cell-count w n
   unfolding exact
-  exact-length t = eqb-true (length xs) (cell-count w n) (and-both (eqb (length xs) (cell-count w n)) (all-zero (drop n (unpack w xs))) t .0)
+  exact-length t = eqb-true (length xs) (cell-count w n) (and-fst (eqb (length xs) (cell-count w n)) (all-zero (drop n (unpack w xs))) t)
 
   pub exact-count : exact w xs n ≡ true → length (held w xs n) ≡ n
   unfolding held
@@ -78,7 +72,7 @@ module _ (w : ℕ) (h : 0 < w) (xs : List ℕ) (n : ℕ) where
 
   exact-zeros : exact w xs n ≡ true → all-zero (drop n (unpack w xs)) ≡ true
   unfolding exact
-  exact-zeros t = and-both (eqb (length xs) (cell-count w n)) (all-zero (drop n (unpack w xs))) t .1
+  exact-zeros t = and-snd (eqb (length xs) (cell-count w n)) (all-zero (drop n (unpack w xs))) t
 
   pub exact-cells : Small w xs → exact w xs n ≡ true → xs ≡ pack w (held w xs n)
   unfolding held pack
@@ -112,24 +106,23 @@ pub handed-iff : (xs : List ℕ) (n : ℕ) → Small 8 xs
 unfolding handed-good
 handed-iff xs n s = (
   λ t.
-      let (l, e) = and-both (leb (length xs) byte-limit) (exact 8 xs n) t in
-      let (c, k) = (exact-iff 8 (omega arith) xs n s) .0 e in
-      (c, k, leb-true (length xs) byte-limit l),
-  λ t. and-true (le-leb (length xs) byte-limit (t .2)) ((exact-iff 8 (omega arith) xs n s) .1 (t .0, t .1)),
+      let (c, k) = (exact-iff 8 (omega arith) xs n s) .0 (and-snd (leb (length xs) byte-limit) (exact 8 xs n) t) in
+      (c, k, leb-true (length xs) byte-limit (and-fst (leb (length xs) byte-limit) (exact 8 xs n) t)),
+  λ t. and-intro (le-leb (length xs) byte-limit (t .2)) ((exact-iff 8 (omega arith) xs n s) .1 (t .0, t .1)),
 )
 
 -- the bits that a code writes, packed, are good within the limit
 pub handed-pack : (bs : List Bool) → cell-count 8 (length bs) ≤ byte-limit → handed-good (pack 8 bs) (length bs) ≡ true
 unfolding handed-good
-handed-pack bs h = and-true (le-leb (length (pack 8 bs)) byte-limit (rw length-pack h)) (exact-pack 8 bs)
+handed-pack bs h = and-intro (le-leb (length (pack 8 bs)) byte-limit (rw length-pack h)) (exact-pack 8 bs)
 
 pub handed-exact : (xs : List ℕ) (n : ℕ) → handed-good xs n ≡ true → exact 8 xs n ≡ true
 unfolding handed-good
-handed-exact xs n t = and-both (leb (length xs) byte-limit) (exact 8 xs n) t .1
+handed-exact xs n t = and-snd (leb (length xs) byte-limit) (exact 8 xs n) t
 
 pub handed-limit : (xs : List ℕ) (n : ℕ) → handed-good xs n ≡ true → length xs ≤ byte-limit
 unfolding handed-good
-handed-limit xs n t = leb-true (length xs) byte-limit (and-both (leb (length xs) byte-limit) (exact 8 xs n) t .0)
+handed-limit xs n t = leb-true (length xs) byte-limit (and-fst (leb (length xs) byte-limit) (exact 8 xs n) t)
 
 -- so the count of a good code is at most 524,288
 pub handed-count : (xs : List ℕ) (n : ℕ) → handed-good xs n ≡ true → n ≤ byte-limit * 8
@@ -174,7 +167,7 @@ module _ (w : ℕ) (xs : List ℕ) (n : ℕ) where
   exact-whole h e z =
       let m : n / w * w ≡ n = omega (arith, div-add-mod' n w) in
       let k : length xs * w ≡ n = ap (λ i. i * w) (e ∙ ap (cell-count w) (sym m) ∙ cells-whole w (n / w) h) ∙ m in
-      and-true (eq-eqb (length xs) (cell-count w n) e) (ap all-zero (drop-of-length-le (unpack w xs) {i = n} (rw length-unpack (omega arith))))
+      and-intro (eq-eqb (length xs) (cell-count w n) e) (ap all-zero (drop-of-length-le (unpack w xs) {i = n} (rw length-unpack (omega arith))))
 
   -- the last cell has unused bits
   pub exact-begun : 0 < w → length xs ≡ cell-count w n → (n % w ≡ 0 → ⊥) → exact w xs n ≡ eqb (high-bits w (n % w) (getD xs (n / w) 0)) (getD xs (n / w) 0)

@@ -8,6 +8,7 @@ use native.Mathlib.Omega.{arith}
 use lib.Dec.{leb, ltb, eqb}
 use borrow.Author.Tests.{ltb-true}
 use lib.ListN.{length, take, drop}
+use Rattle.syntax.specs.Bools.{and-fst}
 use Rattle.bits.specs.Bits.{bit, test-bit, bits-of, cell, fill, pack, unpack, held, all-zero, exact, handed-good, word-of}
 use Rattle.bits.specs.Numbers.{bit-parity, cell-nil}
 use Rattle.bits.specs.Handed.{held-pack}
@@ -76,11 +77,7 @@ unfolding is-bits
 numbers-bools [] h = refl
 numbers-bools (zero ∷ bs) h = ap (λ l. 0 ∷ l) (numbers-bools bs h)
 numbers-bools (suc zero ∷ bs) h = ap (λ l. 1 ∷ l) (numbers-bools bs h)
-numbers-bools (suc (suc b) ∷ bs) h = absurd (omega (arith, ltb-true (suc (suc b)) 2 (and-left (ltb (suc (suc b)) 2) (is-bits bs) h)))
-  where
-    and-left : (a b : Bool) → (a && b) ≡ true → a ≡ true
-    and-left true b e = refl
-    and-left false b e = e
+numbers-bools (suc (suc b) ∷ bs) h = absurd (omega (arith, ltb-true (suc (suc b)) 2 (and-fst (ltb (suc (suc b)) 2) (is-bits bs) h)))
 
 length-numbers : (bs : List Bool) → length (numbers bs) ≡ length bs
 length-numbers [] = refl

@@ -6,6 +6,7 @@ ghost use mathlib.Core.List.{[], _∷_};
 ghost use Prim.Native.Nat.{_+_, _*_, _<_, _≤_};
 ghost use lib.ListN.{length};
 ghost use Rattle.bits.specs.Bits.{bit, test-bit, bits-of, bit-at, number-at, cell-count, high-bits, write, handed-good, count-below};
+use syntax::Pattern;
 
 fn wide(x: u8) -> u32
     ensures { λ r. ⌜ (r ≡ x) × (r < 256) ⌝ }
@@ -90,7 +91,7 @@ pub fn handed_good(code: &[u8], count: u32) -> bool
     ensures { λ r. ⌜ r ≡ handed-good (now (code .entry)) count ⌝ }
 {
     let n = code.len();
-    if n > 65536 {
+    if n > Pattern::MAX_CODE_BYTES {
         return false;
     }
     if n != byte_count(count) {

@@ -8,6 +8,7 @@ use lib.Dec.{ltb}
 use lib.ListN.{length, take}
 use Rattle.syntax.specs.declared.Pattern.{Pattern}
 use Rattle.syntax.specs.declared.Refusal.the-variants.{CodeTooShort}
+use Rattle.syntax.specs.Letter.{letter-limit}
 use Rattle.syntax.specs.Table.{obeys}
 use Rattle.syntax.specs.Trees.{root}
 use Rattle.bits.specs.Bits.{cell-count, pack, in-front}
@@ -38,7 +39,7 @@ concluded false second both = Different
 pub record Is-settled (p : Pattern) (code : List ℕ) (count tape words : ℕ) : Type 0 where
   pub good : obeys p ≡ true
   pub letters : List ℕ
-  pub few : length letters ≤ 3600
+  pub few : length letters ≤ letter-limit
   pub bits : List Bool
   pub earliest : Canonical (root p) letters bits
   pub bytes-are : code ≡ pack 8 bits

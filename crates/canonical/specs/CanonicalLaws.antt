@@ -15,7 +15,7 @@ use Rattle.syntax.specs.declared.Pattern.{Pattern}
 use Rattle.syntax.specs.declared.Refusal.{Refusal}
 use Rattle.syntax.specs.declared.Refusal.the-variants.{LineForm, Tree as Tree-fault, TapeTooLong, TapeByte, Unreadable, WordsTooShort, CodeTooShort, NotACode, TapeTooShort, NoSuchVisit}
 use Rattle.syntax.specs.Bools.{and-snd}
-use Rattle.syntax.specs.Letter.{is-letter}
+use Rattle.syntax.specs.Letter.{is-letter, first-bad, letter-limit}
 use Rattle.syntax.specs.Refusals.{Answer, answer, refused, number}
 use Rattle.syntax.specs.Table.{obeys, line-at, node-at, line-good, node-good}
 use Rattle.syntax.specs.Tree.{Label, Tree, nothing, letter, range, seq, alt, star}
@@ -31,7 +31,7 @@ use Rattle.codes.specs.Flatten.{whole-code, letters-of, room-answer, too-long, 
 use Rattle.codes.specs.Measures.{whole-handed, whole-value, spells}
 use Rattle.parser.specs.declared.Parsed.{Parsed}
 use Rattle.parser.specs.declared.Parsed.the-variants.{Bits as Parsed-bits, Refused as Not-parsed}
-use Rattle.parser.specs.Parse.{parsed-answer, first-bad, early, Parses-by, Parses}
+use Rattle.parser.specs.Parse.{parsed-answer, early, Parses-by, Parses}
 use Rattle.canonical.specs.declared.Canonicalized.{Canonicalized}
 use Rattle.canonical.specs.declared.Canonicalized.the-variants.{Bits}
 use Rattle.canonical.specs.Canonicalize.{canonicalized-answer, passed-flattened, passed-parsed, Read-by, Settles-by, Canonicalizes}
@@ -53,22 +53,22 @@ positive NoSuchVisit = omega arith
 pub record Spelled (p : Pattern) (code : List ℕ) (count size : ℕ) : Type 0 where
   pub good : obeys p ≡ true
   pub whole : whole-code (root p) code count ≡ true
-  pub few : length (letters-of (root p) code count) ≤ 3600
+  pub few : length (letters-of (root p) code count) ≤ letter-limit
   pub room : length (letters-of (root p) code count) ≤ size
   pub value-is : flatten-answer p code count size .value ≡ length (letters-of (root p) code count)
 
 pub spelled : (p : Pattern) (code : List ℕ) (count size : ℕ) → flatten-answer p code count size .number ≡ 0 → Spelled p code count size
 unfolding flatten-answer
-spelled p code count size h = go (obeys p) refl (whole-code (root p) code count) refl (leb (length (letters-of (root p) code count)) 3600) refl (leb (length (letters-of (root p) code count)) size) refl h
+spelled p code count size h = go (obeys p) refl (whole-code (root p) code count) refl (leb (length (letters-of (root p) code count)) letter-limit) refl (leb (length (letters-of (root p) code count)) size) refl h
   where
-    go : (o : Bool) → obeys p ≡ o → (w : Bool) → whole-code (root p) code count ≡ w → (f : Bool) → leb (length (letters-of (root p) code count)) 3600 ≡ f
+    go : (o : Bool) → obeys p ≡ o → (w : Bool) → whole-code (root p) code count ≡ w → (f : Bool) → leb (length (letters-of (root p) code count)) letter-limit ≡ f
         → (r : Bool) → leb (length (letters-of (root p) code count)) size ≡ r
         → cond o (cond w (cond f (cond r (answer 0 (length (letters-of (root p) code count))) (refused (TapeTooShort (length (letters-of (root p) code count))))) too-long) no-code) bad-table .number ≡ 0
         → Spelled p code count size
     go true eo true ew true ef true er h = record {
       good = eo;
       whole = ew;
-      few = leb-true (length (letters-of (root p) code count)) 3600 ef;
+      few = leb-true (length (letters-of (root p) code count)) letter-limit ef;
       room = leb-true (length (letters-of (root p) code count)) size er;
       value-is = rw (eo, ew, ef, er);
     }
@@ -169,13 +169,13 @@ same-answer : (r : Parsed) → canonicalized-answer (passed-parsed r) ≡ parsed
 same-answer (Parsed-bits n) = refl
 same-answer (Not-parsed why) = refl
 
-module _ (p : Pattern) (ls ws vs xs ys : List ℕ) (r : Parsed) (good : obeys p ≡ true) (few : length ls ≤ 3600) (letters : length ls ≤ first-bad ls) where
+module _ (p : Pattern) (ls ws vs xs ys : List ℕ) (r : Parsed) (good : obeys p ≡ true) (few : length ls ≤ letter-limit) (letters : length ls ≤ first-bad ls) where
   read-by : Parses p ls ws vs xs ys r → Read-by (ltb (length ws) (2 * (length ls + 1))) p ls ws vs xs ys (parsed-answer r)
   unfolding Parses early
   read-by w = go (ltb (length ws) (2 * (length ls + 1))) refl w
     where
       early-is : early p ls (length ws) ≡ cond (ltb (length ws) (2 * (length ls + 1))) (refused (WordsTooShort (2 * (length ls + 1)))) (answer 0 0)
-      early-is = rw (good, le-ltb 3600 (length ls) few, le-ltb (first-bad ls) (length ls) letters)
+      early-is = rw (good, le-ltb letter-limit (length ls) few, le-ltb (first-bad ls) (length ls) letters)
 
       go : (b : Bool) → ltb (length ws) (2 * (length ls + 1)) ≡ b → Parses-by (early p ls (length ws) .number) (early p ls (length ws)) p ls ws vs xs ys (parsed-answer r) → Read-by b p ls ws vs xs ys (parsed-answer r)
       go true e w =
@@ -199,12 +199,12 @@ settle-read p code count ts us n l ws vs xs ys r w =
 -- ── what the promise says of a code that is spelled, and has its words ──
 module _ (p : Pattern) (code : List ℕ) (count : ℕ) (ts us ws vs xs ys : List ℕ) (r : Canonicalized) (h : Canonicalizes p code count ts us ws vs xs ys r) where
   pub settles :
-      obeys p ≡ true → whole-code (root p) code count ≡ true → length (letters-of (root p) code count) ≤ 3600 → length (letters-of (root p) code count) ≤ length ts
+      obeys p ≡ true → whole-code (root p) code count ≡ true → length (letters-of (root p) code count) ≤ letter-limit → length (letters-of (root p) code count) ≤ length ts
       → 2 * (length (letters-of (root p) code count) + 1) ≤ length ws
       → (us ≡ in-front (letters-of (root p) code count) ts) × Read-by false p (letters-of (root p) code count) ws vs xs ys (canonicalized-answer r)
   unfolding Canonicalizes flatten-answer
   settles good whole few room enough =
       let f : flatten-answer p code count (length ts) ≡ answer 0 (length (letters-of (root p) code count)) =
-      rw (good, whole, le-leb (length (letters-of (root p) code count)) 3600 few, le-leb (length (letters-of (root p) code count)) (length ts) room) in
+      rw (good, whole, le-leb (length (letters-of (root p) code count)) letter-limit few, le-leb (length (letters-of (root p) code count)) (length ts) room) in
       let s = subst (λ a. Settles-by (a .number) a p (letters-of (root p) code count) ts us ws vs xs ys (canonicalized-answer r)) f h in
       (s .0, subst (λ b. Read-by b p (letters-of (root p) code count) ws vs xs ys (canonicalized-answer r)) (le-ltb (length ws) (2 * (length (letters-of (root p) code count) + 1)) enough) (s .1))

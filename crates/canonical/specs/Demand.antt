@@ -7,6 +7,7 @@ use mathlib.Core.List.{List}
 use Prim.Native.Nat.{ℕ, _+_, _*_, _≤_}
 use lib.ListN.{length, take}
 use Rattle.syntax.specs.declared.Pattern.{Pattern}
+use Rattle.syntax.specs.Letter.{letter-limit}
 use Rattle.syntax.specs.Refusals.{answer}
 use Rattle.syntax.specs.Table.{obeys}
 use Rattle.syntax.specs.Trees.{root}
@@ -30,7 +31,7 @@ pub record Code (p : Pattern) : Type 0 where
   pub bytes : List ℕ
   pub count : ℕ
   pub is : Is-code p bytes count
-  pub few : length (tape-of p bytes count) ≤ 3600
+  pub few : length (tape-of p bytes count) ≤ letter-limit
 
 abbrev pub spells : {p : Pattern} → Code p → List ℕ
 spells {p} c = tape-of p (c .bytes) (c .count)

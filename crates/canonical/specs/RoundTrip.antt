@@ -6,6 +6,7 @@ use Prim.Native.Nat.{ℕ, _≤_}
 use native.Mathlib.Omega.{arith}
 use lib.ListN.{length}
 use Rattle.syntax.specs.declared.Pattern.{Pattern}
+use Rattle.syntax.specs.Letter.{letter-limit}
 use Rattle.syntax.specs.Bools.{and-snd}
 use Rattle.syntax.specs.Table.{obeys}
 use Rattle.syntax.specs.Trees.{root}
@@ -19,7 +20,7 @@ use Rattle.semantics.specs.GreedyLaws.{canonical-greedy, code-readable, spelled
 use Rattle.codes.specs.Flatten.{whole-code, letters-of}
 use Rattle.parser.specs.ParseLaws.{greedy-few}
 
-module _ (p : Pattern) (good : obeys p ≡ true) (tape : List ℕ) (few : length tape ≤ 3600) (bits : List Bool) (k : Canonical (root p) tape bits) where
+module _ (p : Pattern) (good : obeys p ≡ true) (tape : List ℕ) (few : length tape ≤ letter-limit) (bits : List Bool) (k : Canonical (root p) tape bits) where
   -- it is within the limit of a code
   pub canonical-few : length bits ≤ 524288
   canonical-few = let (r, e) = canonical-greedy (root p) tape bits k in subst (λ b. length b ≤ 524288) e (greedy-few p good tape few r)

@@ -6,7 +6,7 @@ use Prim.Native.Nat.{ℕ, _+_, _*_, _/_, _%_}
 use lib.ListN.{length, getD}
 use Rattle.syntax.specs.declared.Pattern.{Pattern}
 use Rattle.syntax.specs.Refusals.{Answer, answer}
-use Rattle.syntax.specs.Load.{load-table}
+use Rattle.loading.specs.Load.{load-table}
 use Rattle.semantics.specs.Visits.{Visit}
 use Rattle.codes.specs.Flatten.{flatten-answer, flatten-tape}
 use Rattle.codes.specs.Totals.{totals-answer, totals-litres}

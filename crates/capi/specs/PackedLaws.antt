@@ -3,27 +3,28 @@ use mathlib.Core.Path.{_≡_, refl, sym, ap, ap₂, subst, _∙_}
 use mathlib.Core.Bool.{Bool, true, false, cond}
 use mathlib.Core.Option.{Option, none, some}
 use mathlib.Core.List.{List}
-use Prim.Native.Nat.{ℕ, zero, suc, _+_, _*_, _/_, _%_, _≤_, _<_}
+use Prim.Native.Nat.{ℕ, _+_, _*_, _/_, _%_, _≤_, _<_}
 use native.Mathlib.Omega.{arith}
 use borrow.Author.Tests.{leb-true, ne-eqb}
-use lib.Dec.{leb, eqb}
+use lib.Dec.{leb, ltb, eqb}
 use lib.ListN.{length, getD}
 use Rattle.syntax.specs.declared.Pattern.{Pattern}
 use Rattle.syntax.specs.declared.Refusal.{Refusal}
 use Rattle.syntax.specs.declared.Refusal.the-variants.{LineForm, Tree as Tree-fault, TapeTooLong, TapeByte, Unreadable, WordsTooShort, CodeTooShort, NotACode, TapeTooShort, NoSuchVisit}
-use Rattle.syntax.specs.declared.Loaded.{Loaded}
-use Rattle.syntax.specs.Refusals.{Answer, answer, refused, number}
+use Rattle.loading.specs.declared.Loaded.{Loaded}
+use Rattle.syntax.specs.Letter.{first-bad, letter-limit}
+use Rattle.syntax.specs.Refusals.{answer, refused, number}
 use Rattle.syntax.specs.Table.{obeys}
 use Rattle.syntax.specs.Trees.{root}
-use Rattle.syntax.specs.Load.{load-table, load-answer, outcome-answer, Loads}
+use Rattle.loading.specs.Load.{load-table, load-answer, outcome-answer, Loads}
 use Rattle.semantics.specs.Visits.{Visit}
 use Rattle.codes.specs.declared.Flattened.{Flattened}
 use Rattle.codes.specs.declared.Totalled.{Totalled}
-use Rattle.codes.specs.Flatten.{letter-limit, bad-table, no-code, too-long, flattened-answer, Flattens}
+use Rattle.codes.specs.Flatten.{bad-table, no-code, too-long, flattened-answer, Flattens}
 use Rattle.codes.specs.Totals.{totals-outcome, Totals}
 use Rattle.spans.specs.declared.Spanned.{Spanned}
 use Rattle.spans.specs.declared.SpanOutcome.the-variants.{Shown, Refused}
-use Rattle.spans.specs.Spans.{first-bad, code-of-tape, span-visit, visit-answer, byte-answer, span-answer, start-of, size-of, span-shown, span-outcome, Spans}
+use Rattle.spans.specs.Spans.{code-of-tape, span-visit, visit-answer, span-answer, start-of, size-of, span-shown, span-outcome, Spans}
 use Rattle.spans.specs.Pieces.{part}
 use Rattle.parser.specs.declared.Parsed.{Parsed}
 use Rattle.parser.specs.Parse.{parsed-answer, Parses}
@@ -78,14 +79,14 @@ module _ (text : List ℕ) (l : Loaded) (h : Loads text l) where
 
 -- ── spans ──
 -- number 0 is answered only for a visit that there is, of a tape that is not too long
-answered : (o h : Bool) (b : Option ℕ) (w : Bool) (v : Option Visit) → (cond o (cond h (byte-answer b (cond w (visit-answer v) no-code)) too-long) bad-table) .number ≡ 0
+answered : (o h b : Bool) (i : ℕ) (w : Bool) (v : Option Visit) → (cond o (cond h (cond b (refused (TapeByte i)) (cond w (visit-answer v) no-code)) too-long) bad-table) .number ≡ 0
     → (h ≡ true) × ((x : Visit) × (v ≡ some x))
-answered false h b w v e = absurd (omega arith)
-answered true false b w v e = absurd (omega arith)
-answered true true (some i) w v e = absurd (omega arith)
-answered true true none false v e = absurd (omega arith)
-answered true true none true none e = absurd (omega arith)
-answered true true none true (some x) e = (refl, (x, refl))
+answered false h b i w v e = absurd (omega arith)
+answered true false b i w v e = absurd (omega arith)
+answered true true true i w v e = absurd (omega arith)
+answered true true false i false v e = absurd (omega arith)
+answered true true false i true none e = absurd (omega arith)
+answered true true false i true (some x) e = (refl, (x, refl))
 
 positive : (r : Refusal) → 1 ≤ number r
 positive (LineForm l) = omega arith
@@ -104,16 +105,16 @@ module _ (p : Pattern) (tape code : List ℕ) (count l k : ℕ) (s : Spanned) (h
   shown-zero e = sym (ap (λ a. a .number) (h .answers)) ∙ ap (λ o. span-outcome o .number) e
 
   -- start and length fit 16 bits each
-  pub shown-small : s .outcome ≡ Shown → s .start + s .length ≤ 3600
+  pub shown-small : s .outcome ≡ Shown → s .start + s .length ≤ letter-limit
   unfolding span-answer
   shown-small e =
-      let (a, v) = answered (obeys p) (leb (length tape) letter-limit) (first-bad 0 tape) (code-of-tape (root p) tape code count) (span-visit p code count l k) (shown-zero e) in
+      let (a, v) = answered (obeys p) (leb (length tape) letter-limit) (ltb (first-bad tape) (length tape)) (first-bad tape) (code-of-tape (root p) tape code count) (span-visit p code count l k) (shown-zero e) in
       omega (arith, part p tape code count l k s h .fits, leb-true (length tape) letter-limit a)
 
   span-some : s .outcome ≡ Shown → (x : Visit) × (span-shown p tape code count l k ≡ some x)
   unfolding span-answer span-shown
   span-some e =
-      let (a, (x, q)) = answered (obeys p) (leb (length tape) letter-limit) (first-bad 0 tape) (code-of-tape (root p) tape code count) (span-visit p code count l k) (shown-zero e) in
+      let (a, (x, q)) = answered (obeys p) (leb (length tape) letter-limit) (ltb (first-bad tape) (length tape)) (first-bad tape) (code-of-tape (root p) tape code count) (span-visit p code count l k) (shown-zero e) in
       (x, ap (λ n. cond (eqb n 0) (span-visit p code count l k) none) (shown-zero e) ∙ q)
 
   span-shows : s .outcome ≡ Shown → answer 0 (s .start * 65536 + s .length) ≡ shown-answer (span-answer p tape code count l k) (span-shown p tape code count l k)

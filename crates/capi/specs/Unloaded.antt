@@ -8,9 +8,9 @@ use native.Mathlib.Omega.{arith}
 use lib.ListN.{getD, replicate}
 use Rattle.syntax.specs.declared.Pattern.{Pattern}
 use Rattle.syntax.specs.Refusals.{answer}
-use Rattle.syntax.specs.Text.{rows, Forms, good, fault, forms}
+use Rattle.loading.specs.Text.{rows, Forms, good, fault, forms}
 use Rattle.syntax.specs.Table.{no-lines, obeys, tree-fault}
-use Rattle.syntax.specs.Load.{table, tree-answer, forms-answer, tree-table, forms-table, load-answer, load-table}
+use Rattle.loading.specs.Load.{table, tree-answer, forms-answer, tree-table, forms-table, load-answer, load-table}
 use Rattle.codes.specs.Flatten.{flatten-answer}
 use Rattle.codes.specs.Totals.{totals-answer, totals-litres}
 use Rattle.spans.specs.Spans.{span-answer, span-shown}

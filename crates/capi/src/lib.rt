@@ -3,7 +3,7 @@
 ghost use mathlib.Core.Path.{_≡_};
 ghost use lib.ListN.{getD};
 ghost use Rattle.syntax.specs.Refusals.{answer, refused};
-ghost use Rattle.syntax.specs.Load.{outcome-answer, load-answer};
+ghost use Rattle.loading.specs.Load.{outcome-answer, load-answer};
 ghost use Rattle.codes.specs.Flatten.{flattened-answer};
 ghost use Rattle.codes.specs.Totals.{totals-outcome};
 ghost use Rattle.parser.specs.Parse.{parsed-answer};
@@ -17,13 +17,13 @@ use codes::Flattened;
 use codes::TotalsOutcome;
 use codes::flatten;
 use codes::totals;
+use loading::Outcome;
+use loading::load;
 use parser::Parsed;
 use parser::parse;
 use spans::SpanOutcome;
 use spans::span;
-use syntax::Outcome;
 use syntax::Refusal;
-use syntax::load;
 
 fn packed(number: u32, value: u32) -> u64
     ensures { λ r. ⌜ unpacked r ≡ answer number value ⌝ }

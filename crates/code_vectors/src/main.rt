@@ -220,7 +220,7 @@ fn run_case(line: &[u8]) {
         say_bad();
         return;
     }
-    let loaded = syntax::load(&text[..size]);
+    let loaded = loading::load(&text[..size]);
     let p = loaded.pattern;
     run_code(p, &line[start..]);
 }

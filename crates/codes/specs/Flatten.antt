@@ -8,6 +8,7 @@ use lib.ListN.{length}
 use Rattle.syntax.specs.declared.Pattern.{Pattern}
 use Rattle.syntax.specs.declared.Refusal.{Refusal}
 use Rattle.syntax.specs.declared.Refusal.the-variants.{Tree as Tree-fault, TapeTooLong, NotACode, TapeTooShort}
+use Rattle.syntax.specs.Letter.{letter-limit}
 use Rattle.syntax.specs.Tree.{Tree}
 use Rattle.syntax.specs.Trees.{root}
 use Rattle.syntax.specs.Table.{obeys}
@@ -16,10 +17,6 @@ use Rattle.bits.specs.Bits.{held, handed-good, in-front}
 use Rattle.semantics.specs.Decode.{is-code, spelled}
 use Rattle.codes.specs.declared.Flattened.{Flattened}
 use Rattle.codes.specs.declared.Flattened.the-variants.{Letters, Refused}
-
--- 01: "Tapes hold at most 3,600 letters"
-abbrev pub letter-limit : ℕ
-letter-limit = 3600
 
 -- 01, cause 8: "not a whole code of the pattern, by bits, range, count or padding". What is handed in is good bytes, and its bits are a code.
 unfoldable pub whole-code : (t : Tree) → (code : List ℕ) → (count : ℕ) → Bool

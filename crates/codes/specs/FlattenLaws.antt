@@ -12,6 +12,7 @@ use lib.ListN.{length, take, drop}
 use lib.Seq.{sets, sets-eq}
 use Rattle.syntax.specs.declared.Pattern.{Pattern}
 use Rattle.syntax.specs.declared.Refusal.the-variants.{Tree as Tree-fault, TapeTooLong, NotACode, TapeTooShort}
+use Rattle.syntax.specs.Letter.{letter-limit}
 use Rattle.syntax.specs.Tree.{Tree}
 use Rattle.syntax.specs.Trees.{root}
 use Rattle.syntax.specs.Table.{obeys}
@@ -24,7 +25,7 @@ use Rattle.codes.specs.declared.Flattened.{Flattened}
 use Rattle.codes.specs.declared.Flattened.the-variants.{Letters, Refused}
 use Rattle.codes.specs.declared.walk.Measured.{Measured}
 use Rattle.codes.specs.declared.spell.Spelled.{Spelled}
-use Rattle.codes.specs.Flatten.{letter-limit, whole-code, letters-of, room-answer, flatten-answer, flatten-tape, flattened-answer, Flattens}
+use Rattle.codes.specs.Flatten.{whole-code, letters-of, room-answer, flatten-answer, flatten-tape, flattened-answer, Flattens}
 use Rattle.codes.specs.Words.{word-at, same-seen}
 use Rattle.codes.specs.Measures.{measured, measured-no, measured-yes, measured-letters, whole-word}
 use Rattle.codes.specs.Spells.{Ready, Wrote}

@@ -1,28 +1,27 @@
 -- What is spelled at a line of the columns, in terms of its parts' lines: one equation for each way of a walk.
-use mathlib.Core.Path.{_≡_, refl, sym, ap, ap₂, subst, _∙_}
+use mathlib.Core.Path.{_≡_, refl, sym, ap, subst, _∙_}
 use mathlib.Core.Bool.{Bool, true, false, cond, _&&_}
 use mathlib.Core.Option.{none, some}
-use mathlib.Core.Logic.{_⊎_, inl, inr, ⊎-elim}
-use mathlib.Core.List.{List, [], _∷_}
+use mathlib.Core.List.{List, []}
 use Prim.Native.Nat.{ℕ, _+_, _*_, _≤_, _<_}
 use native.Mathlib.Omega.{arith}
-use native.Mathlib.Decide.{decLt}
 use lib.Dec.{leb}
 use borrow.Author.Tests.{leb-true, le-leb, lt-leb}
 use lib.ListN.{length, getD}
 use Rattle.syntax.specs.declared.Leaf.{Leaf}
-use Rattle.syntax.specs.declared.Leaf.the-variants.{Nothing, Letter, Range}
+use Rattle.syntax.specs.declared.Leaf.the-variants.{Range}
 use Rattle.syntax.specs.declared.Node.{Node}
 use Rattle.syntax.specs.declared.Node.the-variants.{Leaf as Leaf-node, Sequence, Alternative, Star}
+use Rattle.syntax.specs.Bools.{and-fst, and-snd}
 use Rattle.syntax.specs.Letter.{is-letter, in-range}
 use Rattle.syntax.specs.Table.{leaf-good, node-good}
-use Rattle.syntax.specs.Tree.{Label, Tree, nothing, letter, range, seq, alt, star}
+use Rattle.syntax.specs.Tree.{Label, Tree, range}
 use Rattle.syntax.specs.Trees.{made}
 use Rattle.syntax.specs.TreeLaws.{Below}
-use Rattle.bits.specs.Bits.{bit-at, number-at}
+use Rattle.bits.specs.Bits.{bit-at}
 use Rattle.columns.specs.Columns.{node-in, tree-in, Good}
 use Rattle.columns.specs.ColumnLaws.{line-tree, line-lower, line-formed}
-use Rattle.codes.specs.Words.{Word, word-at, word-then, word-seq, word-short, word-range, word-outside, word-alt-none, word-side, word-star-none, word-stop, word-round}
+use Rattle.codes.specs.Words.{word-at, word-then, word-seq, word-alt-none, word-side, word-star-none, word-stop, word-round}
 
 -- names for the clauses of the source, where `Leaf` and `Range` cannot be imported beside the types
 abbrev pub leaf-node : Leaf → Node
@@ -32,17 +31,6 @@ abbrev pub range-node : (low high : ℕ) → Leaf
 range-node a b = Range a b
 
 -- ── a byte in a range of letters ──
-and-fst : (a b : Bool) → (a && b) ≡ true → a ≡ true
-and-fst true b e = refl
-and-fst false b e = e
-
-and-snd : (a b : Bool) → (a && b) ≡ true → b ≡ true
-and-snd true b e = e
-and-snd false b e = refl-absurd e
-  where
-    refl-absurd : false ≡ true → b ≡ true
-    refl-absurd e = absurd (let z : _≡_ {A = ℕ} 0 1 = cc in omega arith)
-
 module _ (low high c : ℕ) (g : leaf-good (Range low high) ≡ true) where
   -- both ends are letters, so what is between them is one
   pub in-range-yes : low ≤ c → c ≤ high → in-range low high c ≡ true

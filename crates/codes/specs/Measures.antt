@@ -1,19 +1,19 @@
 -- A walk over all that is handed in: whether it is a whole code, and how many letters that spells.
 use mathlib.Core.Path.{_≡_, refl, sym, ap, _∙_}
-use mathlib.Core.Bool.{Bool, true, false, cond, _&&_, true≢false, false≢true}
-use mathlib.Core.Option.{Option, none, some, Option·none-ne-some}
+use mathlib.Core.Bool.{Bool, true, false, cond, false≢true}
+use mathlib.Core.Option.{Option, none, some}
 use mathlib.Core.List.{List}
-use Prim.Native.Nat.{ℕ, _*_, _≤_, _<_}
+use Prim.Native.Nat.{ℕ, _*_, _≤_}
 use native.Mathlib.Omega.{arith}
 use borrow.Author.Tests.{le-leb}
-use lib.Dec.{leb}
 use lib.ListN.{length}
+use Rattle.syntax.specs.Bools.{and-fst}
 use Rattle.syntax.specs.Tree.{Tree}
 use Rattle.bits.specs.Bits.{held, handed-good}
 use Rattle.bits.specs.Handed.{exact-fits, handed-exact, handed-count}
 use Rattle.semantics.specs.Value.{Value, flat}
-use Rattle.semantics.specs.Code.{code as code-bits, code-limit}
-use Rattle.semantics.specs.Decode.{value-of, there, is-code, spelled, spelled-by}
+use Rattle.semantics.specs.Code.{code-limit}
+use Rattle.semantics.specs.Decode.{value-of, is-code, spelled, spelled-by}
 use Rattle.semantics.specs.CodeLaws.{value-of-code, value-of-sound}
 use Rattle.semantics.specs.Positions.{see}
 use Rattle.semantics.specs.PositionLaws.{see-whole, see-whole-sound}
@@ -107,10 +107,6 @@ module _ (t : Tree) (code : List ℕ) (count : ℕ) where
           go (some p) e =
               let q = ew ∙ ap (walk-answer count) e in
               ap (λ x. measure-of (x .letters)) q ∙ sound (p .0) (p .1) e (sym (ap (λ x. x .at) q) ∙ h)
-
-  and-fst : (a b : Bool) → (a && b) ≡ true → a ≡ true
-  and-fst true b e = refl
-  and-fst false b e = e
 
   -- what is known of a whole code
   module _ (w : whole-code t code count ≡ true) where

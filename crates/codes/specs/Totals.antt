@@ -8,6 +8,7 @@ use lib.Dec.{eqb, leb}
 use lib.ListN.{length, replicate}
 use Rattle.syntax.specs.declared.Pattern.{Pattern}
 use Rattle.syntax.specs.declared.Refusal.{Refusal}
+use Rattle.syntax.specs.Letter.{letter-limit}
 use Rattle.syntax.specs.Tree.{Tree}
 use Rattle.syntax.specs.Trees.{root}
 use Rattle.syntax.specs.Table.{obeys}
@@ -19,7 +20,7 @@ use Rattle.semantics.specs.Decode.{value-of}
 use Rattle.codes.specs.declared.TotalsOutcome.{TotalsOutcome}
 use Rattle.codes.specs.declared.TotalsOutcome.the-variants.{Added, Refused}
 use Rattle.codes.specs.declared.Totalled.{Totalled}
-use Rattle.codes.specs.Flatten.{letter-limit, whole-code, letters-of, bad-table, no-code, too-long}
+use Rattle.codes.specs.Flatten.{whole-code, letters-of, bad-table, no-code, too-long}
 
 -- each letter with its account; the totals are a fold over this list, and other folds over it may follow
 abbrev pub entries-by : (t : Tree) → Option (Value t) → List (ℕ × ℕ)

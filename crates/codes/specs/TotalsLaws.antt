@@ -1,9 +1,9 @@
 -- Totalling a whole code: one law for each way of the service, and that the totals add up to the tape's digits.
 use mathlib.Core.Path.{_≡_, refl, sym, ap, ap₂, subst, _∙_}
-use mathlib.Core.Bool.{Bool, true, false, cond, _&&_}
+use mathlib.Core.Bool.{true, false, cond}
 use mathlib.Core.Option.{some}
 use mathlib.Core.List.{List, [], _∷_, map}
-use Prim.Native.Nat.{ℕ, zero, suc, _+_, _*_, _-_, _≤_, _<_}
+use Prim.Native.Nat.{ℕ, zero, suc, _+_, _-_, _≤_, _<_}
 use native.Mathlib.Omega.{arith}
 use native.Mathlib.Nat.{zero-add}
 use lib.Dec.{leb, eqb}
@@ -16,32 +16,26 @@ use Rattle.syntax.specs.declared.Node.{Node}
 use Rattle.syntax.specs.declared.Node.the-variants.{Leaf as Leaf-node, Sequence, Alternative, Star}
 use Rattle.syntax.specs.declared.Refusal.{Refusal}
 use Rattle.syntax.specs.declared.Refusal.the-variants.{Tree as Tree-fault, TapeTooLong, NotACode}
+use Rattle.syntax.specs.Bools.{and-fst}
+use Rattle.syntax.specs.Letter.{letter-limit}
 use Rattle.syntax.specs.Tree.{Label, Tree}
 use Rattle.syntax.specs.Trees.{made, tree-of, root}
-use Rattle.syntax.specs.TreeLaws.{Below, Rules, obeys-iff, tree-line}
+use Rattle.syntax.specs.TreeLaws.{Below, obeys-iff, tree-line}
 use Rattle.syntax.specs.Table.{obeys, line-at, node-at, node-good, line-good}
-use Rattle.syntax.specs.Refusals.{Answer, answer, refused}
-use Rattle.bits.specs.Bits.{held}
-use Rattle.semantics.specs.Value.{Value, flat}
+use Rattle.syntax.specs.Refusals.{refused}
 use Rattle.semantics.specs.Accounts.{accounts, entries, total, totals, digits}
-use Rattle.semantics.specs.AccountLaws.{Accounts, entries-flat, letters, sum-below, total-small, totals-digits}
-use Rattle.semantics.specs.Decode.{value-of}
+use Rattle.semantics.specs.AccountLaws.{Accounts, entries-flat, letters, total-small, totals-digits}
 use Rattle.columns.specs.declared.Columns.{Columns}
 use Rattle.columns.specs.Columns.{tree-in, Holds}
 use Rattle.columns.specs.ColumnLaws.{holds-tree}
 use Rattle.codes.specs.declared.TotalsOutcome.the-variants.{Added, Refused}
-use Rattle.codes.specs.declared.Totalled.{Totalled}
 use Rattle.codes.specs.declared.walk.Measured.{Measured}
-use Rattle.codes.specs.Flatten.{letter-limit, whole-code, letters-of}
-use Rattle.codes.specs.Totals.{entries-by, entries-of, totals-answer, totals-litres, no-litres, totals-outcome, Totals}
+use Rattle.codes.specs.Flatten.{whole-code, letters-of}
+use Rattle.codes.specs.Totals.{entries-by, entries-of, totals-answer, totals-litres, no-litres, Totals}
 use Rattle.codes.specs.Words.{same-seen}
 use Rattle.codes.specs.Handed.{held-length}
 use Rattle.codes.specs.Measures.{measured, measured-no, measured-yes, measured-letters, handed-fit, value-see, whole-handed, whole-value, spells}
 use Rattle.codes.specs.Charges.{Entries, entries-at, charge, charge-length, charge-total, Charging, Charged}
-
-and-fst : (a b : Bool) → (a && b) ≡ true → a ≡ true
-and-fst true b e = refl
-and-fst false b e = e
 
 -- ── the sums of a list of entries are its totals ──
 abbrev count-from : (i n : ℕ) → List ℕ

@@ -6,13 +6,14 @@ use mathlib.Core.List.{List, [], _∷_, _++_}
 use Prim.Native.Nat.{ℕ, _+_, _*_, _≤_, _<_, min}
 use native.Mathlib.Omega.{arith}
 use lib.ListN.{length, length-append}
+use Rattle.syntax.specs.Letter.{letter-limit}
 use Rattle.syntax.specs.Tree.{Tree}
 use Rattle.codes.specs.declared.walk.Walked.{Walked}
 use Rattle.codes.specs.Words.{Word, word-at, word-join, word-then, word-stays}
 
 -- 3,601 stands for every number of letters above 3,600: a letter is spelled without a bit, so the number itself need not fit a machine word
 abbrev pub cap : ℕ → ℕ
-cap n = min 3601 n
+cap n = min (letter-limit + 1) n
 
 abbrev pub went : (at letters : ℕ) → Walked
 went at n = record { ok = true; at = at; letters = n }
@@ -68,7 +69,7 @@ more-join count v (some q) = ap (went (q .1)) (ap cap (length-append v (q .0)) �
 pub record Stays (at count next letters : ℕ) : Type 0 where
   pub low : at ≤ next
   pub high : next ≤ count
-  pub few : letters ≤ 3601
+  pub few : letters ≤ letter-limit + 1
 
 module _ (code : List ℕ) (count : ℕ) where
   pub walk-stays : (fit : count ≤ length code * 8) (t : Tree) (at : ℕ) (x : Walked) → x ≡ walked code count t at → at ≤ count → Stays at count (x .at) (x .letters)
@@ -113,7 +114,7 @@ module _ (code : List ℕ) (count : ℕ) where
 pub record Rounds (code : List ℕ) (count : ℕ) (t : Tree) (at here n : ℕ) : Type 0 where
   pub low : at ≤ here
   pub high : here ≤ count
-  pub few : n ≤ 3601
+  pub few : n ≤ letter-limit + 1
   pub is : walked code count t at ≡ more n (walked code count t here)
 
 module _ (code : List ℕ) (count : ℕ) (t : Tree) (at : ℕ) where

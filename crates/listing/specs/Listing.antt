@@ -8,7 +8,7 @@ use lib.ListN.{length, take, getD}
 use Rattle.syntax.specs.declared.Pattern.{Pattern}
 use Rattle.syntax.specs.declared.Refusal.the-variants.{Unreadable}
 use Rattle.syntax.specs.Refusals.{Answer, refused}
-use Rattle.syntax.specs.Load.{load-answer, load-table}
+use Rattle.loading.specs.Load.{load-answer, load-table}
 use Rattle.syntax.specs.Trees.{root}
 use Rattle.bits.specs.Bits.{test-bit, count-below, pack, in-front}
 use Rattle.semantics.specs.Accounts.{totals}

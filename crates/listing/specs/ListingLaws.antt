@@ -8,15 +8,16 @@ use borrow.Author.Tests.{le-ltb, ltb-false, le-leb, eq-eqb, ne-eqb}
 use lib.Dec.{ltb, leb, eqb}
 use lib.ListN.{length, take, drop, getD, length-append, length-drop, List·getD-append}
 use lib.Seq.{take-at, take-length}
+use Rattle.syntax.specs.Letter.{first-bad, letter-limit}
 use Rattle.syntax.specs.declared.Pattern.{Pattern}
-use Rattle.syntax.specs.declared.Loaded.{Loaded}
-use Rattle.syntax.specs.declared.Outcome.the-variants.{Lines, Refused as Not-loaded}
+use Rattle.loading.specs.declared.Loaded.{Loaded}
+use Rattle.loading.specs.declared.Outcome.the-variants.{Lines, Refused as Not-loaded}
 use Rattle.syntax.specs.declared.Refusal.{Refusal}
 use Rattle.syntax.specs.declared.Refusal.the-variants.{LineForm, Tree as Tree-fault, TapeTooLong, TapeByte, Unreadable, WordsTooShort, CodeTooShort, NotACode, TapeTooShort, NoSuchVisit}
 use Rattle.syntax.specs.Refusals.{answer, refused, number}
 use Rattle.syntax.specs.Table.{obeys}
 use Rattle.syntax.specs.Trees.{root}
-use Rattle.syntax.specs.Load.{outcome-answer, load-answer, Loads}
+use Rattle.loading.specs.Load.{outcome-answer, load-answer, Loads}
 use Rattle.bits.specs.Bits.{cell-count, pack, in-front}
 use Rattle.bits.specs.Packing.{length-pack}
 use Rattle.bits.specs.Handed.{held-pack}
@@ -32,7 +33,7 @@ use Rattle.codes.specs.Totals.{entries-by, entries-of, totals-answer, totals-li
 use Rattle.canonical.specs.RoundTrip.{canonical-whole, canonical-spells}
 use Rattle.parser.specs.declared.Parsed.{Parsed}
 use Rattle.parser.specs.declared.Parsed.the-variants.{Bits, Refused}
-use Rattle.parser.specs.Parse.{parsed-answer, first-bad, early, Reads-greedily, Parses-by, Parses}
+use Rattle.parser.specs.Parse.{parsed-answer, early, Reads-greedily, Parses-by, Parses}
 use Rattle.parser.specs.ParseLaws.{greedy-few}
 use Rattle.listing.specs.declared.Listed.{Listed}
 use Rattle.listing.specs.declared.Listed.the-variants.{Bytes, TooShort}
@@ -43,7 +44,7 @@ use Rattle.listing.specs.Bounds.{tape-length, open-length}
 -- ── a tape that has been read: its words, its code and the bit count ──
 pub record Read (p : Pattern) (tape ws code : List ℕ) (count : ℕ) : Type 0 where
   pub good : obeys p ≡ true
-  pub few : length tape ≤ 3600
+  pub few : length tape ≤ letter-limit
   pub reads : readable (root p) tape ≡ true
   pub filled : (i : ℕ) → i ≤ length tape → getD ws (2 * i + 1) 0 ≡ getD (words p tape) (2 * i + 1) 0
   pub long : 2 * (length tape + 1) ≤ length ws
@@ -64,7 +65,7 @@ module _ (p : Pattern) (tape ws code : List ℕ) (count : ℕ) (h : Read p tape 
 
   own-litres : totals-litres p (pack 8 (greedy (root p) tape)) (length (greedy (root p) tape)) ≡ totals (entries-by (root p) (value-of (root p) (greedy (root p) tape)))
   unfolding totals-litres totals-answer entries-of
-  own-litres = rw (h .good, canonical-whole p (h .good) tape (h .few) (greedy (root p) tape) is-canonical, canonical-spells p (h .good) tape (h .few) (greedy (root p) tape) is-canonical, le-leb (length tape) 3600 (h .few), held-pack 8 (omega arith) (greedy (root p) tape))
+  own-litres = rw (h .good, canonical-whole p (h .good) tape (h .few) (greedy (root p) tape) is-canonical, canonical-spells p (h .good) tape (h .few) (greedy (root p) tape) is-canonical, le-leb (length tape) letter-limit (h .few), held-pack 8 (omega arith) (greedy (root p) tape))
 
   pub litres-are : (r : Totalled) → Totals p code count r → r .litres ≡ totals (entries-by (root p) (value-of (root p) (greedy (root p) tape)))
   litres-are r t = t .gives ∙ ap₂ (totals-litres p) (h .coded) (h .counted) ∙ own-litres
@@ -105,17 +106,17 @@ positive NoSuchVisit = omega arith
 -- nothing before the sweeps refuses
 pub record Passed (p : Pattern) (tape : List ℕ) (n : ℕ) : Type 0 where
   pub good : obeys p ≡ true
-  pub few : length tape ≤ 3600
+  pub few : length tape ≤ letter-limit
   pub room : 2 * (length tape + 1) ≤ n
 
 passed : (p : Pattern) (tape : List ℕ) (n : ℕ) → early p tape n .number ≡ 0 → Passed p tape n
 unfolding early
-passed p tape n h = go (obeys p) refl (ltb 3600 (length tape)) refl (ltb (first-bad tape) (length tape)) (ltb n (2 * (length tape + 1))) refl h
+passed p tape n h = go (obeys p) refl (ltb letter-limit (length tape)) refl (ltb (first-bad tape) (length tape)) (ltb n (2 * (length tape + 1))) refl h
   where
-    go : (o : Bool) → obeys p ≡ o → (f : Bool) → ltb 3600 (length tape) ≡ f → (b : Bool) → (w : Bool) → ltb n (2 * (length tape + 1)) ≡ w
+    go : (o : Bool) → obeys p ≡ o → (f : Bool) → ltb letter-limit (length tape) ≡ f → (b : Bool) → (w : Bool) → ltb n (2 * (length tape + 1)) ≡ w
         → cond (not o) (refused (Tree-fault 0)) (cond f (refused TapeTooLong) (cond b (refused (TapeByte (first-bad tape))) (cond w (refused (WordsTooShort (2 * (length tape + 1)))) (answer 0 0)))) .number ≡ 0
         → Passed p tape n
-    go true eo false ef false false ew h = record { good = eo; few = ltb-false 3600 (length tape) ef; room = ltb-false n (2 * (length tape + 1)) ew }
+    go true eo false ef false false ew h = record { good = eo; few = ltb-false letter-limit (length tape) ef; room = ltb-false n (2 * (length tape + 1)) ew }
     go true eo false ef false true ew h = absurd (omega arith)
     go true eo false ef true w ew h = absurd (omega arith)
     go true eo true ef b w ew h = absurd (omega arith)
@@ -124,12 +125,12 @@ passed p tape n h = go (obeys p) refl (ltb 3600 (length tape)) refl (ltb (first-
 -- 7,202 words suffice for every tape that is not too long
 early-same : (p : Pattern) (tape : List ℕ) → early p tape 7202 ≡ early-cause p tape
 unfolding early-cause early
-early-same p tape = go (ltb 3600 (length tape)) refl
+early-same p tape = go (ltb letter-limit (length tape)) refl
   where
-    go : (f : Bool) → ltb 3600 (length tape) ≡ f → early p tape 7202 ≡ early p tape (2 * (length tape + 1))
+    go : (f : Bool) → ltb letter-limit (length tape) ≡ f → early p tape 7202 ≡ early p tape (2 * (length tape + 1))
     go true e = rw e
     go false e =
-        let l : length tape ≤ 3600 = ltb-false 3600 (length tape) e in
+        let l : length tape ≤ letter-limit = ltb-false letter-limit (length tape) e in
         rw (le-ltb 7202 (2 * (length tape + 1)) (omega arith), le-ltb (2 * (length tape + 1)) (2 * (length tape + 1)) (omega arith))
 
 refused-by : (p : Pattern) (tape : List ℕ) (n : ℕ) → early-cause p tape .number ≡ suc n → pattern-listing p tape ≡ refused-line (early-cause p tape)

@@ -10,7 +10,7 @@ use lib.ListN.{length}
 use Rattle.syntax.specs.declared.Pattern.{Pattern}
 use Rattle.syntax.specs.declared.Refusal.the-variants.{Unreadable}
 use Rattle.syntax.specs.Refusals.{refused}
-use Rattle.syntax.specs.Load.{load-answer, load-table}
+use Rattle.loading.specs.Load.{load-answer, load-table}
 use Rattle.syntax.specs.Trees.{root}
 use Rattle.bits.specs.Bits.{pack}
 use Rattle.semantics.specs.Value.{Value, flat}

@@ -12,13 +12,14 @@ use lib.ListN.{length, take, drop, length-take}
 use lib.Seq.{take-nil, take-all, length-take-le}
 use Rattle.syntax.specs.declared.Pattern.{Pattern}
 use Rattle.syntax.specs.declared.Refusal.the-variants.{Tree as Tree-fault, TapeTooLong}
+use Rattle.syntax.specs.Letter.{letter-limit}
 use Rattle.syntax.specs.Refusals.{refused}
 use Rattle.syntax.specs.Table.{obeys}
-use Rattle.syntax.specs.Text.{Row, byte-front, rows, place, single, account, line-of, row-line, fault, line-front, forms}
-use Rattle.syntax.specs.Load.{forms-answer, forms-table, load-answer, load-table}
-use Rattle.syntax.specs.Scans.{first-fields, first-closed, first-size, parts-say, account-says}
-use Rattle.syntax.specs.Scanning.{line-no-place, line-no-long, line-no-kind, line-short, line-alone, line-account, account-no-long, parts-no-long, parts-no-second, parts-no-more}
-use Rattle.syntax.specs.Lines.{rows-first}
+use Rattle.loading.specs.Text.{Row, byte-front, rows, place, single, account, line-of, row-line, fault, line-front, forms}
+use Rattle.loading.specs.Load.{forms-answer, forms-table, load-answer, load-table}
+use Rattle.loading.specs.Scans.{first-fields, first-closed, first-size, parts-say, account-says}
+use Rattle.loading.specs.Scanning.{line-no-place, line-no-long, line-no-kind, line-short, line-alone, line-account, account-no-long, parts-no-long, parts-no-second, parts-no-more}
+use Rattle.loading.specs.Lines.{rows-first}
 use Rattle.parser.specs.Parse.{early}
 use Rattle.listing.specs.Listing.{refused-line, read-listing, early-cause, pattern-listing, closed, tape-of, listing-of}
 
@@ -181,11 +182,11 @@ module _ (text : List ℕ) (m : ℕ) (h : 1025 ≤ m) where
   load-table-short = ap forms-table (short-forms 64 0 (omega arith) text m (omega arith))
 
 -- ── the tape ──
-over-cause : (p : Pattern) (tape : List ℕ) → 3600 < length tape → early-cause p tape ≡ cond (not (obeys p)) (refused (Tree-fault 0)) (refused TapeTooLong)
+over-cause : (p : Pattern) (tape : List ℕ) → letter-limit < length tape → early-cause p tape ≡ cond (not (obeys p)) (refused (Tree-fault 0)) (refused TapeTooLong)
 unfolding early-cause early
-over-cause p tape h = rw (lt-ltb 3600 (length tape) h)
+over-cause p tape h = rw (lt-ltb letter-limit (length tape) h)
 
-over-listing : (p : Pattern) (tape : List ℕ) → 3600 < length tape → pattern-listing p tape ≡ refused-line (cond (not (obeys p)) (refused (Tree-fault 0)) (refused TapeTooLong))
+over-listing : (p : Pattern) (tape : List ℕ) → letter-limit < length tape → pattern-listing p tape ≡ refused-line (cond (not (obeys p)) (refused (Tree-fault 0)) (refused TapeTooLong))
 unfolding pattern-listing
 over-listing p tape h = rw (over-cause p tape h) (go (obeys p))
   where

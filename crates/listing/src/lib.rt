@@ -16,11 +16,11 @@ use lines::put_accounts;
 use lines::put_open;
 use lines::put_refused;
 use lines::put_tape;
+use loading::Outcome;
+use loading::load;
 use parser::Parsed;
 use parser::parse;
-use syntax::Outcome;
 use syntax::Pattern;
-use syntax::load;
 
 // Bytes that hold every listing: at most 131,100 for the first line, 30 for each account, 27 for each position.
 pub const MAX_LISTING: usize = 262144;

@@ -4,6 +4,7 @@ ghost use Prim.Native.Nat.{suc, _+_, _*_, _≤_};
 ghost use lib.ListN.{length};
 ghost use Rattle.listing.specs.Listing.{entry, line, tape-line, account-line, account-lines, open-lines, refused-line};
 ghost use Rattle.listing.specs.Putting.{Puts, Room};
+ghost use Rattle.syntax.specs.Letter.{letter-limit};
 ghost use Rattle.syntax.specs.Refusals.{refused};
 use crate::put::put_byte;
 use crate::put::put_bytes;
@@ -70,7 +71,7 @@ pub fn put_accounts(out: &mut [u8], at: usize, litres: &[u32]) -> usize
 
 // Positions 0 to `letters`, each with the ones of its flag 1 word.
 pub fn put_open(out: &mut [u8], at: usize, words: &[u64], letters: usize) -> usize
-    requires { ⌜ (at + 27 * (letters + 1) ≤ length (now out)) × (letters ≤ 3600) × (2 * (letters + 1) ≤ length (now words)) ⌝ }
+    requires { ⌜ (at + 27 * (letters + 1) ≤ length (now out)) × (letters ≤ letter-limit) × (2 * (letters + 1) ≤ length (now words)) ⌝ }
     ensures { λ r. ⌜ Puts (now (out .entry)) at (open-lines (now (words .entry)) 0 (suc letters)) (now (out .exit)) r ⌝ }
 {
     let mut end = at;

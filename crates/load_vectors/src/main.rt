@@ -4,8 +4,8 @@
 mod report; // report.rt: what loading answers, as text
 
 use libc::STDOUT_FILENO;
+use loading::Loaded;
 use report::put_loaded;
-use syntax::Loaded;
 use vector_text::Input;
 use vector_text::advance;
 use vector_text::decode;
@@ -30,7 +30,7 @@ fn run_digits(digits: &[u8]) {
         io::write_all(STDOUT_FILENO, b"not hexadecimal\n");
         return;
     }
-    print_loaded(syntax::load(&text[..size]));
+    print_loaded(loading::load(&text[..size]));
 }
 
 // Runs the line that is complete, if one is. A size above that of `line` marks one that did not fit.

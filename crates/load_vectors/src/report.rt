@@ -1,11 +1,11 @@
 // What loading answers, as text: fields parted by tabs, numbers in decimal. Each function puts its bytes into `out` from
 // `at` on and answers where they end. What does not fit is left out.
 ghost use Rattle.io.specs.Counts.{Counts};
+use loading::Loaded;
+use loading::Outcome;
 use syntax::Leaf;
 use syntax::Line;
-use syntax::Loaded;
 use syntax::Node;
-use syntax::Outcome;
 use syntax::Pattern;
 use vector_text::put_answer;
 use vector_text::put_byte;

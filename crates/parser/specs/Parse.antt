@@ -1,14 +1,13 @@
 -- Reading a tape: the answer and the buffers, for every input. Definitions only.
 use mathlib.Core.Path.{_≡_}
-use mathlib.Core.Bool.{Bool, true, false, not, cond}
-use mathlib.Core.List.{List, [], _∷_}
+use mathlib.Core.Bool.{Bool, not, cond}
+use mathlib.Core.List.{List}
 use Prim.Native.Nat.{ℕ, zero, suc, _+_, _*_, _≤_, _<_}
-use lib.Dec.{ltb, leb}
+use lib.Dec.{ltb}
 use lib.ListN.{length}
 use Rattle.syntax.specs.declared.Pattern.{Pattern}
-use Rattle.syntax.specs.declared.Refusal.{Refusal}
 use Rattle.syntax.specs.declared.Refusal.the-variants.{Tree as Tree-fault, TapeTooLong, TapeByte, Unreadable, WordsTooShort, CodeTooShort}
-use Rattle.syntax.specs.Letter.{is-letter}
+use Rattle.syntax.specs.Letter.{first-bad, letter-limit}
 use Rattle.syntax.specs.Refusals.{Answer, answer, refused}
 use Rattle.syntax.specs.Table.{obeys}
 use Rattle.syntax.specs.Tree.{Tree}
@@ -24,16 +23,11 @@ abbrev pub parsed-answer : Parsed → Answer
 parsed-answer (Bits n) = answer 0 n
 parsed-answer (Refused r) = refused r
 
--- 01, cause 4: "first such position"; the length where every byte is a letter
-unfoldable pub first-bad : (tape : List ℕ) → ℕ
-first-bad [] = 0
-first-bad (c ∷ w) = cond (is-letter c) (suc (first-bad w)) 0
-
 -- 01: "Reading a tape: 2, 3, 4, 6, 5, 7." The causes before the first sweep, in this order; number 0 where there is none.
 unfoldable pub early : Pattern → (tape : List ℕ) → (words : ℕ) → Answer
 early p tape n =
     cond (not (obeys p)) (refused (Tree-fault 0))
-    (cond (ltb 3600 (length tape)) (refused TapeTooLong)
+    (cond (ltb letter-limit (length tape)) (refused TapeTooLong)
     (cond (ltb (first-bad tape) (length tape)) (refused (TapeByte (first-bad tape)))
     (cond (ltb n (2 * (length tape + 1))) (refused (WordsTooShort (2 * (length tape + 1)))) (answer 0 0))))
 

@@ -1,31 +1,28 @@
 -- Laws of reading a tape: one for each way of the code.
-use mathlib.Core.Path.{_≡_, refl, sym, ap, ap₂, subst, _∙_}
-use mathlib.Core.Bool.{Bool, true, false, not, cond, true≢false, false≢true}
+use mathlib.Core.Path.{_≡_, refl, sym, ap, _∙_}
+use mathlib.Core.Bool.{Bool, true, false, true≢false, false≢true}
 use mathlib.Core.Logic.{_↔_}
 use mathlib.Core.List.{List, [], _∷_, _++_, append-nil}
 use Prim.Native.Nat.{ℕ, zero, suc, _+_, _*_, _-_, _/_, _≤_, _<_}
-use native.Mathlib.Nat.{add-zero}
 use native.Mathlib.Omega.{arith}
 use native.Mathlib.Decide.{decLe, decLt}
 use borrow.Author.Tests.{lt-ltb, le-ltb}
-use lib.Dec.{ltb}
-use lib.ListN.{length, getD, drop, length-append, length-drop, drop-of-length-le, List·getD-append}
-use lib.Seq.{drop-cons}
+use lib.ListN.{length, getD, drop, length-append, length-drop, List·getD-append}
 use Rattle.syntax.specs.declared.Pattern.{Pattern}
-use Rattle.syntax.specs.declared.Line.{Line}
 use Rattle.syntax.specs.declared.Refusal.the-variants.{Tree as Tree-fault, TapeTooLong, TapeByte, Unreadable, WordsTooShort, CodeTooShort}
-use Rattle.syntax.specs.Letter.{is-letter}
-use Rattle.syntax.specs.Refusals.{Answer, answer, refused}
+use Rattle.syntax.specs.Letter.{first-bad, letter-limit}
+use Rattle.syntax.specs.Refusals.{answer, refused}
 use Rattle.syntax.specs.Table.{obeys, line-at}
-use Rattle.syntax.specs.Tree.{Label, Tree, nothing, letter, range, seq, alt, star}
+use Rattle.syntax.specs.Tree.{Tree, nothing, letter, range, seq, alt, star}
 use Rattle.syntax.specs.Trees.{root, tree-of}
 use Rattle.syntax.specs.TreeLaws.{Rules, obeys-iff, weight, sum-to, root-weight, tree-line}
-use Rattle.bits.specs.Bits.{bit, test-bit, cell-count, pack, in-front, write}
+use Rattle.syntax.specs.LetterLaws.{all-letters}
+use Rattle.bits.specs.Bits.{bit, test-bit, cell-count, in-front, write}
 use Rattle.bits.specs.Writing.{write-start}
 use Rattle.columns.specs.declared.Columns.{Columns}
-use Rattle.columns.specs.Columns.{Holds, Good, tree-in}
-use Rattle.columns.specs.ColumnLaws.{holds-tree, holds-good}
-use Rattle.semantics.specs.Value.{Value, flat, nonempty}
+use Rattle.columns.specs.Columns.{Holds}
+use Rattle.columns.specs.ColumnLaws.{holds-tree}
+use Rattle.semantics.specs.Value.{Value, flat}
 use Rattle.semantics.specs.Code.{Canonical, code, choices}
 use Rattle.semantics.specs.Automaton.{Location, top, fst, snd, lft, rgt, rnd}
 use Rattle.semantics.specs.Sweeps.{can, at-end, readable, greedy}
@@ -40,50 +37,12 @@ use Rattle.states.specs.Meaning.{words-length, words-at}
 use Rattle.states.specs.Fill.{Fillable}
 use Rattle.sweep.specs.declared.Swept.{Swept}
 use Rattle.sweep.specs.Parts.{Sweeps}
-use Rattle.sweep.specs.Sweeping.{Knows, Can-sweep, Ready, Wrote}
+use Rattle.sweep.specs.Sweeping.{Knows, Ready, Wrote}
 use Rattle.sweep.specs.Ways.{index-made}
 use Rattle.parser.specs.declared.Parsed.{Parsed}
 use Rattle.parser.specs.declared.Parsed.the-variants.{Bits, Refused}
-use Rattle.parser.specs.Parse.{parsed-answer, first-bad, early, Reads-greedily, Parses-by, Parses}
+use Rattle.parser.specs.Parse.{parsed-answer, early, Reads-greedily, Parses-by, Parses}
 use Rattle.parser.specs.Writing.{missing, Missing, Writable, Writes}
-
--- ── the first byte that is no letter ──
-pub record Searched (tape : List ℕ) (i : ℕ) : Type 0 where
-  pub within : i ≤ length tape
-  pub rest : first-bad tape ≡ i + first-bad (drop i tape)
-
-pub search-start : (tape : List ℕ) → Searched tape 0
-search-start tape = record { within = omega arith; rest = omega arith }
-
-module _ (tape : List ℕ) (i : ℕ) (s : Searched tape i) where
-  pub search-end : length tape ≤ i → i ≡ first-bad tape
-  unfolding first-bad
-  search-end h = sym (s .rest ∙ ap (λ w. i + first-bad w) (drop-of-length-le tape h) ∙ add-zero i)
-
-  module _ (l : i < length tape) where
-    next : first-bad tape ≡ i + cond (is-letter (getD tape i 0)) (suc (first-bad (drop (suc i) tape))) 0
-    unfolding first-bad
-    next = s .rest ∙ ap (λ w. i + first-bad w) (drop-cons tape i 0 l)
-
-    pub search-here : is-letter (getD tape i 0) ≡ false → i ≡ first-bad tape
-    search-here e = sym (next ∙ ap (λ b. i + cond b (suc (first-bad (drop (suc i) tape))) 0) e ∙ add-zero i)
-
-    pub search-on : is-letter (getD tape i 0) ≡ true → Searched tape (i + 1)
-    search-on e =
-        let f : first-bad tape ≡ i + suc (first-bad (drop (suc i) tape)) = next ∙ ap (λ b. i + cond b (suc (first-bad (drop (suc i) tape))) 0) e in
-        let g : suc i ≡ i + 1 = omega arith in
-        record { within = omega arith; rest = f ∙ (let k : i + suc (first-bad (drop (suc i) tape)) ≡ i + 1 + first-bad (drop (suc i) tape) = omega arith in k) ∙ ap (λ j. i + 1 + first-bad (drop j tape)) g }
-
--- a tape without such a byte is letters
-pub all-letters : (tape : List ℕ) → length tape ≤ first-bad tape → (i : ℕ) → i < length tape → is-letter (getD tape i 0) ≡ true
-unfolding first-bad
-all-letters [] h i l = absurd (omega arith)
-all-letters (c ∷ w) h i l = go (is-letter c) refl h i l (all-letters w)
-  where
-    go : (b : Bool) → is-letter c ≡ b → suc (length w) ≤ cond b (suc (first-bad w)) 0 → (i : ℕ) → i < suc (length w) → (length w ≤ first-bad w → (i : ℕ) → i < length w → is-letter (getD w i 0) ≡ true) → is-letter (getD (c ∷ w) i 0) ≡ true
-    go true e h zero l ih = e
-    go true e h (suc i) l ih = ih (omega arith) i (omega arith)
-    go false e h i l ih = absurd (omega arith)
 
 -- ── the marks of a position ──
 pub filled-at : (p : Pattern) (tape ws : List ℕ) (i : ℕ) → i ≤ length tape → (b : Bool) → getD (in-front (words p tape) ws) (2 * i + bit b) 0 ≡ state-set p b (drop i tape)
@@ -119,7 +78,7 @@ pub root-choices : (p : Pattern) → obeys p ≡ true → choices (root p) ≤ 6
 root-choices p h = let r = obeys-iff p .0 h in omega (arith, choices-nodes (root p), root-nodes p r, r .few)
 
 -- no code of a tape within the limit passes 65,536 bytes
-pub greedy-few : (p : Pattern) → obeys p ≡ true → (tape : List ℕ) → length tape ≤ 3600 → readable (root p) tape ≡ true → length (greedy (root p) tape) ≤ 524288
+pub greedy-few : (p : Pattern) → obeys p ≡ true → (tape : List ℕ) → length tape ≤ letter-limit → readable (root p) tape ≡ true → length (greedy (root p) tape) ≤ 524288
 greedy-few p h tape few reads =
     let c = greedy-canonical (root p) tape reads in
     rw (c .written) at (code-fits (root p) (c .value) (root-choices p h) (c .greedy .solid) (rw (c .greedy .spells) few))
@@ -259,19 +218,19 @@ module _ (p : Pattern) (tape ws xs : List ℕ) where
   parse-rules e = rw e (refl, refl, refl)
 
   module _ (good : obeys p ≡ true) where
-    pub parse-long : 3600 < length tape → Parses p tape ws ws xs xs (Refused TapeTooLong)
+    pub parse-long : letter-limit < length tape → Parses p tape ws ws xs xs (Refused TapeTooLong)
     unfolding Parses early
-    parse-long h = rw (good, lt-ltb 3600 (length tape) h) (refl, refl, refl)
+    parse-long h = rw (good, lt-ltb letter-limit (length tape) h) (refl, refl, refl)
 
-    module _ (few : length tape ≤ 3600) where
+    module _ (few : length tape ≤ letter-limit) where
       pub parse-byte : (bad : ℕ) → bad ≡ first-bad tape → bad < length tape → Parses p tape ws ws xs xs (Refused (TapeByte bad))
       unfolding Parses early
-      parse-byte bad e h = rw (good, le-ltb 3600 (length tape) few, ← e, lt-ltb bad (length tape) h) (refl, refl, refl)
+      parse-byte bad e h = rw (good, le-ltb letter-limit (length tape) few, ← e, lt-ltb bad (length tape) h) (refl, refl, refl)
 
       module _ (letters : length tape ≤ first-bad tape) where
         pub parse-words : (needed : ℕ) → needed ≡ 2 * (length tape + 1) → length ws < needed → Parses p tape ws ws xs xs (Refused (WordsTooShort needed))
         unfolding Parses early
-        parse-words needed e h = rw (good, le-ltb 3600 (length tape) few, le-ltb (first-bad tape) (length tape) letters, ← e, lt-ltb (length ws) needed h) (refl, refl, refl)
+        parse-words needed e h = rw (good, le-ltb letter-limit (length tape) few, le-ltb (first-bad tape) (length tape) letters, ← e, lt-ltb (length ws) needed h) (refl, refl, refl)
 
         module _ (room : 2 * (length tape + 1) ≤ length ws) where
           pub fillable : Fillable p tape ws
@@ -279,7 +238,7 @@ module _ (p : Pattern) (tape ws xs : List ℕ) where
 
           on : (us ys : List ℕ) (a : Parsed) → us ≡ in-front (words p tape) ws → Reads-greedily (root p) tape xs ys (parsed-answer a) → Parses p tape ws us xs ys a
           unfolding Parses early
-          on us ys a e r = rw (good, le-ltb 3600 (length tape) few, le-ltb (first-bad tape) (length tape) letters, le-ltb (length ws) (2 * (length tape + 1)) room) (e, r)
+          on us ys a e r = rw (good, le-ltb letter-limit (length tape) few, le-ltb (first-bad tape) (length tape) letters, le-ltb (length ws) (2 * (length tape + 1)) room) (e, r)
 
           module _ (us : List ℕ) (filled : us ≡ in-front (words p tape) ws) (o : Bool) (eo : o ≡ test-bit (getD us (2 * 0 + bit true) 0) (p .count - 1)) where
             -- the root's mark says whether the tape is readable

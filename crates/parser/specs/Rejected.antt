@@ -1,19 +1,17 @@
 -- 01, the bodies to try on reading: "The first round read, then stop bits (2)", "One code for all tapes (2, 3)", "Every tape unreadable (2)".
 -- On the pattern a* the contract of `parse` leaves one answer for each of two tapes, so each of these bodies breaks it.
 use mathlib.Core.Path.{_≡_, refl, sym, ap, _∙_}
-use mathlib.Core.Bool.{Bool, true, false}
+use mathlib.Core.Bool.{true, false}
 use mathlib.Core.List.{List, [], _∷_}
 use Prim.Native.Nat.{ℕ, _+_, _*_, _≤_}
 use native.Mathlib.Omega.{arith}
 use borrow.Author.Tests.{le-ltb}
 use lib.ListN.{length, getD, replicate}
 use Rattle.syntax.specs.declared.Leaf.the-variants.{Letter}
-use Rattle.syntax.specs.declared.Line.{Line}
-use Rattle.syntax.specs.declared.Node.{Node}
 use Rattle.syntax.specs.declared.Node.the-variants.{Leaf as Leaf-node, Star}
 use Rattle.syntax.specs.declared.Pattern.{Pattern}
 use Rattle.syntax.specs.declared.Refusal.the-variants.{Unreadable}
-use Rattle.syntax.specs.Letter.{is-letter}
+use Rattle.syntax.specs.Letter.{is-letter, first-bad, letter-limit}
 use Rattle.syntax.specs.Refusals.{answer, refused}
 use Rattle.syntax.specs.Table.{blank, obeys, line-good, wrongly-names, unnamed, tree-fault}
 use Rattle.syntax.specs.Trees.{root, tree-of}
@@ -21,15 +19,15 @@ use Rattle.bits.specs.Bits.{cell-count, pack, in-front}
 use Rattle.semantics.specs.Sweeps.{readable, greedy}
 use Rattle.semantics.specs.GreedyLaws.{greedy-canonical}
 use Rattle.parser.specs.declared.Parsed.{Parsed}
-use Rattle.parser.specs.Parse.{parsed-answer, first-bad, early, Reads-greedily, Parses}
+use Rattle.parser.specs.Parse.{parsed-answer, early, Parses}
 
 -- what reading answers and leaves where a tape is readable and the buffers suffice
-pub reads-greedy : (p : Pattern) (tape ws us xs ys : List ℕ) (r : Parsed) → Parses p tape ws us xs ys r → obeys p ≡ true → length tape ≤ 3600 → length tape ≤ first-bad tape
+pub reads-greedy : (p : Pattern) (tape ws us xs ys : List ℕ) (r : Parsed) → Parses p tape ws us xs ys r → obeys p ≡ true → length tape ≤ letter-limit → length tape ≤ first-bad tape
     → 2 * (length tape + 1) ≤ length ws → readable (root p) tape ≡ true → cell-count 8 (length (greedy (root p) tape)) ≤ length xs
     → (parsed-answer r ≡ answer 0 (length (greedy (root p) tape))) × (ys ≡ in-front (pack 8 (greedy (root p) tape)) xs)
 unfolding Parses early
 reads-greedy p tape ws us xs ys r h good few letters room reads fit =
-    let w = rw (good, le-ltb 3600 (length tape) few, le-ltb (first-bad tape) (length tape) letters, le-ltb (length ws) (2 * (length tape + 1)) room) at h in
+    let w = rw (good, le-ltb letter-limit (length tape) few, le-ltb (first-bad tape) (length tape) letters, le-ltb (length ws) (2 * (length tape + 1)) room) at h in
     w .1 .fits (greedy (root p) tape) (greedy-canonical (root p) tape reads) fit
 
 -- the pattern a*, as a table of 64 lines

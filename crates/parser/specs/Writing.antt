@@ -6,6 +6,7 @@ use Prim.Native.Nat.{ℕ, _+_, _*_, _≤_, _<_}
 use lib.Dec.{ltb}
 use lib.ListN.{length, getD, drop}
 use Rattle.syntax.specs.declared.Pattern.{Pattern}
+use Rattle.syntax.specs.Letter.{letter-limit}
 use Rattle.syntax.specs.Table.{obeys}
 use Rattle.syntax.specs.Trees.{root}
 use Rattle.bits.specs.Bits.{bit, cell-count}
@@ -16,7 +17,7 @@ use Rattle.parser.specs.Parse.{parsed-answer, Reads-greedily}
 
 pub record Writable (p : Pattern) (tape words : List ℕ) : Type 0 where
   pub good : obeys p ≡ true
-  pub few : length tape ≤ 3600
+  pub few : length tape ≤ letter-limit
   pub room : 2 * length tape + 1 < length words
   pub filled : (i : ℕ) → i ≤ length tape → (b : Bool) → getD words (2 * i + bit b) 0 ≡ state-set p b (drop i tape)
   pub reads : readable (root p) tape ≡ true

@@ -3,9 +3,10 @@ ghost use mathlib.Core.Path.{_≡_};
 ghost use mathlib.Core.Bool.{true};
 ghost use Prim.Native.Nat.{_≤_, _<_};
 ghost use lib.ListN.{length};
+ghost use Rattle.syntax.specs.Letter.{letter-limit};
 ghost use Rattle.columns.specs.Columns.{Good};
 ghost use Rattle.sweep.specs.Sweeping.{Ready};
-ghost use Rattle.parser.specs.Parse.{first-bad, Parses};
+ghost use Rattle.parser.specs.Parse.{Parses};
 ghost use Rattle.parser.specs.Writing.{Missing, Writable, Writes};
 use columns::columns_of;
 use states::fill;
@@ -13,29 +14,13 @@ use sweep::is_open;
 use sweep::sweep;
 use syntax::Pattern;
 use syntax::Refusal;
-use syntax::is_letter;
+use syntax::first_bad;
 use syntax::obeys_rules;
 
 // What reading a tape answers: the bit count of its code, or why it is refused.
 pub enum Parsed {
     Bits(u32),
     Refused(Refusal),
-}
-
-// The position of the first byte that is no letter, the tape's length where there is none.
-fn first_bad(tape: &[u8]) -> usize
-    ensures { λ r. ⌜ r ≡ first-bad (now (tape .entry)) ⌝ }
-{
-    let mut i = 0;
-    loop {
-        if tape.len() <= i {
-            break i;
-        }
-        if !is_letter(tape[i]) {
-            break i;
-        }
-        i += 1;
-    }
 }
 
 // How many bytes the code of node l needs where a buffer has fewer, else 0. Bits are counted only where the buffer might not hold them: with
@@ -50,7 +35,7 @@ fn bytes_missing(
     size: usize,
 ) -> usize
     requires { ⌜ Good (now kind) (now first) (now second) ⌝ }
-    requires { ⌜ (l < 64) × (length (now tape) ≤ 3600) ⌝ }
+    requires { ⌜ (l < 64) × (length (now tape) ≤ letter-limit) ⌝ }
     requires { ⌜ Ready (now kind) (now first) (now second) (now words) (now tape) l 0 true 0 ⌝ }
     ensures { λ r.
         ⌜ ((s : Ready (now (kind .entry)) (now (first .entry)) (now (second .entry)) (now (words .entry)) (now (tape .entry)) l 0 true 0) → Missing (s .it .bits) (length (now (tape .entry))) size r) ⌝ }

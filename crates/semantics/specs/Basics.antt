@@ -1,25 +1,15 @@
 -- Small facts on Bool, tests of numbers and lists, for the laws.
 use mathlib.Core.Path.{_∙_, _≡_, ap, refl, sym}
-use mathlib.Core.Bool.{_&&_, _||_, Bool, false, false≢true, not, or-assoc, true, true≢false}
+use mathlib.Core.Bool.{_||_, Bool, false, false≢true, not, or-assoc, true, true≢false}
 use mathlib.Core.Logic.{_≢_, _⊎_, inl, inr}
 use mathlib.Core.List.{_++_, _∷_, List, [], append-assoc, append-cancel-left}
 use Prim.Native.Nat.{_<_, _≤_, ℕ}
 use native.Mathlib.Omega.{arith}
 use lib.Dec.{T, eqb, eqb-refl, eqb→eq, leb, leb→le, le→leb, nleb→lt}
 use lib.ListN.{length}
+pub use Rattle.syntax.specs.Bools.{and-fst, and-snd, and-intro}
 use Rattle.syntax.specs.Letter.{is-letter}
 use Rattle.semantics.specs.Value.{nonempty}
-
-pub and-fst : (a b : Bool) → (a && b) ≡ true → a ≡ true
-and-fst true b e = refl
-and-fst false b e = e
-
-pub and-snd : (a b : Bool) → (a && b) ≡ true → b ≡ true
-and-snd true b e = e
-and-snd false b e = absurd (false≢true e)
-
-pub and-intro : {a b : Bool} → a ≡ true → b ≡ true → (a && b) ≡ true
-and-intro p q = rw (p, q)
 
 pub or-left : {a : Bool} (b : Bool) → a ≡ true → (a || b) ≡ true
 or-left b p = rw p

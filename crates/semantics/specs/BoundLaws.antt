@@ -1,17 +1,18 @@
 -- LAWS of length: how many bits a code without empty rounds can have.
 -- 01: "With a the number of `A` and `K` nodes and n letters, a code without empty rounds has at most a bits if n = 0, and at most 2 × a × n + 8 × n bits otherwise."
 use mathlib.Core.Path.{_≡_, ap, refl}
-use mathlib.Core.Bool.{Bool, cond, true}
+use mathlib.Core.Bool.{Bool, true}
 use mathlib.Core.Logic.{_⊎_, inl, inr}
 use mathlib.Core.List.{_∷_, List, []}
-use Prim.Native.Nat.{_*_, _+_, _-_, _<_, _^_, _≤_, suc, zero, ℕ}
+use Prim.Native.Nat.{_*_, _+_, _-_, _<_, _≤_, suc, zero, ℕ}
 use native.Mathlib.Nat.{mul-le-mul-left, mul-le-mul-right}
 use native.Mathlib.Omega.{arith}
-use lib.Dec.{leb}
 use lib.ListN.{length, length-append}
+use Rattle.syntax.specs.Letter.{letter-limit}
 use Rattle.syntax.specs.Tree.{Tree, nothing, letter, range, seq, alt, star}
+use Rattle.bits.specs.Numbers.{length-bits-of}
 use Rattle.semantics.specs.Value.{Value, flat-rounds, nonproblematic-rounds, flat, nonproblematic}
-use Rattle.semantics.specs.Code.{bits-of, code-rounds, code, code-limit, choices}
+use Rattle.semantics.specs.Code.{code-rounds, code, code-limit, choices}
 use Rattle.semantics.specs.Basics.{and-fst, and-snd, nonempty-pos}
 use Rattle.semantics.specs.CompleteLaws.{full-round}
 
@@ -46,14 +47,10 @@ module _ {A : Type 0} (again : Bool) (f : A → List ℕ) (s : A → Bool) (c : 
       let m : 1 ≤ length (f v) = nonempty-pos (f v) (o .full) in
       simp length-append (omega (arith, within-round a (length (f v)) (length (c v)) m (one v (o .solid)), rounds-within vs (o .others)))
 
-bits-length : (n c : ℕ) → length (bits-of n c) ≡ n
-bits-length zero c = refl
-bits-length (suc n) c = ap suc (bits-length n (cond (leb (2 ^ n) c) (c - 2 ^ n) c))
-
 pub code-within : (t : Tree) (v : Value t) → nonproblematic t v ≡ true → Within (choices t) (length (flat t v)) (length (code t v))
 code-within (nothing m) v ok = inl (refl, omega arith)
 code-within (letter m c) v ok = inr (omega arith, omega arith)
-code-within (range m low high) v ok = inr (omega arith, omega (arith, bits-length 8 (v .0)))
+code-within (range m low high) v ok = inr (omega arith, omega (arith, length-bits-of 8 (v .0)))
 code-within (seq m t u) v ok = simp length-append (within-add (choices t) (choices u) (length (flat t (v .0))) (length (flat u (v .1))) (length (code t (v .0))) (length (code u (v .1)))
     (code-within t (v .0) (and-fst (nonproblematic t (v .0)) (nonproblematic u (v .1)) ok)) (code-within u (v .1) (and-snd (nonproblematic t (v .0)) (nonproblematic u (v .1)) ok)))
 code-within (alt m t u) (inl v) ok = within-more (choices t) (choices t + choices u) (length (flat t v)) (length (code t v)) (omega arith) (code-within t v ok)
@@ -75,7 +72,7 @@ few-bits-some t v ok h = go (code-within t v ok)
     go (inr p) = omega arith
 
 -- 01's limits: a pattern has at most 64 nodes, so at most 64 of them are choices; a tape has at most 3,600 letters. So no code without empty rounds passes the limit of codes.
-pub code-fits : (t : Tree) (v : Value t) → choices t ≤ 64 → nonproblematic t v ≡ true → length (flat t v) ≤ 3600 → length (code t v) ≤ code-limit
+pub code-fits : (t : Tree) (v : Value t) → choices t ≤ 64 → nonproblematic t v ≡ true → length (flat t v) ≤ letter-limit → length (code t v) ≤ code-limit
 code-fits t v few ok h = go (code-within t v ok)
   where
     go : Within (choices t) (length (flat t v)) (length (code t v)) → length (code t v) ≤ code-limit

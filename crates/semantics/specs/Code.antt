@@ -1,19 +1,14 @@
--- WHAT MUST BE BELIEVED, 3: codes, as lists of bits (false is 0, true is 1). Bits in bytes are the crate `bits`.
+-- WHAT MUST BE BELIEVED, 3: codes, as lists of bits (false is 0, true is 1). The bits of a letter, and bits in bytes, are the crate `bits`.
 use mathlib.Core.Path.{_≡_}
-use mathlib.Core.Bool.{Bool, cond, false, not, true}
+use mathlib.Core.Bool.{Bool, false, not, true}
 use mathlib.Core.Logic.{inl, inr}
 use mathlib.Core.List.{_++_, _∷_, List, []}
-use Prim.Native.Nat.{_+_, _-_, _^_, _≤_, suc, zero, ℕ}
-use lib.Dec.{leb}
+use Prim.Native.Nat.{_*_, _+_, _≤_, suc, ℕ}
 use lib.ListN.{length}
 use Rattle.syntax.specs.Tree.{Tree, nothing, letter, range, seq, alt, star}
+use Rattle.bits.specs.Bits.{bits-of, byte-limit}
 use Rattle.semantics.specs.Value.{Value, flat, nonproblematic}
 use Rattle.semantics.specs.Order.{Greedy}
-
--- n bits of a number, "highest first"
-abbrev pub bits-of : (n : ℕ) → ℕ → List Bool
-bits-of zero c = []
-bits-of (suc n) c = leb (2 ^ n) c ∷ bits-of n (cond (leb (2 ^ n) c) (c - 2 ^ n) c)
 
 -- 01: "`K` writes 0 and a round, again and again, then 1." The 0 is `again`.
 abbrev pub code-rounds : {A : Type 0} → (again : Bool) → (A → List Bool) → List A → List Bool
@@ -32,7 +27,7 @@ code (star m again t) vs = code-rounds again (code t) vs
 
 -- 01: "at most 65,536 bytes", in bits
 abbrev pub code-limit : ℕ
-code-limit = 524288
+code-limit = byte-limit * 8
 
 -- 01: "Within that limit, a code of a pattern is all the bits that one of its readings writes, and no more."
 pub record IsCode (t : Tree) (bits : List Bool) : Type 0 where

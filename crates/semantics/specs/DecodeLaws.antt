@@ -11,8 +11,10 @@ use lib.Dec.{leb}
 use lib.ListN.{length, length-append}
 use Rattle.syntax.specs.Letter.{is-letter, in-range}
 use Rattle.syntax.specs.Tree.{Label, Tree, nothing, letter, range, seq, alt, star}
+use Rattle.bits.specs.Bits.{bits-of}
+use Rattle.bits.specs.Numbers.{bits-of-compare}
 use Rattle.semantics.specs.Value.{Value}
-use Rattle.semantics.specs.Code.{bits-of, code-rounds, code}
+use Rattle.semantics.specs.Code.{code-rounds, code}
 use Rattle.semantics.specs.Decode.{get-bits, checked, by-bit, decode-rounds, decode, Read, read}
 use Rattle.semantics.specs.Basics.{and-fst, not-both, leb-le, le-leb, nleb-lt, lt-nleb, letter-small, not-self, glue}
 
@@ -22,8 +24,9 @@ in-range-small low high c p = letter-small c (and-fst (is-letter c) _ p)
 
 module _ {X : Type 0} where
   get-bits-bits : (n c : ℕ) → c < 2 ^ n → (k : ℕ → List Bool → Option X) (r : List Bool) → get-bits n k (bits-of n c ++ r) ≡ k c r
+  unfolding bits-of
   get-bits-bits zero c h k r = ap (λ x. k x r) (omega arith)
-  get-bits-bits (suc n) c h k r = go (get-bits-bits n) (leb (2 ^ n) c) refl
+  get-bits-bits (suc n) c h k r = ap (λ bs. get-bits (suc n) k (bs ++ r)) (bits-of-compare n c h) ∙ go (get-bits-bits n) (leb (2 ^ n) c) refl
     where
       go : ((c : ℕ) → c < 2 ^ n → (k : ℕ → List Bool → Option X) (r : List Bool) → get-bits n k (bits-of n c ++ r) ≡ k c r)
           → (b : Bool) → leb (2 ^ n) c ≡ b → get-bits (suc n) k (b ∷ bits-of n (cond b (c - 2 ^ n) c) ++ r) ≡ k c r
@@ -89,15 +92,18 @@ module _ {X : Type 0} where
 
   get-bits-sound : (n : ℕ) (k : ℕ → List Bool → Option X) (bs : List Bool) (x : X) → get-bits n k bs ≡ some x
       → (c : ℕ) × (r : List Bool) × (c < 2 ^ n) × (bs ≡ bits-of n c ++ r) × (k c r ≡ some x)
+  unfolding bits-of
   get-bits-sound zero k bs x h = (0, bs, omega arith, refl, h)
   get-bits-sound (suc n) k [] x h = absurd (Option·none-ne-some x h)
   get-bits-sound (suc n) k (false ∷ bs) x h =
       let (c, r, l, e, g) = get-bits-sound n k bs x h in
-      (c, r, omega arith, rw (lt-nleb (2 ^ n) c l) (ap (λ z. false ∷ z) e), g)
+      let f : bits-of (suc n) c ≡ false ∷ bits-of n c = bits-of-compare n c (omega arith) ∙ rw (lt-nleb (2 ^ n) c l) in
+      (c, r, omega arith, ap (λ z. false ∷ z) e ∙ sym (ap (λ z. z ++ r) f), g)
   get-bits-sound (suc n) k (true ∷ bs) x h =
       let (c, r, l, e, g) = get-bits-sound n (λ y. k (2 ^ n + y)) bs x h in
       let q : 2 ^ n + c - 2 ^ n ≡ c = omega arith in
-      (2 ^ n + c, r, omega arith, rw (le-leb (2 ^ n) (2 ^ n + c) (omega arith), q) (ap (λ z. true ∷ z) e), g)
+      let f : bits-of (suc n) (2 ^ n + c) ≡ true ∷ bits-of n c = bits-of-compare n (2 ^ n + c) (omega arith) ∙ rw (le-leb (2 ^ n) (2 ^ n + c) (omega arith), q) in
+      (2 ^ n + c, r, omega arith, ap (λ z. true ∷ z) e ∙ sym (ap (λ z. z ++ r) f), g)
 
   checked-sound : (low high c : ℕ) (k : (c : ℕ) × (in-range low high c ≡ true) → List Bool → Option X) (r : List Bool) (x : X) (b : Bool) (q : in-range low high c ≡ b)
       → checked low high c k r b q ≡ some x → (p : in-range low high c ≡ true) × (k (c, p) r ≡ some x)

@@ -6,6 +6,7 @@ use mathlib.Core.List.{_∷_, List, [], head-eq-of-cons-eq, map, tail-eq-of-cons
 use Prim.Native.Nat.{ℕ}
 use Rattle.syntax.specs.Letter.{is-letter, in-range}
 use Rattle.syntax.specs.Tree.{Label, Tree, nothing, letter, range, seq, alt, star}
+use Rattle.bits.specs.Bits.{bits-of}
 use Rattle.semantics.specs.Value.{Value, flat}
 use Rattle.semantics.specs.Code.{IsCode, Spells, Canonical}
 use Rattle.semantics.specs.Visits.{Visit, visit}
@@ -134,7 +135,7 @@ rows-say [] h = tt
 rows-say (r ∷ rows) h = (subst (Says (r .0) (r .1)) (head-eq-of-cons-eq h) (answer-right (r .0) (r .1)), rows-say rows (tail-eq-of-cons-eq h))
 
 rows-compute : map (λ r. answer (r .0) (r .1)) table ≡ map (λ r. r .2) table
-unfolding table answer readable greedy is-code spelled value-of in-range is-letter
+unfolding table answer readable greedy is-code spelled value-of bits-of in-range is-letter
 rows-compute = refl
 
 -- every row holds: a row's code is that of the greedy value of its tape, or no value spells it

@@ -5,6 +5,7 @@ use mathlib.Core.Bool.{Bool, false, true}
 use mathlib.Core.List.{_++_, List, []}
 use Prim.Native.Nat.{_*_, _+_, _≤_, ℕ}
 use lib.ListN.{length}
+use Rattle.syntax.specs.Letter.{letter-limit}
 use Rattle.syntax.specs.Tree.{Tree}
 use Rattle.semantics.specs.Code.{code, before, choices}
 use Rattle.semantics.specs.Automaton.{top, at, Accepts}
@@ -17,17 +18,13 @@ pub record GreedyCode (t : Tree) (tape : List ℕ) (bits : List Bool) : Type 0 w
   pub solid : hollow t bits ≡ false
   pub first : (cs : List Bool) → is-code t cs ≡ true → spelled t cs ≡ tape → hollow t cs ≡ false → (cs ≡ bits → ⊥) → before bits cs ≡ true
 
--- 01: "Tapes hold at most 3,600 letters"
-abbrev pub tape-limit : ℕ
-tape-limit = 3600
-
 -- 01: "There are 1 to 64 lines", so no more choices than that
 abbrev pub node-limit : ℕ
 node-limit = 64
 
 -- the third demand: of any code that spells a tape within the limit there is a settled (canonical) one
 unfoldable pub Settles : Type 0
-Settles = (t : Tree) (bs : List Bool) → choices t ≤ node-limit → is-code t bs ≡ true → length (spelled t bs) ≤ tape-limit → (gs : List Bool) × GreedyCode t (spelled t bs) gs
+Settles = (t : Tree) (bs : List Bool) → choices t ≤ node-limit → is-code t bs ≡ true → length (spelled t bs) ≤ letter-limit → (gs : List Bool) × GreedyCode t (spelled t bs) gs
 
 -- two settled codes are equal exactly if the codes handed in spell the same tape
 unfoldable pub Settled-equal : Type 0
@@ -53,6 +50,6 @@ Few-bits =
 -- the second demand: the letters are in the language of the root with flag 1 exactly if some reading spells them
 unfoldable pub Marks-right : Type 0
 Marks-right =
-    (t : Tree) (cs : List ℕ) → choices t ≤ node-limit → length cs ≤ tape-limit →
+    (t : Tree) (cs : List ℕ) → choices t ≤ node-limit → length cs ≤ letter-limit →
     (Accepts t (at t top) true cs → (bs : List Bool) × (is-code t bs ≡ true) × (spelled t bs ≡ cs))
     × ((bs : List Bool) → is-code t bs ≡ true → spelled t bs ≡ cs → Accepts t (at t top) true cs)

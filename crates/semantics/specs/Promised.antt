@@ -6,6 +6,7 @@ use mathlib.Core.List.{_++_, List}
 use Prim.Native.Nat.{_≤_, ℕ}
 use native.Mathlib.Omega.{arith}
 use lib.ListN.{length}
+use Rattle.syntax.specs.Letter.{letter-limit}
 use Rattle.syntax.specs.Tree.{Tree}
 use Rattle.semantics.specs.Value.{Value, flat, nonproblematic}
 use Rattle.semantics.specs.Order.{less, Greedy}
@@ -13,7 +14,7 @@ use Rattle.semantics.specs.Code.{code, IsCode, NoEmptyRound, before, Can
 use Rattle.semantics.specs.Automaton.{at}
 use Rattle.semantics.specs.Decode.{spelled}
 use Rattle.semantics.specs.Sweeps.{readable, greedy}
-use Rattle.semantics.specs.Promise.{GreedyCode, tape-limit, node-limit, Settles, Settled-equal, Settled-again, Codes-part, Few-bits, Marks-right}
+use Rattle.semantics.specs.Promise.{GreedyCode, node-limit, Settles, Settled-equal, Settled-again, Codes-part, Few-bits, Marks-right}
 use Rattle.semantics.specs.BeforeLaws.{before-irrefl, before-asym}
 use Rattle.semantics.specs.OrderLaws.{Compared, same, above, beneath, less-iff-before}
 use Rattle.semantics.specs.CodeLaws.{is-code-iff, spelled-code, hollow-code, spelled-is, solid-iff, code-compare, codes-compare, codes-part}
@@ -22,7 +23,7 @@ use Rattle.semantics.specs.AutomatonLaws.{accepts-iff-readable}
 use Rattle.semantics.specs.BoundLaws.{few-bits-none, few-bits-some, code-fits}
 
 -- ── the greedy code is the code of the greedy value ──
-module _ (t : Tree) (w : List ℕ) (few : choices t ≤ node-limit) (short : length w ≤ tape-limit) where
+module _ (t : Tree) (w : List ℕ) (few : choices t ≤ node-limit) (short : length w ≤ letter-limit) where
   -- a value of the tape without empty iterations has a code within the limit
   tape-code : (v : Value t) → flat t v ≡ w → nonproblematic t v ≡ true → IsCode t (code t v)
   tape-code v e ok = record { value = v; written = refl; within = code-fits t v few ok (omega (arith, ap length e)) }

@@ -7,7 +7,7 @@ use lib.Dec.{eqb}
 use lib.ListN.{length}
 use Rattle.syntax.specs.Letter.{in-range}
 use Rattle.syntax.specs.Tree.{Tree, nothing, letter, range, seq, alt, star}
-use Rattle.semantics.specs.Code.{bits-of}
+use Rattle.bits.specs.Bits.{bits-of}
 
 -- what may follow: by the flag ("Flag 1 means that the present round has taken a letter") and the letters left
 abbrev pub After : Type 0

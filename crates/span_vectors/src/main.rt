@@ -112,7 +112,7 @@ fn run_case(line: &[u8]) {
         say_bad();
         return;
     }
-    let loaded = syntax::load(&text[..size]);
+    let loaded = loading::load(&text[..size]);
     let p = loaded.pattern;
     run_tape(p, &line[start..]);
 }

@@ -13,7 +13,7 @@ use Rattle.syntax.specs.declared.Leaf.{Leaf}
 use Rattle.syntax.specs.declared.Leaf.the-variants.{Nothing, Letter, Range}
 use Rattle.syntax.specs.declared.Node.{Node}
 use Rattle.syntax.specs.declared.Node.the-variants.{Leaf as Leaf-node, Sequence, Alternative, Star}
-use Rattle.syntax.specs.Letter.{in-range}
+use Rattle.syntax.specs.Letter.{in-range, letter-limit}
 use Rattle.syntax.specs.Tree.{Label, Tree, nothing, letter, range, seq, alt, star}
 use Rattle.syntax.specs.Trees.{made, tree-of}
 use Rattle.bits.specs.Bits.{bit-at, number-at, held}
@@ -77,7 +77,7 @@ pub record Seeking (o : Seen Trace) (position : ℕ) : Type 0 where
   pub trace : Trace
   pub stop : ℕ
   pub is : o ≡ some (trace, stop)
-  pub room : trace position .1 ≤ 3600
+  pub room : trace position .1 ≤ letter-limit
 
 pub record Finds (o : Seen Trace) (position node k : ℕ) (r : Found) : Type 0 where
   pub trace : Trace
@@ -385,7 +385,7 @@ missed-none o i j node k e =
     let z : i + 0 ≡ i = omega arith in
     record { trace = w .trace; stop = w .stop; is = w .is; result = ap (λ n. miss j n k) (sym z) ∙ w .result }
 
-pub letters-room : (n j i : ℕ) → Seeking (some (letters-trace n, j)) i → i + n ≤ 3600
+pub letters-room : (n j i : ℕ) → Seeking (some (letters-trace n, j)) i → i + n ≤ letter-limit
 letters-room n j i r = let (f, g) = same-trace (r .is) in omega (arith, r .room, ap (λ z. z i .1) f)
 
 pub here-is : (l node k : ℕ) → (eqb l node && eqb k 0) ≡ true → (l ≡ node) × (k ≡ 0)

@@ -1,50 +1,44 @@
 -- Spans of a whole code: one law for each way of the service.
 use mathlib.Core.Path.{_≡_, refl, sym, ap, ap₂, subst, _∙_}
 use mathlib.Core.Bool.{Bool, true, false, cond, _&&_, false≢true}
-use mathlib.Core.Option.{Option, none, some, Option·none-ne-some}
+use mathlib.Core.Option.{Option, none, some}
 use mathlib.Core.List.{List, [], _∷_, _++_}
-use Prim.Native.Nat.{ℕ, zero, suc, _+_, _-_, _≤_, _<_}
+use Prim.Native.Nat.{ℕ, suc, _+_, _-_, _≤_, _<_}
 use native.Mathlib.Omega.{arith}
 use lib.Dec.{leb, eqb}
-use borrow.Author.Tests.{le-leb, lt-leb, leb-false, eq-eqb, ne-eqb, eqb-true, eqb-false}
+use borrow.Author.Tests.{lt-ltb, le-ltb, le-leb, lt-leb, leb-false, eq-eqb, ne-eqb, eqb-true, eqb-false}
 use lib.ListN.{length, drop, getD, drop-of-length-le}
 use lib.Seq.{drop-cons}
 use Rattle.syntax.specs.declared.Pattern.{Pattern}
 use Rattle.syntax.specs.declared.Refusal.{Refusal}
 use Rattle.syntax.specs.declared.Refusal.the-variants.{LineForm, Tree as Tree-fault, TapeTooLong, TapeByte, Unreadable, WordsTooShort, CodeTooShort, NotACode, TapeTooShort, NoSuchVisit}
-use Rattle.syntax.specs.Letter.{is-letter}
+use Rattle.syntax.specs.Bools.{and-fst, and-snd}
+use Rattle.syntax.specs.Letter.{first-bad, letter-limit}
 use Rattle.syntax.specs.Tree.{Tree}
 use Rattle.syntax.specs.Trees.{root}
 use Rattle.syntax.specs.Table.{obeys}
-use Rattle.syntax.specs.Refusals.{Answer, answer, refused, number}
+use Rattle.syntax.specs.Refusals.{answer, refused, number}
 use Rattle.bits.specs.Bits.{held, in-front}
-use Rattle.semantics.specs.Value.{Value, flat}
-use Rattle.semantics.specs.Visits.{Visit, visits, visits-at, nth, visit}
-use Rattle.semantics.specs.Decode.{value-of}
+use Rattle.semantics.specs.Value.{flat}
+use Rattle.semantics.specs.Visits.{Visit, visits, visits-at, visit}
 use Rattle.columns.specs.declared.Columns.{Columns}
 use Rattle.columns.specs.Columns.{tree-in, Holds}
 use Rattle.columns.specs.ColumnLaws.{holds-tree}
-use Rattle.spans.specs.declared.SpanOutcome.the-variants.{Shown, Refused}
-use Rattle.spans.specs.declared.Spanned.{Spanned}
+use Rattle.spans.specs.declared.SpanOutcome.the-variants.{Shown}
 use Rattle.spans.specs.declared.find.Found.{Found}
 use Rattle.codes.specs.declared.Flattened.the-variants.{Letters, Refused as Flatten-refused}
 use Rattle.codes.specs.declared.walk.Measured.{Measured}
-use Rattle.codes.specs.Flatten.{letter-limit, whole-code, letters-of, too-long, no-code, flatten-answer, flatten-tape, Flattens}
-use Rattle.spans.specs.Spans.{first-bad, same, code-of-tape, visit-by, span-visit, visit-answer, byte-answer, span-answer, start-of, size-of, span-shown, span-outcome, refused-span, Spans}
-use Rattle.codes.specs.Handed.{held-length}
-use Rattle.codes.specs.Measures.{handed-fit, value-see, whole-handed, whole-value, spells, measured, measured-yes, measured-letters}
-use Rattle.spans.specs.Traces.{trace, trace-visits, trace-at, hit, miss, found-by, found-in}
+use Rattle.codes.specs.Flatten.{whole-code, letters-of, too-long, no-code, flatten-answer, flatten-tape, Flattens}
+use Rattle.spans.specs.Spans.{same, code-of-tape, visit-by, span-visit, visit-answer, span-answer, start-of, size-of, span-shown, refused-span, Spans}
+use Rattle.codes.specs.Measures.{value-see, whole-handed, whole-value, spells, measured, measured-yes, measured-letters}
+use Rattle.spans.specs.Traces.{trace, trace-visits, trace-at, hit, found-by, found-in}
 use Rattle.spans.specs.Seeks.{Seeking, Finds, same-trace}
-
-and-both : (a b : Bool) → (a && b) ≡ true → (a ≡ true) × (b ≡ true)
-and-both true b e = (refl, e)
-and-both false b e = absurd (false≢true e)
 
 same-length : (xs ys : List ℕ) → same xs ys ≡ true → length xs ≡ length ys
 same-length [] [] e = refl
 same-length [] (y ∷ ys) e = absurd (false≢true e)
 same-length (x ∷ xs) [] e = absurd (false≢true e)
-same-length (x ∷ xs) (y ∷ ys) e = ap suc (same-length xs ys (and-both (eqb x y) (same xs ys) e .1))
+same-length (x ∷ xs) (y ∷ ys) e = ap suc (same-length xs ys (and-snd (eqb x y) (same xs ys) e))
 
 module _ (p : Pattern) (tape code : List ℕ) (count l k : ℕ) where
   refusal : (r : Refusal) → span-answer p tape code count l k ≡ refused r → eqb (refused r .number) 0 ≡ false → Spans p tape code count l k (refused-span r)
@@ -63,27 +57,27 @@ module _ (p : Pattern) (tape code : List ℕ) (count l k : ℕ) where
     span-long h = refusal TapeTooLong (rw (o, lt-leb (length tape) letter-limit h)) refl
 
     module _ (h : length tape ≤ letter-limit) where
-      pub span-byte : (i : ℕ) → first-bad 0 tape ≡ some i → Spans p tape code count l k (refused-span (TapeByte i))
+      pub span-byte : (bad : ℕ) → bad ≡ first-bad tape → bad < length tape → Spans p tape code count l k (refused-span (TapeByte bad))
       unfolding span-answer
-      span-byte i e = refusal (TapeByte i) (rw (o, le-leb (length tape) letter-limit h, e)) refl
+      span-byte bad e b = refusal (TapeByte bad) (rw (o, le-leb (length tape) letter-limit h, ← e, lt-ltb bad (length tape) b)) refl
 
-      module _ (b : first-bad 0 tape ≡ none) where
+      module _ (bad : ℕ) (e : bad ≡ first-bad tape) (b : length tape ≤ bad) where
         pub span-not : code-of-tape (root p) tape code count ≡ false → Spans p tape code count l k (refused-span NotACode)
         unfolding span-answer
-        span-not c = refusal NotACode (rw (o, le-leb (length tape) letter-limit h, b, c)) refl
+        span-not c = refusal NotACode (rw (o, le-leb (length tape) letter-limit h, ← e, le-ltb bad (length tape) b, c)) refl
 
         module _ (w : code-of-tape (root p) tape code count ≡ true) where
           pub span-whole : whole-code (root p) code count ≡ true
           unfolding code-of-tape
-          span-whole = and-both (whole-code (root p) code count) (same (letters-of (root p) code count) tape) w .0
+          span-whole = and-fst (whole-code (root p) code count) (same (letters-of (root p) code count) tape) w
 
-          span-few : length (letters-of (root p) code count) ≤ 3600
+          span-few : length (letters-of (root p) code count) ≤ letter-limit
           unfolding code-of-tape
-          span-few = let e = same-length (letters-of (root p) code count) tape (and-both (whole-code (root p) code count) (same (letters-of (root p) code count) tape) w .1) in omega arith
+          span-few = let e = same-length (letters-of (root p) code count) tape (and-snd (whole-code (root p) code count) (same (letters-of (root p) code count) tape) w) in omega arith
 
           given : span-answer p tape code count l k ≡ visit-answer (span-visit p code count l k)
           unfolding span-answer
-          given = rw (o, le-leb (length tape) letter-limit h, b, w)
+          given = rw (o, le-leb (length tape) letter-limit h, ← e, le-ltb bad (length tape) b, w)
 
           module _ (r : Found) (fi : Finds (trace-at code count (root p) 0) 0 l k r) where
             -- what was found is the visit of layer 1
@@ -122,7 +116,7 @@ module _ (p : Pattern) (tape code : List ℕ) (count l k : ℕ) where
                     record { answers = sym (given ∙ ap visit-answer e); starts = ap (λ z. z .start) g ∙ sym (ap start-of s); lengths = ap (λ z. z .size) g ∙ sym (ap size-of s) }
 
 -- ── the walk that looks for the visit may start ──
-pub seek-ready : (t : Tree) (code : List ℕ) (count : ℕ) (m : Measured) → m ≡ measured t code count → m .whole ≡ true → m .letters ≤ 3600 → Seeking (trace-at code count t 0) 0
+pub seek-ready : (t : Tree) (code : List ℕ) (count : ℕ) (m : Measured) → m ≡ measured t code count → m .whole ≡ true → m .letters ≤ letter-limit → Seeking (trace-at code count t 0) 0
 unfolding trace-at
 seek-ready t code count m em f h =
     let w = measured-yes t code count m em f in
@@ -143,13 +137,13 @@ module _ (p : Pattern) (tape code : List ℕ) (count : ℕ) where
 
   pub tape-whole : code-of-tape (root p) tape code count ≡ true → whole-code (root p) code count ≡ true
   unfolding code-of-tape
-  tape-whole w = and-both (whole-code (root p) code count) (same (letters-of (root p) code count) tape) w .0
+  tape-whole w = and-fst (whole-code (root p) code count) (same (letters-of (root p) code count) tape) w
 
   pub tape-letters : code-of-tape (root p) tape code count ≡ true → length (letters-of (root p) code count) ≡ length tape
   unfolding code-of-tape
-  tape-letters w = same-length (letters-of (root p) code count) tape (and-both (whole-code (root p) code count) (same (letters-of (root p) code count) tape) w .1)
+  tape-letters w = same-length (letters-of (root p) code count) tape (and-snd (whole-code (root p) code count) (same (letters-of (root p) code count) tape) w)
 
-  pub span-letters : code-of-tape (root p) tape code count ≡ true → length tape ≤ letter-limit → (m : Measured) → m ≡ measured (root p) code count → m .whole ≡ true → m .letters ≤ 3600
+  pub span-letters : code-of-tape (root p) tape code count ≡ true → length tape ≤ letter-limit → (m : Measured) → m ≡ measured (root p) code count → m .whole ≡ true → m .letters ≤ letter-limit
   span-letters w h m em f =
       let n = measured-letters (root p) code count m em f in
       let e = tape-letters w in
@@ -159,31 +153,6 @@ module _ (p : Pattern) (tape code : List ℕ) (count : ℕ) where
 pub found-root : (p : Pattern) (c : Columns) → obeys p ≡ true → Holds p c → (code : List ℕ) (count node k : ℕ) (r : Found)
     → ((account : List ℕ) → Finds (trace-at code count (tree-in (c .kind) (c .first) (c .second) account (p .count - 1)) 0) 0 node k r) → Finds (trace-at code count (root p) 0) 0 node k r
 found-root p c o h code count node k r w = subst (λ t. Finds (trace-at code count t 0) 0 node k r) (holds-tree p c o h) (w (c .account))
-
--- ── the tape's bytes ──
-module _ (tape : List ℕ) where
-  pub record Bad-from (i : ℕ) : Type 0 where
-    pub low : i ≤ length tape
-    pub is : first-bad 0 tape ≡ first-bad i (drop i tape)
-
-  pub bad-start : Bad-from 0
-  bad-start = record { low = omega arith; is = refl }
-
-  module _ (i : ℕ) (b : Bad-from i) where
-    pub bad-none : length tape ≤ i → first-bad 0 tape ≡ none
-    bad-none h = b .is ∙ ap (first-bad i) (drop-of-length-le tape {i = i} h)
-
-    module _ (h : i < length tape) (q : Bool) (eq : q ≡ is-letter (getD tape i 0)) where
-      here : first-bad 0 tape ≡ cond q (first-bad (suc i) (drop (suc i) tape)) (some i)
-      here = b .is ∙ ap (first-bad i) (drop-cons tape i 0 h) ∙ ap (λ z. cond z (first-bad (suc i) (drop (suc i) tape)) (some i)) (sym eq)
-
-      pub bad-here : q ≡ false → first-bad 0 tape ≡ some i
-      bad-here f = here ∙ ap (λ z. cond z (first-bad (suc i) (drop (suc i) tape)) (some i)) f
-
-      pub bad-next : q ≡ true → Bad-from (i + 1)
-      bad-next f =
-          let z : suc i ≡ i + 1 = omega arith in
-          record { low = omega arith; is = here ∙ ap (λ y. cond y (first-bad (suc i) (drop (suc i) tape)) (some i)) f ∙ ap (λ y. first-bad y (drop y tape)) z }
 
 -- ── the letters of the code against the tape ──
 abbrev pub front-same : (tape own : List ℕ) → Bool

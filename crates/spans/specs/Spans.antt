@@ -3,13 +3,13 @@ use mathlib.Core.Path.{_≡_}
 use mathlib.Core.Bool.{Bool, true, false, _&&_, cond}
 use mathlib.Core.Option.{Option, none, some}
 use mathlib.Core.List.{List, [], _∷_}
-use Prim.Native.Nat.{ℕ, suc}
-use lib.Dec.{eqb, leb}
+use Prim.Native.Nat.{ℕ}
+use lib.Dec.{eqb, ltb, leb}
 use lib.ListN.{length, take, drop}
 use Rattle.syntax.specs.declared.Pattern.{Pattern}
 use Rattle.syntax.specs.declared.Refusal.{Refusal}
 use Rattle.syntax.specs.declared.Refusal.the-variants.{TapeByte, NoSuchVisit}
-use Rattle.syntax.specs.Letter.{is-letter}
+use Rattle.syntax.specs.Letter.{first-bad, letter-limit}
 use Rattle.syntax.specs.Tree.{Tree}
 use Rattle.syntax.specs.Trees.{root}
 use Rattle.syntax.specs.Table.{obeys}
@@ -21,12 +21,7 @@ use Rattle.semantics.specs.Decode.{value-of}
 use Rattle.spans.specs.declared.SpanOutcome.{SpanOutcome}
 use Rattle.spans.specs.declared.SpanOutcome.the-variants.{Shown, Refused}
 use Rattle.spans.specs.declared.Spanned.{Spanned}
-use Rattle.codes.specs.Flatten.{letter-limit, whole-code, letters-of, bad-table, no-code, too-long}
-
--- 01, cause 4: "tape byte outside 33 to 126", with the "first such position"
-abbrev pub first-bad : (from : ℕ) → (tape : List ℕ) → Option ℕ
-first-bad i [] = none
-first-bad i (c ∷ cs) = cond (is-letter c) (first-bad (suc i) cs) (some i)
+use Rattle.codes.specs.Flatten.{whole-code, letters-of, bad-table, no-code, too-long}
 
 abbrev pub same : (xs ys : List ℕ) → Bool
 same [] [] = true
@@ -50,16 +45,13 @@ abbrev pub visit-answer : Option Visit → Answer
 visit-answer none = refused NoSuchVisit
 visit-answer (some x) = answer 0 0
 
-abbrev pub byte-answer : Option ℕ → Answer → Answer
-byte-answer none a = a
-byte-answer (some i) a = refused (TapeByte i)
-
 -- 01: "Showing the piece [..]: 2, 3, 4, 8, 10."
 unfoldable pub span-answer : Pattern → (tape code : List ℕ) → (count node k : ℕ) → Answer
 span-answer p tape code count l k =
     cond (obeys p)
     (cond (leb (length tape) letter-limit)
-    (byte-answer (first-bad 0 tape) (cond (code-of-tape (root p) tape code count) (visit-answer (span-visit p code count l k)) no-code))
+    (cond (ltb (first-bad tape) (length tape)) (refused (TapeByte (first-bad tape)))
+    (cond (code-of-tape (root p) tape code count) (visit-answer (span-visit p code count l k)) no-code))
     too-long)
     bad-table
 

@@ -1,31 +1,16 @@
-// Whether a tape's bytes are letters, and whether a code is a code of the tape.
+// Whether a code is a code of the tape.
 ghost use mathlib.Core.Path.{_≡_};
 ghost use mathlib.Core.Bool.{true};
-ghost use mathlib.Core.Option.{none, some};
-ghost use Prim.Native.Nat.{_≤_, _<_};
+ghost use Prim.Native.Nat.{_≤_};
 ghost use lib.ListN.{length};
+ghost use Rattle.syntax.specs.Letter.{letter-limit};
 ghost use Rattle.syntax.specs.Table.{obeys};
 ghost use Rattle.syntax.specs.Trees.{root};
-ghost use Rattle.spans.specs.Spans.{first-bad, code-of-tape};
+ghost use Rattle.spans.specs.Spans.{code-of-tape};
 ghost use Rattle.spans.specs.SpanLaws.{front-same};
 use codes::Flattened;
 use codes::flatten;
 use syntax::Pattern;
-use syntax::is_letter;
-
-// The first byte of a tape that is no letter; its length where there is none.
-pub fn first_bad(tape: &[u8]) -> usize
-    ensures { λ r. ⌜ (r < length (now (tape .entry)) → first-bad 0 (now (tape .entry)) ≡ some r) × (length (now (tape .entry)) ≤ r → first-bad 0 (now (tape .entry)) ≡ none) ⌝ }
-{
-    let mut i = 0;
-    while i < tape.len() {
-        if !is_letter(tape[i]) {
-            return i;
-        }
-        i += 1;
-    }
-    i
-}
 
 // Whether a buffer begins with a tape.
 fn begins(own: &[u8], tape: &[u8]) -> bool
@@ -44,10 +29,10 @@ fn begins(own: &[u8], tape: &[u8]) -> bool
 
 // Whether a code is a code of a tape: it is spelled and compared.
 pub fn spells(p: Pattern, code: &[u8], count: u32, tape: &[u8]) -> bool
-    requires { ⌜ (obeys p ≡ true) × (length (now tape) ≤ 3600) ⌝ }
+    requires { ⌜ (obeys p ≡ true) × (length (now tape) ≤ letter-limit) ⌝ }
     ensures { λ r. ⌜ r ≡ code-of-tape (root p) (now (tape .entry)) (now (code .entry)) count ⌝ }
 {
-    let mut own: [u8; 3600] = [0; 3600];
+    let mut own = [0u8; Pattern::MAX_LETTERS];
     let answer = flatten(p, code, count, &mut own);
     match answer {
         Flattened::Refused(_) => false,

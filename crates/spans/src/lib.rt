@@ -7,11 +7,11 @@ mod find; // find.rt: the walk that looks for a visit
 
 use codes::walk::measure;
 use columns::columns_of;
-use compare::first_bad;
 use compare::spells;
 use find::find;
 use syntax::Pattern;
 use syntax::Refusal;
+use syntax::first_bad;
 use syntax::obeys_rules;
 
 // What showing a piece answers: that it is shown, or why not.

@@ -1,7 +1,6 @@
 -- The second sweep at a node, told in letters and bits: what the best value of the node spells and writes, and how that falls into parts.
-use mathlib.Core.Path.{_≡_, refl, sym, ap, ap₂, _∙_}
+use mathlib.Core.Path.{_≡_, refl, sym, ap, _∙_}
 use mathlib.Core.Bool.{Bool, true, false, _||_}
-use mathlib.Core.Logic.{inl, inr}
 use mathlib.Core.List.{List, [], _∷_, _++_}
 use Prim.Native.Nat.{ℕ, _≤_, _<_}
 use native.Mathlib.Omega.{arith}
@@ -11,10 +10,11 @@ use Rattle.syntax.specs.Tree.{Label, Tree, nothing, letter, range, seq, alt, st
 use Rattle.syntax.specs.Letter.{is-letter, in-range}
 use Rattle.semantics.specs.Value.{nonempty, flat}
 use Rattle.semantics.specs.Basics.{and-fst, letter-small}
-use Rattle.semantics.specs.Code.{bits-of, code}
+use Rattle.bits.specs.Bits.{bits-of}
+use Rattle.semantics.specs.Code.{code}
 use Rattle.semantics.specs.Sweeps.{After, after-round, can, another}
-use Rattle.semantics.specs.SecondSweepLaws.{Best, BestOf}
-use Rattle.semantics.specs.PartLaws.{SeqParts, seq-parts, left-part, right-part, RoundParts, round-parts, stop-part}
+use Rattle.semantics.specs.SecondSweepLaws.{BestOf}
+use Rattle.semantics.specs.PartLaws.{seq-parts, left-part, right-part, round-parts, stop-part}
 
 -- the best value of a tree from letters w on, where k says what may follow: the letters that it spells and the bits that it writes
 pub record Sweeps (t : Tree) (k : After) (b : Bool) (w letters : List ℕ) (bits : List Bool) : Type 0 where

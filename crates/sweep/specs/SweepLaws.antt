@@ -1,28 +1,26 @@
 -- Laws of the second sweep: one for each way of the code.
-use mathlib.Core.Path.{_≡_, refl, sym, ap, ap₂, subst, _∙_}
-use mathlib.Core.Bool.{Bool, true, false, _||_, cond, true≢false}
+use mathlib.Core.Path.{_≡_, refl, sym, ap, subst, _∙_}
+use mathlib.Core.Bool.{Bool, true, false, _||_, true≢false}
 use mathlib.Core.List.{List, [], _∷_, _++_}
-use Prim.Native.Nat.{ℕ, zero, suc, _+_, _*_, _-_, _^_, _≤_, _<_}
-use native.Mathlib.Nat.{add-zero, pow-suc}
+use Prim.Native.Nat.{ℕ, _+_, _*_, _-_, _≤_, _<_}
+use native.Mathlib.Nat.{add-zero}
 use native.Mathlib.Omega.{arith}
 use native.Mathlib.Decide.{decLe}
-use borrow.Author.Tests.{le-leb, lt-leb, leb-true, leb-false}
-use lib.Dec.{leb}
+use borrow.Author.Tests.{le-leb, lt-leb}
 use lib.ListN.{length, getD, drop, length-append, length-drop}
 use lib.Seq.{drop-drop, getD-drop}
 use Rattle.syntax.specs.declared.Leaf.{Leaf}
 use Rattle.syntax.specs.declared.Leaf.the-variants.{Nothing, Letter, Range}
-use Rattle.syntax.specs.Tree.{Label, Tree, nothing, letter, range, seq, alt, star}
+use Rattle.syntax.specs.Tree.{Label, Tree, letter, range, seq, alt, star}
 use Rattle.bits.specs.Bits.{bit, test-bit, write, bits-of}
-use Rattle.bits.specs.Numbers.{length-bits-of, bits-of-compare}
+use Rattle.bits.specs.Numbers.{length-bits-of}
 use Rattle.bits.specs.Writing.{write-write, length-write}
-use Rattle.semantics.specs.Code as coded
 use Rattle.semantics.specs.Value.{nonempty}
-use Rattle.semantics.specs.Sweeps.{After, after-round, can}
+use Rattle.semantics.specs.Sweeps.{after-round, can}
 use Rattle.states.specs.Nodes.{index}
 use Rattle.sweep.specs.declared.Swept.{Swept}
-use Rattle.sweep.specs.Parts.{Sweeps, whole, short, behind, Both, seq-sweeps, Side, left-sweeps, right-sweeps, Round, round-sweeps, stop-sweeps, nothing-sweeps, letter-sweeps, range-sweeps}
-use Rattle.sweep.specs.Sweeping.{put, Own, Knows, Wrote, Can-sweep, leaf-tree, Leaf-ready, Leaf-swept}
+use Rattle.sweep.specs.Parts.{whole, short, seq-sweeps, left-sweeps, right-sweeps, round-sweeps, stop-sweeps, nothing-sweeps, letter-sweeps, range-sweeps}
+use Rattle.sweep.specs.Sweeping.{put, Wrote, Can-sweep, Leaf-ready, Leaf-swept}
 
 -- ── writing ──
 module _ (xs : List ℕ) (at : ℕ) (cs : List Bool) where
@@ -201,16 +199,6 @@ module _ (words tape : List ℕ) (i : ℕ) (taken : Bool) (at : ℕ) where
       go c = stop-sweeps m u (c .after) taken (drop i tape) (c .letters) (c .bits) (c .sweeps) (sym (c .knows .0 i (c .within) false) ∙ o)
 
 -- ── leaves ──
--- the bits of a letter as the codes' definition has them, by comparing and subtracting
-same-bits : (n x : ℕ) → x < 2 ^ n → bits-of n x ≡ coded.bits-of n x
-unfolding bits-of
-same-bits zero x h = refl
-same-bits (suc n) x h = bits-of-compare n x h ∙ ap (λ l. leb (2 ^ n) x ∷ l) (same-bits n (cond (leb (2 ^ n) x) (x - 2 ^ n) x) (below (leb (2 ^ n) x) refl))
-  where
-    below : (b : Bool) → leb (2 ^ n) x ≡ b → cond b (x - 2 ^ n) x < 2 ^ n
-    below true e = omega (arith, leb-true (2 ^ n) x e, pow-suc 2 n)
-    below false e = omega (arith, leb-false (2 ^ n) x e)
-
 module _ (tape : List ℕ) (i at : ℕ) (xs : List ℕ) where
   pub leaf-nothing : Leaf-swept Nothing tape i at xs xs (record { position = i; at = at })
   leaf-nothing m ws b c = let (e, f) = nothing-sweeps (c .sweeps) in wrote-same [] (c .letters) [] (c .bits) e f (wrote-none i at xs)
@@ -232,7 +220,7 @@ module _ (tape : List ℕ) (i at : ℕ) (xs : List ℕ) where
       let n = simp length-drop at (ap length h) in
       record {
         letters-are = e ∙ ap (λ y. y ∷ []) g;
-        bits-are = f ∙ sym (same-bits 8 x small) ∙ ap (bits-of 8) g;
+        bits-are = f ∙ ap (bits-of 8) g;
         inside = omega arith;
       }
 

@@ -10,5 +10,5 @@ pub and-snd : (a b : Bool) → (a && b) ≡ true → b ≡ true
 and-snd true b e = e
 and-snd false b e = absurd (false≢true e)
 
-pub and-both : (a b : Bool) → a ≡ true → b ≡ true → (a && b) ≡ true
-and-both a b p q = rw (p, q)
+pub and-intro : {a b : Bool} → a ≡ true → b ≡ true → (a && b) ≡ true
+and-intro p q = rw (p, q)

@@ -17,7 +17,7 @@ use Rattle.syntax.specs.declared.Node.{Node}
 use Rattle.syntax.specs.declared.Node.the-variants.{Leaf as Leaf-node, Sequence, Alternative, Star}
 use Rattle.syntax.specs.declared.Line.{Line}
 use Rattle.syntax.specs.declared.Pattern.{Pattern}
-use Rattle.syntax.specs.Bools.{and-fst, and-snd, and-both}
+use Rattle.syntax.specs.Bools.{and-fst, and-snd, and-intro}
 use Rattle.syntax.specs.Tree.{Label, Tree, nothing, letter, range, seq, alt, star}
 use Rattle.syntax.specs.Table.{line-at, node-at, line-good, badly-formed, parts, named-below, member, rightly-named, wrongly-names, unnamed, lowest, or-else, tree-fault, is-none, obeys}
 use Rattle.syntax.specs.Trees.{made, unplanted, plant, trees, tree-of, root}
@@ -119,7 +119,7 @@ rightly-complete : (qs seen : List ℕ) (i : ℕ) → All-under i qs → ((l : �
 rightly-complete [] seen i u m = refl
 rightly-complete (q ∷ qs) seen i u m =
     let z : times q seen ≡ 0 = omega (arith, m q, ap bit (eq-eqb q q refl)) in
-    and-both _ _ (and-both _ _ (lt-ltb q i (u .0)) (ap not (times-member q seen z))) (rightly-complete qs (q ∷ seen) i (u .1) (λ l. omega (arith, m l)))
+    and-intro (and-intro (lt-ltb q i (u .0)) (ap not (times-member q seen z))) (rightly-complete qs (q ∷ seen) i (u .1) (λ l. omega (arith, m l)))
 
 -- ── the tree rules and the tree fault ──
 module _ (p : Pattern) where
@@ -226,8 +226,8 @@ module _ (p : Pattern) where
 
       back : Rules p → ((leb 1 (p .count) && leb (p .count) 64) && (is-none (lowest (badly-formed p) 0 (p .count)) && is-none (tree-fault p))) ≡ true
       back r =
-          and-both _ _ (and-both _ _ (le-leb 1 (p .count) (r .one)) (le-leb (p .count) 64 (r .few)))
-          (and-both _ _
+          and-intro (and-intro (le-leb 1 (p .count) (r .one)) (le-leb (p .count) 64 (r .few)))
+          (and-intro
           (ap is-none (none-lowest (badly-formed p) (p .count) 0 (λ i a b. ap not (r .formed i (omega arith)))))
           (ap is-none (fault-free (r .one) (record { lower = r .lower; once = r .once }))))
 

@@ -1,18 +1,13 @@
-// Patterns: the table of nodes, loading one from its text, and the test of the pattern rules.
+// Patterns: the table of nodes, the test of the pattern rules, and letters.
 ghost use mathlib.Core.Path.{_≡_};
-ghost use Rattle.syntax.specs.Letter.{is-letter};
+ghost use Rattle.syntax.specs.Letter.{is-letter, first-bad};
 ghost use Rattle.syntax.specs.Table.{no-lines, obeys};
-ghost use Rattle.syntax.specs.Load.{refused-load, Loads};
 
-mod field; // field.rt: one field of a text and its value
-mod naming; // naming.rt: which nodes are named as parts
-mod reading; // reading.rt: the lines of a text
-mod scan; // scan.rt: one line of a text
+pub mod naming; // naming.rt: which nodes are named as parts
 mod table; // table.rt: the form of a table's lines
 
 use naming::TreeFault;
 use naming::tree_fault_of;
-use reading::read_lines;
 use table::good_lines;
 
 // A leaf of the pattern.
@@ -80,17 +75,6 @@ pub enum Refusal {
     NoSuchVisit,
 }
 
-// What loading answers: the line count, or why the text is refused.
-pub enum Outcome {
-    Lines(u32),
-    Refused(Refusal),
-}
-
-pub struct Loaded {
-    pub pattern: Pattern,
-    pub outcome: Outcome,
-}
-
 // Whether a byte is a letter.
 pub fn is_letter(c: u8) -> bool
     ensures { λ r. ⌜ r ≡ is-letter c ⌝ }
@@ -99,6 +83,22 @@ pub fn is_letter(c: u8) -> bool
         return false;
     }
     c <= Pattern::LAST_LETTER
+}
+
+// The position of the first byte that is no letter, the tape's length where there is none.
+pub fn first_bad(tape: &[u8]) -> usize
+    ensures { λ r. ⌜ r ≡ first-bad (now (tape .entry)) ⌝ }
+{
+    let mut i = 0;
+    loop {
+        if tape.len() <= i {
+            break i;
+        }
+        if !is_letter(tape[i]) {
+            break i;
+        }
+        i += 1;
+    }
 }
 
 // Whether a table obeys the pattern rules. Nothing at or past its count is looked at.
@@ -118,39 +118,5 @@ pub fn obeys_rules(p: Pattern) -> bool
     match tree_fault_of(p) {
         TreeFault::Line(_) => false,
         TreeFault::Nothing => true,
-    }
-}
-
-// A refused load gives a table of no lines.
-fn refuse(why: Refusal) -> Loaded
-    ensures { λ r. ⌜ r ≡ refused-load why ⌝ }
-{
-    let pattern = Pattern::new();
-    Loaded {
-        pattern,
-        outcome: Outcome::Refused(why),
-    }
-}
-
-// Loads a pattern text: the table it writes and the line count, or the first line at fault.
-pub fn load(text: &[u8]) -> Loaded
-    ensures { λ r. ⌜ Loads (now (text .entry)) r ⌝ }
-{
-    let read = read_lines(text);
-    let fault = read.fault;
-    if fault <= Pattern::MAX_LINES {
-        return refuse(Refusal::LineForm(fault as u32));
-    }
-    let pattern = read.pattern;
-    let count = pattern.count;
-    if count == 0 {
-        return refuse(Refusal::LineForm(0));
-    }
-    match tree_fault_of(pattern) {
-        TreeFault::Line(line) => refuse(Refusal::Tree(line as u32)),
-        TreeFault::Nothing => Loaded {
-            pattern,
-            outcome: Outcome::Lines(count as u32),
-        },
     }
 }

@@ -1,6 +1,6 @@
 -- `capi::of_outcome` meets its contract.
 use mathlib.Core.Path.{sym, ap, _∙_}
-use Rattle.syntax.specs.Load.{outcome-answer}
+use Rattle.loading.specs.Load.{outcome-answer}
 use borrow.Author.Needs.{needs}
 use Rattle.capi.proofs.of_outcome.Statement.{statement}
 use Rattle.capi.proofs.of_outcome.Tie as tie

@@ -42,7 +42,7 @@ no-span-requires-3 c κs = search needs
 returns-3 : tie.Need-returns-3
 returns-3 c =
     let o = sym (c .before .before .before .before .before .obeys-rules .ensures) ∙ not-false _ (c .before .before .before .before .if1 .left) in
-    rw (c .no-span3 .ensures) (span-byte _ _ _ _ _ _ o (c .before .before .before .if2 .left) _ (c .before .before .first-bad .ensures .0 (c .before .if3 .taken)))
+    rw (c .no-span3 .ensures) (span-byte _ _ _ _ _ _ o (c .before .before .before .if2 .left) _ (c .before .before .first-bad .ensures) (c .before .if3 .taken))
 
 spells-requires : tie.Need-spells-requires
 spells-requires c κs = (sym (c .before .before .before .before .obeys-rules .ensures) ∙ not-false _ (c .before .before .before .if1 .left), c .before .before .if2 .left)
@@ -53,7 +53,7 @@ no-span-requires-4 c κs = search needs
 returns-4 : tie.Need-returns-4
 returns-4 c =
     let o = sym (c .before .before .before .before .before .before .before .obeys-rules .ensures) ∙ not-false _ (c .before .before .before .before .before .before .if1 .left) in
-    rw (c .no-span4 .ensures) (span-not _ _ _ _ _ _ o (c .before .before .before .before .before .if2 .left) (c .before .before .before .before .first-bad .ensures .1 (c .before .before .before .if3 .left)) (sym (c .before .before .spells .ensures) ∙ not-true _ (c .before .if4 .taken)))
+    rw (c .no-span4 .ensures) (span-not _ _ _ _ _ _ o (c .before .before .before .before .before .if2 .left) _ (c .before .before .before .before .first-bad .ensures) (c .before .before .before .if3 .left) (sym (c .before .before .spells .ensures) ∙ not-true _ (c .before .if4 .taken)))
 
 columns-of-requires : tie.Need-columns-of-requires
 columns-of-requires c κs = obeys-iff _ .0 (sym (c .before .before .before .before .before .before .obeys-rules .ensures) ∙ not-false _ (c .before .before .before .before .before .if1 .left)) .few
@@ -76,7 +76,7 @@ no-span-requires-5 c κs = search needs
 returns-5 : tie.Need-returns-5
 returns-5 c =
     let o = sym (c .before .before .before .before .before .before .before .before .before .before .before .before .before .before .before .before .before .before .obeys-rules .ensures) ∙ not-false _ (c .before .before .before .before .before .before .before .before .before .before .before .before .before .before .before .before .before .if1 .left) in
-    absurd (true≢false (sym (span-whole _ _ _ _ 0 0 o (c .before .before .before .before .before .before .before .before .before .before .before .before .before .before .before .before .if2 .left) (c .before .before .before .before .before .before .before .before .before .before .before .before .before .before .before .first-bad .ensures .1 (c .before .before .before .before .before .before .before .before .before .before .before .before .before .before .if3 .left)) (sym (c .before .before .before .before .before .before .before .before .before .before .before .before .before .spells .ensures) ∙ not-false _ (c .before .before .before .before .before .before .before .before .before .before .before .before .if4 .left))) ∙ measured-no _ _ _ _ (measured-root _ _ o (c .before .before .before .before .before .before .before .before .before .before .before .columns-of .ensures) _ _ _ (c .before .before .before .measure .ensures)) (not-true _ (c .before .if5 .taken))))
+    absurd (true≢false (sym (span-whole _ _ _ _ 0 0 o (c .before .before .before .before .before .before .before .before .before .before .before .before .before .before .before .before .if2 .left) _ (c .before .before .before .before .before .before .before .before .before .before .before .before .before .before .before .first-bad .ensures) (c .before .before .before .before .before .before .before .before .before .before .before .before .before .before .if3 .left) (sym (c .before .before .before .before .before .before .before .before .before .before .before .before .before .spells .ensures) ∙ not-false _ (c .before .before .before .before .before .before .before .before .before .before .before .before .if4 .left))) ∙ measured-no _ _ _ _ (measured-root _ _ o (c .before .before .before .before .before .before .before .before .before .before .before .columns-of .ensures) _ _ _ (c .before .before .before .measure .ensures)) (not-true _ (c .before .if5 .taken))))
 
 find-requires : tie.Need-find-requires
 find-requires c κs =
@@ -94,12 +94,12 @@ no-span-requires-6 c κs = search needs
 returns-6 : tie.Need-returns-6
 returns-6 c =
     let o = sym (c .before .before .before .before .before .before .before .before .before .before .before .before .before .before .before .before .before .before .before .before .before .before .before .before .obeys-rules .ensures) ∙ not-false _ (c .before .before .before .before .before .before .before .before .before .before .before .before .before .before .before .before .before .before .before .before .before .before .before .if1 .left) in
-    rw (c .no-span6 .ensures) (span-none _ _ _ _ _ _ o (c .before .before .before .before .before .before .before .before .before .before .before .before .before .before .before .before .before .before .before .before .before .before .if2 .left) (c .before .before .before .before .before .before .before .before .before .before .before .before .before .before .before .before .before .before .before .before .before .first-bad .ensures .1 (c .before .before .before .before .before .before .before .before .before .before .before .before .before .before .before .before .before .before .before .before .if3 .left)) (sym (c .before .before .before .before .before .before .before .before .before .before .before .before .before .before .before .before .before .before .before .spells .ensures) ∙ not-false _ (c .before .before .before .before .before .before .before .before .before .before .before .before .before .before .before .before .before .before .if4 .left)) _ (found-root _ _ o (c .before .before .before .before .before .before .before .before .before .before .before .before .before .before .before .before .before .columns-of .ensures) _ _ _ _ _ (c .before .before .before .find .ensures)) (not-true _ (c .before .if6 .taken)))
+    rw (c .no-span6 .ensures) (span-none _ _ _ _ _ _ o (c .before .before .before .before .before .before .before .before .before .before .before .before .before .before .before .before .before .before .before .before .before .before .if2 .left) _ (c .before .before .before .before .before .before .before .before .before .before .before .before .before .before .before .before .before .before .before .before .before .first-bad .ensures) (c .before .before .before .before .before .before .before .before .before .before .before .before .before .before .before .before .before .before .before .before .if3 .left) (sym (c .before .before .before .before .before .before .before .before .before .before .before .before .before .before .before .before .before .before .before .spells .ensures) ∙ not-false _ (c .before .before .before .before .before .before .before .before .before .before .before .before .before .before .before .before .before .before .if4 .left)) _ (found-root _ _ o (c .before .before .before .before .before .before .before .before .before .before .before .before .before .before .before .before .before .columns-of .ensures) _ _ _ _ _ (c .before .before .before .find .ensures)) (not-true _ (c .before .if6 .taken)))
 
 returns-7 : tie.Need-returns-7
 returns-7 c =
     let o = sym (c .before .before .before .before .before .before .before .before .before .before .before .before .before .before .before .before .before .before .before .before .before .before .before .obeys-rules .ensures) ∙ not-false _ (c .before .before .before .before .before .before .before .before .before .before .before .before .before .before .before .before .before .before .before .before .before .before .if1 .left) in
-    span-found _ _ _ _ _ _ o (c .before .before .before .before .before .before .before .before .before .before .before .before .before .before .before .before .before .before .before .before .before .if2 .left) (c .before .before .before .before .before .before .before .before .before .before .before .before .before .before .before .before .before .before .before .before .first-bad .ensures .1 (c .before .before .before .before .before .before .before .before .before .before .before .before .before .before .before .before .before .before .before .if3 .left)) (sym (c .before .before .before .before .before .before .before .before .before .before .before .before .before .before .before .before .before .before .spells .ensures) ∙ not-false _ (c .before .before .before .before .before .before .before .before .before .before .before .before .before .before .before .before .before .if4 .left)) _ (found-root _ _ o (c .before .before .before .before .before .before .before .before .before .before .before .before .before .before .before .before .columns-of .ensures) _ _ _ _ _ (c .before .before .find .ensures)) (not-false _ (c .if6 .left))
+    span-found _ _ _ _ _ _ o (c .before .before .before .before .before .before .before .before .before .before .before .before .before .before .before .before .before .before .before .before .before .if2 .left) _ (c .before .before .before .before .before .before .before .before .before .before .before .before .before .before .before .before .before .before .before .before .first-bad .ensures) (c .before .before .before .before .before .before .before .before .before .before .before .before .before .before .before .before .before .before .before .if3 .left) (sym (c .before .before .before .before .before .before .before .before .before .before .before .before .before .before .before .before .before .before .spells .ensures) ∙ not-false _ (c .before .before .before .before .before .before .before .before .before .before .before .before .before .before .before .before .before .if4 .left)) _ (found-root _ _ o (c .before .before .before .before .before .before .before .before .before .before .before .before .before .before .before .before .columns-of .ensures) _ _ _ _ _ (c .before .before .find .ensures)) (not-false _ (c .if6 .left))
 
 pub span-spec : {M : Type 1} → statement M
 span-spec =

@@ -1,5 +1,5 @@
 -- `syntax::obeys_rules` meets its contract.
-use Rattle.syntax.specs.Loading.{no-count, big-count, bad-lines, bad-tree, good-table, fault-found, fault-none}
+use Rattle.syntax.specs.TableTest.{no-count, big-count, bad-lines, bad-tree, good-table, fault-found, fault-none}
 use borrow.Author.Tests.{not-true, not-false}
 use mathlib.Core.Path.{sym, _∙_}
 use borrow.Author.Needs.{needs}

@@ -1,0 +1,59 @@
+-- `loading::field::field_from` meets its contract.
+use mathlib.Core.Path.{sym, _∙_}
+use Rattle.loading.specs.Fields.{field-empty, field-one, field-two, field-long}
+use borrow.Author.Needs.{needs}
+use Rattle.loading.proofs.field.field_from.Statement.{statement}
+use Rattle.loading.proofs.field.field_from.Tie as tie
+
+peek-requires : tie.Need-peek-requires
+peek-requires c κs = search needs
+
+ends-requires : tie.Need-ends-requires
+ends-requires c κs = search needs
+
+returns : tie.Need-returns
+returns c = field-empty (c .before .before .before .before .args .text .now) _ (c .before .before .peek .ensures) (sym (c .before .ends .ensures) ∙ c .if1 .taken)
+
+add-peek : tie.Need-add-peek
+add-peek c = search needs
+
+peek-requires-2 : tie.Need-peek-requires-2
+peek-requires-2 c κs = search needs
+
+ends-requires-2 : tie.Need-ends-requires-2
+ends-requires-2 c κs = search needs
+
+returns-2 : tie.Need-returns-2
+returns-2 c = field-one (c .before .before .before .before .before .before .before .args .text .now) _ (c .before .before .before .before .before .peek .ensures) (sym (c .before .before .before .before .ends .ensures) ∙ c .before .before .before .if1 .left) (c .before .before .peek2 .ensures) (sym (c .before .ends2 .ensures) ∙ c .if2 .taken)
+
+add-peek-2 : tie.Need-add-peek-2
+add-peek-2 c = search needs
+
+peek-requires-3 : tie.Need-peek-requires-3
+peek-requires-3 c κs = search needs
+
+ends-requires-3 : tie.Need-ends-requires-3
+ends-requires-3 c κs = search needs
+
+returns-3 : tie.Need-returns-3
+returns-3 c = field-two (c .before .before .before .before .before .before .before .before .before .before .args .text .now) _ (c .before .before .before .before .before .before .before .before .peek .ensures) (sym (c .before .before .before .before .before .before .before .ends .ensures) ∙ c .before .before .before .before .before .before .if1 .left) (c .before .before .before .before .before .peek2 .ensures) (sym (c .before .before .before .before .ends2 .ensures) ∙ c .before .before .before .if2 .left) (c .before .before .peek3 .ensures) (sym (c .before .ends3 .ensures) ∙ c .if3 .taken)
+
+returns-4 : tie.Need-returns-4
+returns-4 c = field-long (c .before .before .before .before .before .before .before .before .before .before .args .text .now) _ (c .before .before .before .before .before .before .before .before .peek .ensures) (sym (c .before .before .before .before .before .before .before .ends .ensures) ∙ c .before .before .before .before .before .before .if1 .left) (c .before .before .before .before .before .peek2 .ensures) (sym (c .before .before .before .before .ends2 .ensures) ∙ c .before .before .before .if2 .left) (c .before .before .peek3 .ensures) (sym (c .before .ends3 .ensures) ∙ c .if3 .left)
+
+pub field-from-spec : {M : Type 1} → statement M
+field-from-spec =
+    tie.close
+    (tie.spec
+    peek-requires
+    ends-requires
+    returns
+    add-peek
+    peek-requires-2
+    ends-requires-2
+    returns-2
+    add-peek-2
+    peek-requires-3
+    ends-requires-3
+    returns-3
+    returns-4)

@@ -1,0 +1,11 @@
+pub mod Text
+pub mod Load
+pub mod Fields
+pub mod Scans
+pub mod Cuts
+pub mod Scanning
+pub mod Parsing
+pub mod Reading
+pub mod Lines
+pub mod Loading
+pub mod LoadLaws

@@ -1,0 +1,35 @@
+// The lines of a pattern text, read once from front to back.
+ghost use Rattle.loading.specs.Reading.{Reads-lines};
+use super::scan::Scanned;
+use super::scan::scan_line;
+use syntax::Pattern;
+
+// The table of the lines before the first form fault, and that fault's line; 65 where there is none.
+pub struct Read {
+    pub pattern: Pattern,
+    pub fault: usize,
+}
+
+pub fn read_lines(text: &[u8]) -> Read
+    ensures { λ r. ⌜ Reads-lines (now (text .entry)) r ⌝ }
+{
+    let mut p = Pattern::new();
+    let mut at = 0;
+    let fault = loop {
+        if text.len() <= at {
+            break 65;
+        }
+        let i = p.count;
+        if Pattern::MAX_LINES <= i {
+            break Pattern::MAX_LINES;
+        }
+        let scanned = scan_line(text, at, i);
+        let Scanned::Line(line, next) = scanned else {
+            break i;
+        };
+        p.lines[i] = line;
+        p.count = i + 1;
+        at = next;
+    };
+    Read { pattern: p, fault }
+}
