@@ -11,7 +11,7 @@ use Rattle.semantics.specs.Sweeps.{readable, greedy}
 use Rattle.semantics.specs.Accounts.{accounts, litres, total, totals}
 use Rattle.semantics.specs.Decode.{value-of}
 use Rattle.states.specs.StateSets.{state-set}
-use Rattle.states.specs.Nodes.{node-word}
+use Rattle.masks.specs.Nodes.{node-word}
 use Rattle.bits.specs.Bits.{bits-of, pack, word-of, count-below}
 use Rattle.parser.specs.Parse.{early}
 use Rattle.listing.specs.Listing.{digits, decimal, hex-digit, hex-byte, hex, field, entry, line, tape-line, account-line, account-lines, open-lines, refused-line, listing, read-listing, early-cause, pattern-listing, closed, tape-of, listing-of}

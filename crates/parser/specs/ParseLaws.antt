@@ -30,7 +30,7 @@ use Rattle.semantics.specs.AutomatonLaws.{after}
 use Rattle.semantics.specs.BoundLaws.{nodes, choices-nodes, code-fits, bits-bound}
 use Rattle.semantics.specs.SecondSweepLaws.{wrote}
 use Rattle.semantics.specs.GreedyLaws.{greedy-canonical, canonical-greedy, readable-iff}
-use Rattle.states.specs.Nodes.{index}
+use Rattle.masks.specs.Nodes.{index}
 use Rattle.states.specs.StateSets.{state-set, words}
 use Rattle.states.specs.StateLaws.{state-bit}
 use Rattle.states.specs.Meaning.{words-length, words-at}

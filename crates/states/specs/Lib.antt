@@ -1,15 +1,9 @@
 pub mod StateSets
-pub mod Nodes
-pub mod Closure
-pub mod Unions
 pub mod StateLaws
 pub mod Steps
 pub mod Joining
 pub mod Sweep
-pub mod Fronts
-pub mod Follows
-pub mod Masks
-pub mod Scatter
 pub mod Memo
+pub mod SweepWords
 pub mod Fill
 pub mod Meaning

@@ -2,9 +2,9 @@
 -- comes to its leaf, or to the end, by steps that read nothing.
 use mathlib.Core.Path.{_≡_, refl, sym, ap, subst, _∙_}
 use mathlib.Core.Bool.{Bool, true, false, false≢true}
-use mathlib.Core.Logic.{_↔_, _⊎_, ⊎-elim}
+use mathlib.Core.Logic.{_↔_, ⊎-elim}
 use mathlib.Core.List.{List, [], _∷_}
-use Prim.Native.Nat.{ℕ, zero, suc, _+_, _-_, _*_, _≤_}
+use Prim.Native.Nat.{ℕ, zero, suc, _+_, _*_, _≤_}
 use native.Mathlib.Omega.{arith}
 use lib.Dec.{eqb}
 use lib.ListN.{length, getD, drop}
@@ -18,10 +18,11 @@ use Rattle.semantics.specs.Basics.{and-fst, and-snd, and-intro, or-left, or-rig
 use Rattle.semantics.specs.Automaton.{Location, top, fst, snd, lft, rgt, rnd, State, end, at, follower, Moves, to-first, to-left, to-right, to-round, skip, leave}
 use Rattle.semantics.specs.Sweeps.{can, readable}
 use Rattle.semantics.specs.AutomatonLaws.{after, Passes, guarded-iff}
-use Rattle.states.specs.Nodes.{index, said, node-word, word-says}
-use Rattle.states.specs.Closure.{reach, passes, reaches, nowhere, leaf-mask, end-mask}
+use Rattle.masks.specs.Nodes.{index, said, node-word, word-says}
+use Rattle.masks.specs.Closure.{reach, passes, reaches, nowhere, leaf-mask, end-mask}
 use Rattle.states.specs.StateSets.{Is-state-set, state-set, words}
-use Rattle.states.specs.StateLaws.{root-planted, state-bit, state-set-is}
+use Rattle.masks.specs.Planting.{root-planted}
+use Rattle.states.specs.StateLaws.{state-bit, state-set-is}
 
 -- ---- the words of a fill
 pub words-length : (p : Pattern) (tape : List ℕ) → length (words p tape) ≡ 2 * (length tape + 1)

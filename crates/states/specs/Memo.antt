@@ -2,25 +2,34 @@
 use mathlib.Core.Path.{_≡_, refl, sym, ap, ap₂, _∙_}
 use mathlib.Core.Bool.{Bool, true, false, _&&_, cond}
 use mathlib.Core.List.{List}
-use Prim.Native.Nat.{ℕ, zero, suc, _+_, _*_, _^_, _≤_, _<_}
+use Prim.Native.Nat.{ℕ, zero, suc, _+_, _*_, _≤_, _<_}
 use native.Mathlib.Omega.{arith}
 use lib.Dec.{ltb, eqb}
 use lib.Pow.{pow-pos}
 use lib.Bits.{or-zero-l}
-use lib.ListN.{length, getD, set, length-set, replicate, length-replicate}
+use lib.ListN.{length, set, length-set, replicate, length-replicate}
 use lib.Seq.{getD-set-same, getD-set-other}
 use Rattle.bits.specs.Bits.{test-bit}
 use Rattle.bits.specs.Numbers.{test-small}
-use Rattle.semantics.specs.Basics.{eqb-eq, and-fst, and-snd}
+use borrow.Author.Tests.{ne-eqb}
+use Rattle.semantics.specs.Basics.{eqb-self, eqb-eq, and-fst, and-snd}
 use Rattle.states.specs.declared.Words.{Words}
-use Rattle.states.specs.Unions.{union, union-same, equal}
-use Rattle.states.specs.Steps.{behind, live, entry, step-of}
+use Rattle.masks.specs.Unions.{union, union-same, equal}
+use Rattle.states.specs.Steps.{behind, live, step-of}
+use Rattle.masks.specs.Leaves.{entry}
 
 -- four cells for each of 32 slots: the leaves that take a letter, a state set of the next position, and the two that the step to here gave.
 -- They are of steps from positions with a letter.
 pub record Remembers (zs os fs memo : List ℕ) : Type 0 where
   pub long : length memo ≡ 128
   pub right : (s : ℕ) → s < 32 → step-of zs os fs (entry memo (4 * s)) (entry memo (4 * s + 1)) false ≡ record { zero = entry memo (4 * s + 2); one = entry memo (4 * s + 3) }
+
+-- a slot keeps what is asked for if both its numbers are those asked for
+pub kept-other : (a b c d : ℕ) → (a ≡ b → ⊥) → false ≡ (eqb a b && eqb c d)
+kept-other a b c d h = sym (ap (λ z. z && eqb c d) (ne-eqb a b h))
+
+pub kept-same : (a b c d : ℕ) → a ≡ b → eqb c d ≡ (eqb a b && eqb c d)
+kept-same a b c d h = sym (ap (λ z. z && eqb c d) (ap (eqb a) (sym h) ∙ eqb-self a))
 
 nothing-behind : (f : ℕ) → behind 0 false f ≡ false
 nothing-behind f = go (ltb f 64)

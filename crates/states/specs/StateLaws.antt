@@ -11,25 +11,18 @@ use lib.Pow.{pow-mono}
 use Rattle.syntax.specs.declared.Pattern.{Pattern}
 use Rattle.syntax.specs.Tree.{Label, Tree, letter, range}
 use Rattle.syntax.specs.Trees.{root}
-use Rattle.syntax.specs.TreeLaws.{Rules, root-once}
+use Rattle.syntax.specs.TreeLaws.{Rules}
 use Rattle.bits.specs.Bits.{test-bit}
 use Rattle.bits.specs.Words.{word-self, word-unique, test-or}
-use Rattle.semantics.specs.Automaton.{Location, top, end}
+use Rattle.semantics.specs.Automaton.{Location}
 use Rattle.semantics.specs.Sweeps.{can, at-end}
 use Rattle.semantics.specs.FirstSweepLaws.{bool-ext}
 use Rattle.semantics.specs.AutomatonLaws.{after, can-iff-accepts}
-use Rattle.states.specs.Nodes.{index, Predicate, said, said-at, node-word, Planted, planted, Node-at, node-at, word-small, word-says, word-is, word-past-last}
-use Rattle.states.specs.Closure.{reaches, nowhere, leaf-mask, end-mask, any-same, reaches-split, reaches-can}
-use Rattle.states.specs.Unions.{pick, union, pick-bit, union-bit, pick-lt, union-lt}
+use Rattle.masks.specs.Nodes.{index, node-word, Planted, Node-at, node-at, word-small, word-says, word-is, word-past-last}
+use Rattle.masks.specs.Closure.{reaches, nowhere, leaf-mask, end-mask, any-same, reaches-split, reaches-can}
+use Rattle.masks.specs.Unions.{pick, union, pick-bit, union-bit, pick-lt, union-lt}
+use Rattle.masks.specs.Planting.{root-planted}
 use Rattle.states.specs.StateSets.{Is-state-set, state-set}
-
--- the tree of a tested table has every index below the count once, and no other
-pub root-planted : (p : Pattern) → Rules p → Planted (root p) (p .count)
-root-planted p r = planted (root p) (p .count) (root-once p r)
-
--- what is said of a node goes by its index
-pub same-node : {root : Tree} {n : ℕ} (good : Planted root n) (f : Predicate root) (t u : Tree) (s : Location root t) (q : Location root u) → index t ≡ index u → f t s ≡ f u q
-same-node {root} good f t u s q e = sym (said-at (good .apart) f t s) ∙ ap (said f root top) e ∙ said-at (good .apart) f u q
 
 module _ (p : Pattern) (r : Rules p) where
   abbrev good : Planted (root p) (p .count)

@@ -11,7 +11,7 @@ use Rattle.bits.specs.Bits.{test-bit}
 use Rattle.semantics.specs.Automaton.{Location, at, Accepts}
 use Rattle.semantics.specs.Sweeps.{can}
 use Rattle.semantics.specs.AutomatonLaws.{after}
-use Rattle.states.specs.Nodes.{index, node-word}
+use Rattle.masks.specs.Nodes.{index, node-word}
 
 -- 01: "Bit l (value 2 to the power l) of word 2 × i + b says that the letters from i on are in the language of node l with flag b,
 -- as in the automaton with flags in 001, section 5. Bits past the last node are 0." A word has 64 bits.

@@ -5,52 +5,29 @@ use mathlib.Core.Bool.{Bool, true, false, _&&_, cond}
 use mathlib.Core.List.{List, [], _∷_}
 use Prim.Native.Nat.{ℕ, zero, suc, _≤_, _<_}
 use native.Mathlib.Omega.{arith}
-use lib.Dec.{eqb, ltb}
+use lib.Dec.{ltb}
 use borrow.Author.Tests.{lt-ltb, le-ltb}
-use lib.ListN.{getD}
 use lib.Bits.{bitOr, or-zero-l, or-zero-r}
 use Rattle.syntax.specs.declared.Pattern.{Pattern}
-use Rattle.syntax.specs.Letter.{in-range}
-use Rattle.syntax.specs.Tree.{Tree, nothing, letter, range, seq, alt, star}
+use Rattle.syntax.specs.Tree.{Tree, letter, range}
 use Rattle.syntax.specs.Trees.{root}
 use Rattle.syntax.specs.TreeLaws.{Rules}
 use Rattle.bits.specs.Bits.{test-bit}
 use Rattle.semantics.specs.Automaton.{Location, top, fst, snd, lft, rgt, rnd, State, end, at, follower}
-use Rattle.semantics.specs.Sweeps.{can, at-end}
+use Rattle.semantics.specs.Sweeps.{at-end}
 use Rattle.semantics.specs.AutomatonLaws.{after, can-from}
 use Rattle.states.specs.declared.Words.{Words}
-use Rattle.states.specs.Nodes.{index, node-word, Node-at, index-lt, word-says, word-past-last}
-use Rattle.states.specs.Closure.{nowhere, leaf-mask, end-mask}
-use Rattle.states.specs.Unions.{pick, union}
+use Rattle.masks.specs.Nodes.{index, index-lt, word-says, word-past-last}
+use Rattle.masks.specs.Leaves.{state-index, Followed, takes, takers, entry}
+use Rattle.masks.specs.Planting.{root-planted, same-node}
+use Rattle.masks.specs.Closure.{nowhere, leaf-mask, end-mask}
+use Rattle.masks.specs.Unions.{pick, union}
 use Rattle.states.specs.StateSets.{state-set}
-use Rattle.states.specs.StateLaws.{root-planted, same-node, state-bit, state-masks}
-
--- a state's number: a node's index, and 64 for the end
-abbrev pub state-index : {root : Tree} → State root → ℕ
-state-index end = 64
-state-index (at t s) = index t
-
--- the follower of node x has the number f
-pub record Followed (p : Pattern) (x f : ℕ) : Type 0 where
-  pub node : Node-at (root p) x
-  pub is : f ≡ state-index (follower (node .place))
+use Rattle.states.specs.StateLaws.{state-bit, state-masks}
 
 -- whether a state is open behind a letter with flag 1: a node by its bit in the state set there, the end if that is the tape's end
 abbrev pub behind : (next : ℕ) → (last : Bool) → (state : ℕ) → Bool
 behind next last f = cond (ltb f 64) (test-bit next f) last
-
--- whether a leaf takes a letter
-abbrev pub takes : Tree → ℕ → Bool
-takes (nothing m) c = false
-takes (letter m a) c = eqb a c
-takes (range m low high) c = in-range low high c
-takes (seq m t u) c = false
-takes (alt m t u) c = false
-takes (star m again t) c = false
-
--- the leaves that take a letter
-unfoldable pub takers : Pattern → (letter : ℕ) → ℕ
-takers p c = node-word (root p) (p .count) (λ t s. takes t c)
 
 -- the leaves that are open: they take the letter here, and their followers are open behind it
 abbrev pub live : (takers next : ℕ) → (last : Bool) → (followers : ℕ → ℕ) → (leaf : ℕ) → Bool
@@ -108,8 +85,5 @@ module _ (p : Pattern) (r : Rules p) where
       ∙ ap (bitOr (pick b (end-mask (root p) (p .count) b))) (union-none 64 (leaf-mask (root p) (p .count) b)) ∙ or-zero-r (pick b (end-mask (root p) (p .count) b))
 
 -- the step over the masks and followers as they are stored
-abbrev pub entry : List ℕ → ℕ → ℕ
-entry xs x = getD xs x 0
-
 abbrev pub step-of : (zero one followers : List ℕ) → (takers next : ℕ) → (last : Bool) → Words
 step-of zs os fs k next last = record { zero = union 64 (live k next last (entry fs)) (entry zs); one = union 64 (live k next last (entry fs)) (entry os) }

@@ -10,7 +10,8 @@ use lib.Seq.{drop-cons, drop-length, drop-set-lt}
 use Rattle.bits.specs.Bits.{in-front}
 use Rattle.semantics.specs.Sweeps.{at-end}
 use Rattle.states.specs.declared.Words.{Words}
-use Rattle.states.specs.Steps.{entry, step-of}
+use Rattle.masks.specs.Leaves.{entry}
+use Rattle.states.specs.Steps.{step-of}
 
 -- the flag 1 word of the first position of a fill
 abbrev pub first-one : List ℕ → ℕ

@@ -1,29 +1,16 @@
 // The first sweep: the state sets of a tape's positions (01: marks), from the tape's end to its start.
 ghost use mathlib.Core.Path.{_≡_};
-ghost use Prim.Native.Nat.{_≤_, _<_};
+ghost use mathlib.Core.Bool.{_&&_};
+ghost use lib.Dec.{eqb};
+ghost use Prim.Native.Nat.{_*_, _≤_, _<_};
 ghost use Rattle.bits.specs.Bits.{bit, in-front};
 ghost use Rattle.states.specs.StateSets.{words as words-of};
 ghost use Rattle.states.specs.Steps.{behind, step-of};
 ghost use Rattle.states.specs.Sweep.{Sweepable, sweep-of};
 ghost use Rattle.states.specs.Memo.{Remembers};
-ghost use Rattle.syntax.specs.TreeLaws.{Rules};
-ghost use Rattle.states.specs.Masks.{Masks-of};
-ghost use Rattle.states.specs.Fill.{Blank, Fillable};
-
-mod fronts; // fronts.rt: what each node comes to inside itself
-mod follows; // follows.rt: what each node comes to behind itself
-mod masks; // masks.rt: the masks of a pattern
-mod word; // word.rt: bits of words
-
-use follows::put_follows;
-use fronts::put_fronts;
-use masks::ends_of;
-use masks::put_columns;
-use masks::put_takers;
+ghost use Rattle.states.specs.Fill.{Fillable};
+use masks::put_masks;
 use syntax::Pattern;
-use word::both;
-use word::single;
-use word::times;
 
 // The two state sets of a position: with flag 0 and with flag 1.
 pub struct Words {
@@ -38,7 +25,15 @@ fn open_bit(state: u8, next: u64, last: bool) -> u64
     if state < 64 {
         return (next >> state) % 2;
     }
-    single(0, last)
+    if last { 1 } else { 0 }
+}
+
+// The mask, or 0, without a branch.
+fn times(mask: u64, e: u64) -> u64
+    requires { ⌜ e ≤ 1 ⌝ }
+    ensures { λ r. ⌜ r ≡ mask * e ⌝ }
+{
+    mask * e
 }
 
 // The two state sets of a position, from the leaves that take its letter and the flag 1 state set of the next position. `last` says
@@ -68,6 +63,16 @@ pub fn step(
     Words { zero: a, one: b }
 }
 
+// Whether what a slot keeps is of these leaves and this state set.
+fn is_kept(kept: u64, takers: u64, behind: u64, next: u64) -> bool
+    ensures { λ r. ⌜ r ≡ (eqb kept takers && eqb behind next) ⌝ }
+{
+    if kept != takers {
+        return false;
+    }
+    behind == next
+}
+
 // A step from what was remembered of the last one in this slot, where that was for the same leaves and from the same state set. Four cells
 // of the memo are the slot's: the leaves, the state set of the next position, and the two that the step gave.
 fn recall(
@@ -88,7 +93,7 @@ fn recall(
         return step(zero, one, followers, takers, next, last);
     }
     let k = 4 * slot;
-    if both(memo[k] == takers, memo[k + 1] == next) {
+    if is_kept(memo[k], takers, memo[k + 1], next) {
         return Words {
             zero: memo[k + 2],
             one: memo[k + 3],
@@ -141,30 +146,6 @@ fn sweep(
         next = r.one;
         last = false;
     }
-}
-
-// The masks of a pattern, made once, into lent arrays. Gives the flag 1 state set of the tape's end. The cells of the letters hold what
-// follows each line until their turn comes: stack is short where this runs.
-pub fn put_masks(
-    p: Pattern,
-    zero: &mut [u64],
-    one: &mut [u64],
-    followers: &mut [u8],
-    takers: &mut [u64],
-) -> u64
-    requires { ⌜ Rules p × Blank (now zero) (now one) (now followers) (now takers) ⌝ }
-    ensures { λ r. ⌜ Masks-of p (now (zero .exit)) (now (one .exit)) (now (followers .exit)) (now (takers .exit)) r ⌝ }
-{
-    let count = p.count;
-    let mut firsts = [0u64; 64];
-    let mut nulls = [false; 64];
-    let mut ends = [false; 64];
-    put_fronts(p, &mut firsts, &mut nulls);
-    put_follows(p, &firsts, &nulls, followers, takers, &mut ends);
-    put_columns(count, &firsts, &nulls, takers, 0, zero);
-    put_columns(count, &firsts, &nulls, takers, 1, one);
-    put_takers(p, takers);
-    ends_of(count, &nulls, &ends)
 }
 
 // THE FIRST SWEEP: fills words 2i and 2i + 1 with the state sets of position i, flag 0 and flag 1, for each position of the tape, its end

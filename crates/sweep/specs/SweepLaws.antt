@@ -17,7 +17,7 @@ use Rattle.bits.specs.Numbers.{length-bits-of}
 use Rattle.bits.specs.Writing.{write-write, length-write}
 use Rattle.semantics.specs.Value.{nonempty}
 use Rattle.semantics.specs.Sweeps.{after-round, can}
-use Rattle.states.specs.Nodes.{index}
+use Rattle.masks.specs.Nodes.{index}
 use Rattle.sweep.specs.declared.Swept.{Swept}
 use Rattle.sweep.specs.Parts.{whole, short, seq-sweeps, left-sweeps, right-sweeps, round-sweeps, stop-sweeps, nothing-sweeps, letter-sweeps, range-sweeps}
 use Rattle.sweep.specs.Sweeping.{put, Wrote, Can-sweep, Leaf-ready, Leaf-swept}

@@ -13,7 +13,7 @@ use Rattle.syntax.specs.Tree.{Label, Tree, nothing, letter, range, seq, alt, st
 use Rattle.bits.specs.Bits.{bit, test-bit, write, bits-of}
 use Rattle.columns.specs.Columns.{node-in, tree-in}
 use Rattle.semantics.specs.Sweeps.{After, after-round, can}
-use Rattle.states.specs.Nodes.{index}
+use Rattle.masks.specs.Nodes.{index}
 use Rattle.sweep.specs.declared.Spot.{Spot}
 use Rattle.sweep.specs.declared.Swept.{Swept}
 use Rattle.sweep.specs.Parts.{Sweeps}

@@ -19,7 +19,7 @@ use Rattle.bits.specs.Bits.{bit, test-bit}
 use Rattle.columns.specs.Columns.{node-in, tree-in, Good}
 use Rattle.columns.specs.ColumnLaws.{line-tree, line-lower}
 use Rattle.semantics.specs.Value.{nonempty}
-use Rattle.states.specs.Nodes.{index}
+use Rattle.masks.specs.Nodes.{index}
 use Rattle.sweep.specs.declared.Spot.{Spot}
 use Rattle.sweep.specs.declared.Swept.{Swept}
 use Rattle.sweep.specs.Sweeping.{put, Wrote, Can-sweep, leaf-tree, Leaf-ready, Leaf-swept, Ready, is-choice, Led, Moves, Advanced}

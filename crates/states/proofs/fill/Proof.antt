@@ -1,5 +1,6 @@
 use mathlib.Core.Path.{refl}
-use Rattle.states.specs.Fill.{none-marked, fill-sweepable, filled-words}
+use Rattle.masks.specs.Making.{none-marked}
+use Rattle.states.specs.Fill.{fill-sweepable, filled-words}
 use borrow.Author.Needs.{needs}
 use Rattle.states.proofs.fill.Statement.{statement}
 use Rattle.states.proofs.fill.Tie as tie

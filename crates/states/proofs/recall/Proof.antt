@@ -15,44 +15,44 @@ returns c = search needs
 mul-k : tie.Need-mul-k
 mul-k c = search needs
 
-mul-both : tie.Need-mul-both
-mul-both c = search needs
+mul-is-kept : tie.Need-mul-is-kept
+mul-is-kept c = search needs
 
-slice-read-both : tie.Need-slice-read-both
-slice-read-both c = search needs
+slice-read-is-kept : tie.Need-slice-read-is-kept
+slice-read-is-kept c = search needs
 
-add-both : tie.Need-add-both
-add-both c = search needs
+add-is-kept : tie.Need-add-is-kept
+add-is-kept c = search needs
 
-mul-both-2 : tie.Need-mul-both-2
-mul-both-2 c = search needs
+mul-is-kept-2 : tie.Need-mul-is-kept-2
+mul-is-kept-2 c = search needs
 
-slice-read-both-2 : tie.Need-slice-read-both-2
-slice-read-both-2 c = search needs
+slice-read-is-kept-2 : tie.Need-slice-read-is-kept-2
+slice-read-is-kept-2 c = search needs
 
-both-requires : tie.Need-both-requires
-both-requires c κs = search needs
+is-kept-requires : tie.Need-is-kept-requires
+is-kept-requires c κs = search needs
 
-add-t21 : tie.Need-add-t21
-add-t21 c = search needs
+add-t20 : tie.Need-add-t20
+add-t20 c = search needs
 
-mul-t22 : tie.Need-mul-t22
-mul-t22 c = search needs
+mul-t21 : tie.Need-mul-t21
+mul-t21 c = search needs
 
-slice-read-t24 : tie.Need-slice-read-t24
-slice-read-t24 c = search needs
+slice-read-t23 : tie.Need-slice-read-t23
+slice-read-t23 c = search needs
 
-add-t25 : tie.Need-add-t25
-add-t25 c = search needs
+add-t24 : tie.Need-add-t24
+add-t24 c = search needs
 
-mul-t26 : tie.Need-mul-t26
-mul-t26 c = search needs
+mul-t25 : tie.Need-mul-t25
+mul-t25 c = search needs
 
-slice-read-t28 : tie.Need-slice-read-t28
-slice-read-t28 c = search needs
+slice-read-t27 : tie.Need-slice-read-t27
+slice-read-t27 c = search needs
 
 returns-2 : tie.Need-returns-2
-returns-2 c = (remembered _ _ _ _ (c .before .before .before .before .before .before .before .before .pre .1) _ _ _ _ (c .before .before .before .before .before .before .before .before .pre .0) (c .before .before .before .before .before .before .if1 .left) (sym (c .before .before .before .both .ensures) ∙ c .before .before .if2 .taken), c .before .before .before .before .before .before .before .before .pre .1)
+returns-2 c = (remembered _ _ _ _ (c .before .before .before .before .before .before .before .before .pre .1) _ _ _ _ (c .before .before .before .before .before .before .before .before .pre .0) (c .before .before .before .before .before .before .if1 .left) (sym (c .before .before .before .is-kept .ensures) ∙ c .before .before .if2 .taken), c .before .before .before .before .before .before .before .before .pre .1)
 
 step-requires-2 : tie.Need-step-requires-2
 step-requires-2 c κs = search needs
@@ -103,18 +103,18 @@ recall-spec =
     step-requires
     returns
     mul-k
-    mul-both
-    slice-read-both
-    add-both
-    mul-both-2
-    slice-read-both-2
-    both-requires
-    add-t21
-    mul-t22
-    slice-read-t24
-    add-t25
-    mul-t26
-    slice-read-t28
+    mul-is-kept
+    slice-read-is-kept
+    add-is-kept
+    mul-is-kept-2
+    slice-read-is-kept-2
+    is-kept-requires
+    add-t20
+    mul-t21
+    slice-read-t23
+    add-t24
+    mul-t25
+    slice-read-t27
     returns-2
     step-requires-2
     mul-memo

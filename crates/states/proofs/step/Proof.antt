@@ -1,8 +1,10 @@
 use Prim.Native.Nat.{_-_}
 use native.Mathlib.Omega.{arith}
 use mathlib.Core.Path.{refl}
-use Rattle.states.specs.Steps.{behind, entry}
-use Rattle.states.specs.Joining.{Stepping, stepping-start, stepping-next, stepping-end, Lowest, lowest}
+use Rattle.states.specs.Steps.{behind}
+use Rattle.masks.specs.Leaves.{entry}
+use Rattle.states.specs.Joining.{Stepping, stepping-start, stepping-next, stepping-end}
+use Rattle.masks.specs.Lowest.{Lowest, lowest}
 use borrow.Author.Needs.{needs}
 use Rattle.states.proofs.step.Statement.{statement}
 use Rattle.states.proofs.step.Tie as tie

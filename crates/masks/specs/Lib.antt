@@ -1,0 +1,11 @@
+pub mod Nodes
+pub mod Planting
+pub mod Closure
+pub mod Unions
+pub mod Leaves
+pub mod Lowest
+pub mod Fronts
+pub mod Follows
+pub mod Masks
+pub mod Scatter
+pub mod Making

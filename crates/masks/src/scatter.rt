@@ -1,0 +1,133 @@
+// The masks of a pattern: for each leaf the nodes that come to it by empty steps, with flag 0 and with flag 1; for the end those that
+// come to it with flag 1; and for each letter the leaves that take it.
+ghost use mathlib.Core.Path.{_≡_};
+ghost use mathlib.Core.Bool.{true};
+ghost use Prim.Native.Nat.{_<_, _≤_};
+ghost use lib.ListN.{length};
+ghost use Rattle.syntax.specs.Table.{leaf-good, node-good};
+ghost use Rattle.syntax.specs.TreeLaws.{Rules};
+ghost use Rattle.bits.specs.Bits.{test-bit, word-of};
+ghost use Rattle.masks.specs.Masks.{Filled, row, comes-to-end, column, leaf-takes, node-takes, line-takers};
+ghost use Rattle.masks.specs.Scatter.{Marked, between};
+use super::word::both;
+use super::word::join;
+use super::word::single;
+use syntax::Leaf;
+use syntax::Node;
+use syntax::Pattern;
+
+// Joins the bit of line i to the cells of a row: those whose bits are set in it.
+fn put_row(cells: &mut [u64], row: u64, i: usize)
+    requires { ⌜ (i < 64) × (length (now cells) ≡ 64) ⌝ }
+    ensures { λ _. ⌜ Marked (test-bit row) i (now (cells .entry)) (now (cells .exit)) ⌝ }
+{
+    let mark = single(i, true);
+    let mut rest = row;
+    while rest != 0 {
+        let x = u64::trailing_zeros(rest) as usize;
+        rest = rest & (rest - 1);
+        cells[x] = cells[x] | mark;
+    }
+}
+
+// For each leaf the nodes that come to it with a flag, 0 or 1: each line's bit goes to the leaves that the line comes to, those inside it
+// and, where it can be empty, those behind it with that flag.
+pub fn put_columns(
+    count: usize,
+    firsts: &[u64],
+    nulls: &[bool],
+    behind: &[u64],
+    flag: usize,
+    cells: &mut [u64],
+)
+    requires { ⌜ (count ≤ 64) × (length (now firsts) ≡ 64) × (length (now nulls) ≡ 64) × (length (now behind) ≡ 128) × (flag ≤ 1) ⌝ }
+    requires { ⌜ Filled 0 (λ x. 0) 64 64 (now cells) ⌝ }
+    ensures { λ _.
+        ⌜ Filled 0 (column count (row (now (firsts .entry)) (now (nulls .entry)) (now (behind .entry)) flag)) 64 count (now (cells .exit)) ⌝ }
+{
+    let mut i = 0;
+    while i < count {
+        let line = join(firsts[i], behind[2 * i + flag], nulls[i]);
+        put_row(cells, line, i);
+        i += 1;
+    }
+}
+
+// The nodes that come to the end with flag 1.
+pub fn ends_of(count: usize, nulls: &[bool], ends: &[bool]) -> u64
+    requires { ⌜ (count ≤ 64) × (length (now nulls) ≡ 64) × (length (now ends) ≡ 64) ⌝ }
+    ensures { λ r. ⌜ r ≡ word-of count (comes-to-end (now (nulls .entry)) (now (ends .entry))) ⌝ }
+{
+    let mut word: u64 = 0;
+    let mut i = 0;
+    while i < count {
+        let e = single(i, both(nulls[i], ends[i]));
+        word = e + word;
+        i += 1;
+    }
+    word
+}
+
+// Joins the bit of line i to the cells of the letters from low to high.
+fn put_range(cells: &mut [u64], low: u8, high: u8, i: usize)
+    requires { ⌜ (i < 64) × (high < length (now cells)) ⌝ }
+    ensures { λ _. ⌜ Marked (between low high) i (now (cells .entry)) (now (cells .exit)) ⌝ }
+{
+    let mark = single(i, true);
+    let end = high as usize;
+    let mut c = low as usize;
+    while c <= end {
+        cells[c] = cells[c] | mark;
+        c += 1;
+    }
+}
+
+fn put_leaf(cells: &mut [u64], leaf: Leaf, i: usize)
+    requires { ⌜ (i < 64) × (128 ≤ length (now cells)) × (leaf-good leaf ≡ true) ⌝ }
+    ensures { λ _. ⌜ Marked (leaf-takes leaf) i (now (cells .entry)) (now (cells .exit)) ⌝ }
+{
+    match leaf {
+        Leaf::Nothing => {}
+        Leaf::Letter(c) => put_range(cells, c, c, i),
+        Leaf::Range(low, high) => put_range(cells, low, high, i),
+    }
+}
+
+// Joins the bit of line i to the cells of the letters that its node takes.
+fn put_node(cells: &mut [u64], node: Node, i: usize)
+    requires { ⌜ (i < 64) × (128 ≤ length (now cells)) × (node-good node ≡ true) ⌝ }
+    ensures { λ _. ⌜ Marked (node-takes node) i (now (cells .entry)) (now (cells .exit)) ⌝ }
+{
+    match node {
+        Node::Leaf(leaf) => put_leaf(cells, leaf, i),
+        Node::Sequence(_, _) => {}
+        Node::Alternative(_, _) => {}
+        Node::Star(_) => {}
+    }
+}
+
+fn clear(cells: &mut [u64])
+    requires { ⌜ length (now cells) ≡ 128 ⌝ }
+    ensures { λ _. ⌜ Filled 0 (λ x. 0) 128 128 (now (cells .exit)) ⌝ }
+{
+    let mut i = 0;
+    while i < 128 {
+        cells[i] = 0;
+        i += 1;
+    }
+}
+
+// For each letter the leaves that take it. Whatever the cells held before is gone.
+pub fn put_takers(p: Pattern, takers: &mut [u64])
+    requires { ⌜ Rules p × (length (now takers) ≡ 128) ⌝ }
+    ensures { λ _. ⌜ Filled 0 (λ c. line-takers p c (p .count)) 128 128 (now (takers .exit)) ⌝ }
+{
+    clear(takers);
+    let mut i = 0;
+    while i < p.count {
+        let line = p.lines[i];
+        let node = line.node;
+        put_node(takers, node, i);
+        i += 1;
+    }
+}
