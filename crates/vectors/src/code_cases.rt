@@ -3,12 +3,12 @@
 // cells, mark words and code bytes are lent, in decimal. The lent parts are the starts of larger arrays, whose cells are
 // set before each call. Each `put_` function puts its bytes into `out` from `at` on and answers where they end. What does
 // not fit is left out.
-ghost use Rattle.io.specs.Counts.{Counts};
 use crate::report::ALL_BYTES;
 use crate::report::ALL_WORDS;
 use crate::report::BYTE_BEFORE;
 use crate::report::WORD_BEFORE;
 use crate::report::part_before;
+use crate::report::print_line;
 use crate::report::put_digest;
 use crate::report::put_left;
 use crate::report::say_bad;
@@ -19,7 +19,6 @@ use codes::Totalled;
 use codes::TotalsOutcome;
 use codes::flatten;
 use codes::totals;
-use libc::STDOUT_FILENO;
 use syntax::Pattern;
 use vector_text::START;
 use vector_text::decode;
@@ -28,7 +27,6 @@ use vector_text::least;
 use vector_text::number;
 use vector_text::of_bytes;
 use vector_text::put_answer;
-use vector_text::put_byte;
 use vector_text::put_parted;
 use vector_text::put_refused;
 use vector_text::rest;
@@ -75,30 +73,27 @@ fn put_litres(out: &mut [u8], at: usize, litres: &[u32]) -> usize {
     end
 }
 
-// The line of spelling, with `lent` cells of the tape lent.
-fn put_flattening(out: &mut [u8], answer: Flattened, tape: &[u8], lent: usize) -> usize
-    ensures { λ r. ⌜ Counts r (now (out .exit)) ⌝ }
-{
-    let a = put_flattened(out, answer);
-    let b = put_digest(out, a, tape, 0, lent);
-    let c = put_digest(out, b, tape, lent, tape.len());
-    put_byte(out, c, b'\n')
+// Prints the line of spelling, with `lent` cells of the tape lent. This line and the next two take less than 1,024 bytes.
+fn print_flattening(answer: Flattened, tape: &[u8], lent: usize) {
+    let mut out = [0u8; 1024];
+    let a = put_flattened(&mut out, answer);
+    let b = put_digest(&mut out, a, tape, 0, lent);
+    let c = put_digest(&mut out, b, tape, lent, tape.len());
+    print_line(&mut out, c);
 }
 
 // The line of totalling.
-fn put_totals(out: &mut [u8], totalled: Totalled) -> usize
-    ensures { λ r. ⌜ Counts r (now (out .exit)) ⌝ }
-{
+fn print_totals(totalled: Totalled) {
     let outcome = totalled.outcome;
     let litres = totalled.litres;
-    let a = put_outcome(out, outcome);
-    let b = put_litres(out, a, &litres);
-    put_byte(out, b, b'\n')
+    let mut out = [0u8; 1024];
+    let a = put_outcome(&mut out, outcome);
+    let b = put_litres(&mut out, a, &litres);
+    print_line(&mut out, b);
 }
 
 // The line of settling: all cells past those lent have one digest, the tape's first.
-fn put_settling(
-    out: &mut [u8],
+fn print_settling(
     answer: Canonicalized,
     tape: &[u8],
     letters: usize,
@@ -106,21 +101,13 @@ fn put_settling(
     lent: usize,
     code: &[u8],
     bytes: usize,
-) -> usize
-    ensures { λ r. ⌜ Counts r (now (out .exit)) ⌝ }
-{
-    let a = put_canonicalized(out, answer);
-    let b = put_digest(out, a, tape, 0, letters);
-    let past = of_bytes(START, tape, letters, tape.len());
-    let c = put_left(out, b, past, words, lent, code, bytes);
-    put_byte(out, c, b'\n')
-}
-
-// A line takes less than 1,024 bytes.
-fn print_flattening(answer: Flattened, tape: &[u8], lent: usize) {
+) {
     let mut out = [0u8; 1024];
-    let size = put_flattening(&mut out, answer, tape, lent);
-    io::write_all(STDOUT_FILENO, &out[..size]);
+    let a = put_canonicalized(&mut out, answer);
+    let b = put_digest(&mut out, a, tape, 0, letters);
+    let past = of_bytes(START, tape, letters, tape.len());
+    let c = put_left(&mut out, b, past, words, lent, code, bytes);
+    print_line(&mut out, c);
 }
 
 // Spells the code with the first `most` cells lent, as far as there are any.
@@ -133,36 +120,6 @@ fn run_flatten(p: Pattern, code: &[u8], count: u32, tape: &mut [u8], most: usize
 fn run_spelling(p: Pattern, code: &[u8], count: u32, lent: usize) {
     let mut tape = [BYTE_BEFORE; ALL_LETTERS];
     run_flatten(p, code, count, &mut tape, lent);
-}
-
-fn run_totals(p: Pattern, code: &[u8], count: u32) {
-    let totalled = totals(p, code, count);
-    let mut out = [0u8; 1024];
-    let size = put_totals(&mut out, totalled);
-    io::write_all(STDOUT_FILENO, &out[..size]);
-}
-
-fn print_settling(
-    answer: Canonicalized,
-    tape: &[u8],
-    letters: usize,
-    words: &[u64],
-    lent: usize,
-    canonical: &[u8],
-    bytes: usize,
-) {
-    let mut out = [0u8; 1024];
-    let size = put_settling(
-        &mut out,
-        answer,
-        tape,
-        letters,
-        words,
-        lent,
-        canonical,
-        bytes,
-    );
-    io::write_all(STDOUT_FILENO, &out[..size]);
 }
 
 // Settles the code with the first cells, words and bytes lent, of each as many as are asked for and are there.
@@ -210,7 +167,7 @@ fn run_settling(p: Pattern, code: &[u8], count: u32, letters: usize, lent: usize
 
 fn run_lent(p: Pattern, code: &[u8], count: u32, letters: usize, lent: usize, bytes: usize) {
     run_spelling(p, code, count, letters);
-    run_totals(p, code, count);
+    print_totals(totals(p, code, count));
     run_settling(p, code, count, letters, lent, bytes);
 }
 

@@ -1,8 +1,7 @@
 // What loading a text answers: the outcome's number and value, and after them the table's nodes, one a line, fields parted
 // by tabs, numbers in decimal. Each `put_` function puts its bytes into `out` from `at` on and answers where they end. What
 // does not fit is left out.
-ghost use Rattle.io.specs.Counts.{Counts};
-use libc::STDOUT_FILENO;
+use crate::report::print_line;
 use syntax::Leaf;
 use syntax::Line;
 use syntax::Loaded;
@@ -71,20 +70,12 @@ fn put_lines(out: &mut [u8], at: usize, p: Pattern) -> usize {
     end
 }
 
-// The outcome, then the table's lines: a refused load's table has none.
-fn put_loaded(out: &mut [u8], loaded: Loaded) -> usize
-    ensures { λ r. ⌜ Counts r (now (out .exit)) ⌝ }
-{
+// Prints the outcome, then the table's lines: a refused load's table has none. All take less than 1,024 bytes.
+pub fn print_loaded(loaded: Loaded) {
     let outcome = loaded.outcome;
     let pattern = loaded.pattern;
-    let head = put_outcome(out, outcome);
-    let end = put_lines(out, head, pattern);
-    put_byte(out, end, b'\n')
-}
-
-// An outcome and 64 nodes take less than 1,024 bytes.
-pub fn print_loaded(loaded: Loaded) {
     let mut out = [0u8; 1024];
-    let size = put_loaded(&mut out, loaded);
-    io::write_all(STDOUT_FILENO, &out[..size]);
+    let head = put_outcome(&mut out, outcome);
+    let end = put_lines(&mut out, head, pattern);
+    print_line(&mut out, end);
 }

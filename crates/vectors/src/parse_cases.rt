@@ -2,15 +2,14 @@
 // the pattern's text a case has the tape in hexadecimal, and how many mark words and code bytes are lent, in decimal. The
 // lent parts are the starts of larger arrays, whose cells are set before each case. Each `put_` function puts its bytes
 // into `out` from `at` on and answers where they end. What does not fit is left out.
-ghost use Rattle.io.specs.Counts.{Counts};
 use crate::report::ALL_BYTES;
 use crate::report::ALL_WORDS;
 use crate::report::BYTE_BEFORE;
 use crate::report::WORD_BEFORE;
 use crate::report::part_before;
+use crate::report::print_line;
 use crate::report::put_left;
 use crate::report::say_bad;
-use libc::STDOUT_FILENO;
 use parser::Parsed;
 use parser::parse;
 use syntax::Pattern;
@@ -20,7 +19,6 @@ use vector_text::field;
 use vector_text::least;
 use vector_text::number;
 use vector_text::put_answer;
-use vector_text::put_byte;
 use vector_text::put_parted;
 use vector_text::put_refused;
 use vector_text::rest;
@@ -65,25 +63,8 @@ fn put_words(out: &mut [u8], at: usize, words: &[u64], lent: usize, letters: usi
     put_first(out, at, words, lent)
 }
 
-// The whole line of a case: `lent` words and `bytes` bytes were lent for a tape of so many letters.
-fn put_parsing(
-    out: &mut [u8],
-    parsed: Parsed,
-    words: &[u64],
-    lent: usize,
-    code: &[u8],
-    bytes: usize,
-    letters: usize,
-) -> usize
-    ensures { λ r. ⌜ Counts r (now (out .exit)) ⌝ }
-{
-    let a = put_parsed(out, parsed);
-    let b = put_left(out, a, START, words, lent, code, bytes);
-    let c = put_words(out, b, words, lent, letters);
-    put_byte(out, c, b'\n')
-}
-
-// A line takes less than 1,024 bytes.
+// Prints the line of a case, which takes less than 1,024 bytes: `lent` words and `bytes` bytes were lent for a tape of so
+// many letters.
 fn print_parsing(
     parsed: Parsed,
     words: &[u64],
@@ -93,8 +74,10 @@ fn print_parsing(
     letters: usize,
 ) {
     let mut out = [0u8; 1024];
-    let size = put_parsing(&mut out, parsed, words, lent, code, bytes, letters);
-    io::write_all(STDOUT_FILENO, &out[..size]);
+    let a = put_parsed(&mut out, parsed);
+    let b = put_left(&mut out, a, START, words, lent, code, bytes);
+    let c = put_words(&mut out, b, words, lent, letters);
+    print_line(&mut out, c);
 }
 
 // Reads the tape with the first `most_words` words and the first `most_bytes` bytes lent, as far as there are any.

@@ -4,6 +4,7 @@ use libc::STDOUT_FILENO;
 use vector_text::START;
 use vector_text::of_bytes;
 use vector_text::of_words;
+use vector_text::put_byte;
 use vector_text::put_parted;
 use vector_text::put_shown;
 
@@ -18,6 +19,12 @@ pub const BYTE_BEFORE: u8 = 0xAA;
 
 pub fn say_bad() {
     io::write_all(STDOUT_FILENO, b"not a case\n");
+}
+
+// Ends the line in `out` at `at` with byte 10, and prints it.
+pub fn print_line(out: &mut [u8], at: usize) {
+    let size = put_byte(out, at, b'\n');
+    io::write_all(STDOUT_FILENO, &out[..size]);
 }
 
 // A tab stands before the first number of a list, commas before the others.

@@ -1,9 +1,8 @@
 // Showing a visit's piece: what the services answer, one line a case, fields parted by tabs. Behind the pattern's text a
 // case has the tape and the code's bytes, both in hexadecimal, and the code's bit count, the node and the visit, in
 // decimal.
-ghost use Rattle.io.specs.Counts.{Counts};
+use crate::report::print_line;
 use crate::report::say_bad;
-use libc::STDOUT_FILENO;
 use spans::SpanOutcome;
 use spans::Spanned;
 use spans::piece;
@@ -13,7 +12,6 @@ use vector_text::decode;
 use vector_text::field;
 use vector_text::number;
 use vector_text::put_answer;
-use vector_text::put_byte;
 use vector_text::put_parted;
 use vector_text::put_refused;
 use vector_text::put_shown;
@@ -32,24 +30,17 @@ fn put_outcome(out: &mut [u8], outcome: SpanOutcome) -> usize {
     }
 }
 
-// The line of a case: number, value, start, length, and the piece with its own length.
-fn put_spanned(out: &mut [u8], spanned: Spanned, piece: &[u8]) -> usize
-    ensures { λ r. ⌜ Counts r (now (out .exit)) ⌝ }
-{
+// Prints the line of a case, which takes less than 1,024 bytes: number, value, start, length, and the piece with its own
+// length.
+fn print_spanned(spanned: Spanned, piece: &[u8]) {
     let outcome = spanned.outcome;
-    let a = put_outcome(out, outcome);
-    let b = put_parted(out, a, b'\t', spanned.start as u64);
-    let c = put_parted(out, b, b'\t', spanned.length as u64);
-    let d = put_parted(out, c, b'\t', piece.len() as u64);
-    let e = put_shown(out, d, piece, piece.len());
-    put_byte(out, e, b'\n')
-}
-
-// A line takes less than 1,024 bytes.
-fn print_spanned(spanned: Spanned, part: &[u8]) {
     let mut out = [0u8; 1024];
-    let size = put_spanned(&mut out, spanned, part);
-    io::write_all(STDOUT_FILENO, &out[..size]);
+    let a = put_outcome(&mut out, outcome);
+    let b = put_parted(&mut out, a, b'\t', spanned.start as u64);
+    let c = put_parted(&mut out, b, b'\t', spanned.length as u64);
+    let d = put_parted(&mut out, c, b'\t', piece.len() as u64);
+    let e = put_shown(&mut out, d, piece, piece.len());
+    print_line(&mut out, e);
 }
 
 // Each service is called for itself.
