@@ -33,7 +33,7 @@ loop-less : tie.Need-loop-less Inv-loop μ-loop
 loop-less c = search needs
 
 loop-again : tie.Need-loop-again Inv-loop μ-loop
-loop-again c = digest-turn word-step _ _ _ (c .before .before .before .before .loop .i) (c .before .before .before .before .before .before .args .to) (c .before .before .before .before .before .before .args .words .now) (c .before .before .before .loop-test .taken) (c .before .before .if1 .left) refl (c .step-word .ensures) ∙ c .before .before .before .before .loop .inv
+loop-again c = digest-turn word-step (c .before .before .before .before .loop .digest) _ _ (c .before .before .before .before .loop .i) (c .before .before .before .before .before .before .args .to) (c .before .before .before .before .before .before .args .words .now) (c .before .before .before .loop-test .taken) (c .before .before .if1 .left) refl (c .step-word .ensures) ∙ c .before .before .before .before .loop .inv
 
 returns : tie.Need-returns Inv-loop μ-loop
 returns c = sym (ap (words-digest (c .before .loop .digest)) (part-done (c .before .loop .i) (c .before .before .before .args .to) (c .before .before .before .args .words .now) (c .loop-test .left))) ∙ c .before .loop .inv
