@@ -3,13 +3,14 @@ use mathlib.Core.Path.{_≡_, refl, sym, ap, _∙_}
 use mathlib.Core.Bool.{Bool, true, false, cond, _&&_}
 use mathlib.Core.List.{List, [], _∷_}
 use mathlib.Core.Logic.{_⊎_, ⊎-elim}
-use Prim.Native.Nat.{ℕ, _+_, _-_, _*_, _/_, _≤_, _<_, min}
+use Prim.Native.Nat.{ℕ, suc, _+_, _-_, _*_, _≤_, _<_, min}
 use native.Mathlib.Nat.{min-eq-left}
 use native.Mathlib.Omega.{arith}
-use lib.Dec.{leb}
+use lib.Dec.{eqb, leb}
 use borrow.Author.Tests.{le-leb, lt-leb, eq-eqb, ne-eqb}
-use lib.ListN.{length, drop, getD}
-use Rattle.vector_text.specs.Text.{part, appended, decimal-from, most-number, number-of-text, digest-step, bytes-digest, words-digest, before-byte, has-byte}
+use lib.ListN.{length, take, drop, getD, length-drop}
+use lib.Seq.{take-all}
+use Rattle.vector_text.specs.Text.{part, appended, decimal-from, most-number, number-of-text, digest-by, before-byte, behind-byte, has-byte}
 use Rattle.vector_text.specs.Putting.{le-or, part-next, drop-next, drop-done}
 
 -- Digits.
@@ -61,13 +62,8 @@ pub reads-done : (all : List ℕ) (n i : ℕ) → Reads all n (drop i all) → l
 reads-done all n i (h, k) l = sym (min-eq-left k) ∙ sym (ap (λ xs. min (decimal-from n xs) most-number) (drop-done i all l)) ∙ h
 
 -- Digests.
-pub bytes-turn : (d r v i to : ℕ) (xs : List ℕ) → i < to → i < length xs → v ≡ getD xs i 0 → r ≡ digest-step d v → bytes-digest r (part (i + 1) to xs) ≡ bytes-digest d (part i to xs)
-bytes-turn d r v i to xs h k f e = ap (λ m. bytes-digest m (part (i + 1) to xs)) (e ∙ ap (digest-step d) f) ∙ sym (ap (bytes-digest d) (part-next i to xs h k))
-
-pub words-turn : (d s r i to : ℕ) (xs : List ℕ) → i < to → i < length xs → s ≡ digest-step d (getD xs i 0) → r ≡ digest-step s (getD xs i 0 / 4294967296)
-    → words-digest r (part (i + 1) to xs) ≡ words-digest d (part i to xs)
-words-turn d s r i to xs h k f e =
-    ap (λ m. words-digest m (part (i + 1) to xs)) (e ∙ ap (λ m. digest-step m (getD xs i 0 / 4294967296)) f) ∙ sym (ap (words-digest d) (part-next i to xs h k))
+pub digest-turn : (add : ℕ → ℕ → ℕ) (d r v i to : ℕ) (xs : List ℕ) → i < to → i < length xs → v ≡ getD xs i 0 → r ≡ add d v → digest-by add r (part (i + 1) to xs) ≡ digest-by add d (part i to xs)
+digest-turn add d r v i to xs h k f e = ap (λ m. digest-by add m (part (i + 1) to xs)) (e ∙ ap (add d) f) ∙ sym (ap (digest-by add d) (part-next i to xs h k))
 
 -- The first byte of a kind.
 pub before-here : (stop : ℕ) (xs ys : List ℕ) (c : ℕ) → xs ≡ c ∷ ys → c ≡ stop → before-byte stop xs ≡ []
@@ -97,3 +93,32 @@ seek-next stop all i (h, k) l e = (omega arith, omega (arith, ap length (before-
 
 pub seek-done : (stop : ℕ) (all : List ℕ) (i : ℕ) → Seeks-byte stop all i → length all ≤ i → i ≡ length (before-byte stop all)
 seek-done stop all i (h, k) l = omega (arith, ap (λ xs. length (before-byte stop xs)) (drop-done i all l))
+
+-- Fields: what stands before the first byte of a kind, and what stands behind it.
+field-before : (stop : ℕ) (xs : List ℕ) → take (length (before-byte stop xs)) xs ≡ before-byte stop xs
+field-before stop [] = refl
+field-before stop (c ∷ cs) = cases (field-before stop cs) (eqb c stop) where
+  cases : take (length (before-byte stop cs)) cs ≡ before-byte stop cs
+      → (b : Bool) → take (length (cond b [] (c ∷ before-byte stop cs))) (c ∷ cs) ≡ cond b [] (c ∷ before-byte stop cs)
+  cases h true = refl
+  cases h false = ap (λ ys. c ∷ ys) h
+
+pub take-before : (stop : ℕ) (xs : List ℕ) (end : ℕ) → end ≡ length (before-byte stop xs) → take end xs ≡ before-byte stop xs
+take-before stop xs end e = ap (λ k. take k xs) e ∙ field-before stop xs
+
+field-behind : (stop : ℕ) (xs : List ℕ) → drop (min (length (before-byte stop xs) + 1) (length xs)) xs ≡ behind-byte stop xs
+field-behind stop [] = refl
+field-behind stop (c ∷ cs) = cases (field-behind stop cs) (eqb c stop) where
+  cases : drop (min (length (before-byte stop cs) + 1) (length cs)) cs ≡ behind-byte stop cs
+      → (b : Bool) → drop (min (length (cond b [] (c ∷ before-byte stop cs)) + 1) (suc (length cs))) (c ∷ cs) ≡ cond b cs (behind-byte stop cs)
+  cases h true =
+      let e : min (0 + 1) (suc (length cs)) ≡ 1 = omega arith in
+      ap (λ k. drop k (c ∷ cs)) e
+  cases h false =
+      let e : min (suc (length (before-byte stop cs)) + 1) (suc (length cs)) ≡ suc (min (length (before-byte stop cs) + 1) (length cs)) = omega arith in
+      ap (λ k. drop k (c ∷ cs)) e ∙ h
+
+pub drop-behind : (stop : ℕ) (xs : List ℕ) (end start : ℕ) → end ≡ length (before-byte stop xs) → start ≡ min (end + 1) (length xs) → take (length xs - start) (drop start xs) ≡ behind-byte stop xs
+drop-behind stop xs end start e f =
+    let g : start ≡ min (length (before-byte stop xs) + 1) (length xs) = omega arith in
+    take-all (length xs - start) (drop start xs) (omega (arith, length-drop start xs)) ∙ ap (λ k. drop k xs) g ∙ field-behind stop xs

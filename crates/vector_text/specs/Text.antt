@@ -81,18 +81,24 @@ number-of-text cs = min (decimal-from 0 cs) most-number
 unfoldable pub digest-step : (digest value : ℕ) → ℕ
 digest-step d v = (d % 4294967291 * 65599 + v % 4294967296) % 4294967291
 
+-- cells are taken in one after the other, each by `add`
+abbrev pub digest-by : (add : ℕ → ℕ → ℕ) → (digest : ℕ) → List ℕ → ℕ
+digest-by add d [] = d
+digest-by add d (x ∷ xs) = digest-by add (add d x) xs
+
 abbrev pub bytes-digest : (digest : ℕ) → List ℕ → ℕ
-bytes-digest d [] = d
-bytes-digest d (b ∷ bs) = bytes-digest (digest-step d b) bs
+bytes-digest = digest-by digest-step
 
 -- a tab and the first cells: up to 64 whole, more as # and a digest that starts from 1
 unfoldable pub shown-text : (count : ℕ) → List ℕ → List ℕ
 shown-text n xs = 9 ∷ cond (leb n 64) (hex-text (part 0 n xs)) (parted-text 35 (bytes-digest 1 (part 0 n xs)))
 
 -- a word counts as two halves, the low one first
+abbrev pub word-step : (digest word : ℕ) → ℕ
+word-step d w = digest-step (digest-step d w) (w / 4294967296)
+
 abbrev pub words-digest : (digest : ℕ) → List ℕ → ℕ
-words-digest d [] = d
-words-digest d (w ∷ ws) = words-digest (digest-step (digest-step d w) (w / 4294967296)) ws
+words-digest = digest-by word-step
 
 -- what stands before the first byte `stop`, and whether there is one
 abbrev pub before-byte : (stop : ℕ) → List ℕ → List ℕ
@@ -102,6 +108,11 @@ before-byte stop (c ∷ cs) = cond (eqb c stop) [] (c ∷ before-byte stop cs)
 abbrev pub has-byte : (stop : ℕ) → List ℕ → Bool
 has-byte stop [] = false
 has-byte stop (c ∷ cs) = cond (eqb c stop) true (has-byte stop cs)
+
+-- what stands behind it, nothing where there is none
+abbrev pub behind-byte : (stop : ℕ) → List ℕ → List ℕ
+behind-byte stop [] = []
+behind-byte stop (c ∷ cs) = cond (eqb c stop) cs (behind-byte stop cs)
 
 -- Lines: the input comes in chunks, and `line` holds the first bytes of the line that is being read. A size one above
 -- the line's length marks a line that does not fit.

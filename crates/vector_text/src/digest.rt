@@ -1,7 +1,7 @@
 // Digests of cells: each value below 2^32 in turn is added to the digest before it, multiplied by 65,599, modulo the
 // largest prime below 2^32.
 ghost use mathlib.Core.Path.{_≡_};
-ghost use Rattle.vector_text.specs.Text.{part, digest-step, bytes-digest, words-digest};
+ghost use Rattle.vector_text.specs.Text.{part, digest-step, word-step, bytes-digest, words-digest};
 
 const PRIME: u64 = 4294967291;
 
@@ -16,7 +16,14 @@ fn step(digest: u64, value: u64) -> u64
     (digest % PRIME * 65599 + value % HALF) % PRIME
 }
 
-// Goes on from `start` over the words from position `from` to before `to`, each as two halves, the low one first.
+// A word counts as two halves, the low one first.
+fn step_word(digest: u64, word: u64) -> u64
+    ensures { λ r. ⌜ r ≡ word-step digest word ⌝ }
+{
+    step(step(digest, word), word / HALF)
+}
+
+// Goes on from `start` over the words from position `from` to before `to`.
 pub fn of_words(start: u64, words: &[u64], from: usize, to: usize) -> u64
     ensures { λ r. ⌜ r ≡ words-digest start (part from to (now (words .entry))) ⌝ }
 {
@@ -26,8 +33,7 @@ pub fn of_words(start: u64, words: &[u64], from: usize, to: usize) -> u64
         if words.len() <= i {
             break;
         }
-        let word = words[i];
-        digest = step(step(digest, word), word / HALF);
+        digest = step_word(digest, words[i]);
         i += 1;
     }
     digest

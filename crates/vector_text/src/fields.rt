@@ -3,10 +3,11 @@ ghost use mathlib.Core.Path.{_≡_};
 ghost use Prim.Native.Nat.{min};
 ghost use lib.ListN.{length};
 ghost use Rattle.io.specs.Counts.{Counts};
-ghost use Rattle.vector_text.specs.Text.{before-byte, appended, most-number, number-of-text};
+ghost use Rattle.vector_text.specs.Text.{before-byte, behind-byte, appended, most-number, number-of-text};
+use crate::put::least;
 
 // The position of the first space, the line's length where there is none.
-pub fn field_end(line: &[u8]) -> usize
+fn field_end(line: &[u8]) -> usize
     ensures { λ r. ⌜ r ≡ length (before-byte 32 (now (line .entry))) ⌝ }
     ensures { λ r. ⌜ Counts r (now (line .entry)) ⌝ }
 {
@@ -18,6 +19,21 @@ pub fn field_end(line: &[u8]) -> usize
         i += 1;
     }
     i
+}
+
+pub fn field(line: &[u8]) -> &[u8]
+    ensures { λ r. ⌜ now r ≡ before-byte 32 (now (line .entry)) ⌝ }
+{
+    let end = field_end(line);
+    &line[..end]
+}
+
+// What stands behind the first field and its space: nothing where there is no space.
+pub fn rest(line: &[u8]) -> &[u8]
+    ensures { λ r. ⌜ now r ≡ behind-byte 32 (now (line .entry)) ⌝ }
+{
+    let start = least(field_end(line) + 1, line.len());
+    &line[start..]
 }
 
 const MOST: u64 = 4294967295;

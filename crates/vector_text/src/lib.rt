@@ -1,4 +1,4 @@
-// What the vector programs share: the lines of the input, the fields of a case's line, and answers as text.
+// Text of the vectors: the lines of the input, the fields of a case's line, and answers as text.
 mod cells; // cells.rt: bytes shown whole or as a digest
 mod digest; // digest.rt: digests of cells
 mod fields; // fields.rt: the fields of a case's line
@@ -10,13 +10,15 @@ pub use cells::put_shown;
 pub use digest::START;
 pub use digest::of_bytes;
 pub use digest::of_words;
-pub use fields::field_end;
+pub use fields::field;
 pub use fields::number;
+pub use fields::rest;
 pub use hex::decode;
 pub use hex::put_hex;
 pub use lines::Input;
 pub use lines::advance;
 pub use lines::no_input;
+pub use put::least;
 pub use put::put_answer;
 pub use put::put_byte;
 pub use put::put_bytes;

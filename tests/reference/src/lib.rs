@@ -19,5 +19,6 @@ pub mod table;
 pub mod tapes;
 pub mod two_pass;
 pub mod value;
+pub mod vectors;
 pub mod visits;
 pub mod walk;

@@ -5,6 +5,9 @@
 mod by_hand;
 pub mod mutated;
 
+use crate::hex;
+use crate::load::load;
+
 pub struct Case {
     pub name: String,
     pub text: Vec<u8>,
@@ -18,4 +21,26 @@ pub fn all() -> Vec<Case> {
     cases.extend(mutated::changed_trees());
     cases.extend(mutated::good_patterns());
     cases
+}
+
+impl Case {
+    /// The line that the program reads.
+    pub fn line(&self) -> String {
+        format!("l {}", hex::of_bytes(&self.text))
+    }
+
+    /// Number and value, and after a success the nodes, a line each.
+    pub fn answer(&self) -> Vec<String> {
+        match load(&self.text) {
+            Err(refusal) => vec![format!("{}\t{}", refusal.number, refusal.value)],
+            Ok(table) => {
+                let mut lines = vec![format!("0\t{}", table.count)];
+                for node in table.lines() {
+                    let kind = node.kind.letter();
+                    lines.push(format!("{kind}\t{}\t{}\t{}", node.account, node.x, node.y));
+                }
+                lines
+            }
+        }
+    }
 }

@@ -105,7 +105,7 @@ impl Case {
             bytes,
         } = self.lent;
         let count = self.code.count;
-        format!("{text} {code} {count} {letters} {words} {bytes}")
+        format!("c {text} {code} {count} {letters} {words} {bytes}")
     }
 
     /// A line for spelling, one for totalling and one for settling.

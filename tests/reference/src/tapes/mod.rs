@@ -72,7 +72,7 @@ impl Case {
     /// The line that the program reads.
     pub fn line(&self) -> String {
         let (text, tape) = (hex::of_bytes(&self.text), hex::of_bytes(&self.tape));
-        format!("{text} {tape} {} {}", self.words, self.bytes)
+        format!("p {text} {tape} {} {}", self.words, self.bytes)
     }
 
     /// Number, value, digest of the words lent, code bytes lent, digest of

@@ -32,7 +32,7 @@ impl Case {
     /// The line that the program reads.
     pub fn line(&self) -> String {
         format!(
-            "{} {} {} {} {} {}",
+            "s {} {} {} {} {} {}",
             hex::of_bytes(&self.text),
             hex::of_bytes(&self.tape),
             hex::of_bytes(&self.code.bytes),

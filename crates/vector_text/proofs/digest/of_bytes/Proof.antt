@@ -1,9 +1,9 @@
 -- `vector_text::digest::of_bytes` meets its contract. The invariant: the digest goes on over what is left to the digest of all; the measure is what is left of the bytes asked for. Assumes nothing.
 use mathlib.Core.Path.{_≡_, refl, sym, ap, _∙_}
 use Prim.Native.Nat.{_-_}
-use Rattle.vector_text.specs.Text.{part, bytes-digest}
+use Rattle.vector_text.specs.Text.{part, digest-step, bytes-digest}
 use Rattle.vector_text.specs.Putting.{part-done, part-over}
-use Rattle.vector_text.specs.Folds.{bytes-turn}
+use Rattle.vector_text.specs.Folds.{digest-turn}
 use borrow.Author.Needs.{needs}
 use Rattle.vector_text.proofs.digest.of_bytes.Statement.{statement}
 use Rattle.vector_text.proofs.digest.of_bytes.Tie as tie
@@ -33,7 +33,7 @@ loop-less : tie.Need-loop-less Inv-loop μ-loop
 loop-less c = search needs
 
 loop-again : tie.Need-loop-again Inv-loop μ-loop
-loop-again c = bytes-turn _ _ _ (c .before .before .before .before .before .loop .i) (c .before .before .before .before .before .before .before .args .to) (c .before .before .before .before .before .before .before .args .bytes .now) (c .before .before .before .before .loop-test .taken) (c .before .before .before .if1 .left) (c .before .wide .ensures) (c .step .ensures) ∙ c .before .before .before .before .before .loop .inv
+loop-again c = digest-turn digest-step (c .before .before .before .before .before .loop .digest) _ _ (c .before .before .before .before .before .loop .i) (c .before .before .before .before .before .before .before .args .to) (c .before .before .before .before .before .before .before .args .bytes .now) (c .before .before .before .before .loop-test .taken) (c .before .before .before .if1 .left) (c .before .wide .ensures) (c .step .ensures) ∙ c .before .before .before .before .before .loop .inv
 
 returns : tie.Need-returns Inv-loop μ-loop
 returns c = sym (ap (bytes-digest (c .before .loop .digest)) (part-done (c .before .loop .i) (c .before .before .before .args .to) (c .before .before .before .args .bytes .now) (c .loop-test .left))) ∙ c .before .loop .inv

@@ -1,9 +1,9 @@
 -- `vector_text::digest::of_words` meets its contract. The invariant: the digest goes on over what is left to the digest of all; the measure is what is left of the words asked for. Assumes nothing.
 use mathlib.Core.Path.{_≡_, refl, sym, ap, _∙_}
 use Prim.Native.Nat.{_-_}
-use Rattle.vector_text.specs.Text.{part, words-digest}
+use Rattle.vector_text.specs.Text.{part, word-step, words-digest}
 use Rattle.vector_text.specs.Putting.{part-done, part-over}
-use Rattle.vector_text.specs.Folds.{words-turn}
+use Rattle.vector_text.specs.Folds.{digest-turn}
 use borrow.Author.Needs.{needs}
 use Rattle.vector_text.proofs.digest.of_words.Statement.{statement}
 use Rattle.vector_text.proofs.digest.of_words.Tie as tie
@@ -17,17 +17,14 @@ abbrev μ-loop : tie.MeasureT-loop
 loop-holds : tie.Need-loop-holds Inv-loop μ-loop
 loop-holds c = refl
 
-mul-word : tie.Need-mul-word Inv-loop μ-loop
-mul-word c = search needs
+mul-step-word : tie.Need-mul-step-word Inv-loop μ-loop
+mul-step-word c = search needs
 
-shared-slice-read-word : tie.Need-shared-slice-read-word Inv-loop μ-loop
-shared-slice-read-word c = search needs
+shared-slice-read-step-word : tie.Need-shared-slice-read-step-word Inv-loop μ-loop
+shared-slice-read-step-word c = search needs
 
-step-requires : tie.Need-step-requires Inv-loop μ-loop
-step-requires c κs = search needs
-
-step-requires-2 : tie.Need-step-requires-2 Inv-loop μ-loop
-step-requires-2 c κs = search needs
+step-word-requires : tie.Need-step-word-requires Inv-loop μ-loop
+step-word-requires c κs = search needs
 
 add-i : tie.Need-add-i Inv-loop μ-loop
 add-i c = search needs
@@ -36,7 +33,7 @@ loop-less : tie.Need-loop-less Inv-loop μ-loop
 loop-less c = search needs
 
 loop-again : tie.Need-loop-again Inv-loop μ-loop
-loop-again c = words-turn _ _ _ (c .before .before .before .before .before .loop .i) (c .before .before .before .before .before .before .before .args .to) (c .before .before .before .before .before .before .before .args .words .now) (c .before .before .before .before .loop-test .taken) (c .before .before .before .if1 .left) (c .before .step .ensures) (c .step2 .ensures) ∙ c .before .before .before .before .before .loop .inv
+loop-again c = digest-turn word-step (c .before .before .before .before .loop .digest) _ _ (c .before .before .before .before .loop .i) (c .before .before .before .before .before .before .args .to) (c .before .before .before .before .before .before .args .words .now) (c .before .before .before .loop-test .taken) (c .before .before .if1 .left) refl (c .step-word .ensures) ∙ c .before .before .before .before .loop .inv
 
 returns : tie.Need-returns Inv-loop μ-loop
 returns c = sym (ap (words-digest (c .before .loop .digest)) (part-done (c .before .loop .i) (c .before .before .before .args .to) (c .before .before .before .args .words .now) (c .loop-test .left))) ∙ c .before .loop .inv
@@ -51,10 +48,9 @@ of-words-spec =
     Inv-loop
     μ-loop
     loop-holds
-    mul-word
-    shared-slice-read-word
-    step-requires
-    step-requires-2
+    mul-step-word
+    shared-slice-read-step-word
+    step-word-requires
     add-i
     loop-less
     loop-again

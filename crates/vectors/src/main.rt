@@ -1,0 +1,91 @@
+// Runs each case of standard input, one a line, and prints what the services answer and leave in the lent buffers. The
+// first field of a line is one letter, the case's kind: `l` loads a text, `p` reads a tape, `c` spells, totals and settles
+// a code, `s` shows a visit's piece. The pattern's text in hexadecimal comes next; the fields behind it stand in the
+// kind's module. Fields are parted by spaces. Byte 10 ends each line of the input; what stands after the last one is
+// left out.
+mod code_cases; // code_cases.rt: spelling, totalling and settling a code
+mod load_cases; // load_cases.rt: loading a text
+mod parse_cases; // parse_cases.rt: reading a tape
+mod report; // report.rt: what more than one kind says
+mod span_cases; // span_cases.rt: showing a visit's piece
+
+use code_cases::run_code;
+use load_cases::print_loaded;
+use loading::Loaded;
+use loading::load;
+use parse_cases::run_parse;
+use report::say_bad;
+use span_cases::run_span;
+use vector_text::Input;
+use vector_text::advance;
+use vector_text::decode;
+use vector_text::field;
+use vector_text::no_input;
+use vector_text::rest;
+
+// Bytes held of a line, and of a pattern's text.
+const MAX_LINE: usize = 20480;
+
+const MAX_TEXT: usize = 3072;
+
+// `line` is what stands behind the pattern's text.
+fn run_kind(kind: u8, loaded: Loaded, line: &[u8]) {
+    let p = loaded.pattern;
+    match kind {
+        b'l' => print_loaded(loaded),
+        b'p' => run_parse(p, line),
+        b'c' => run_code(p, line),
+        b's' => run_span(p, line),
+        _ => say_bad(),
+    }
+}
+
+fn run_case(line: &[u8]) {
+    if line.len() == 0 {
+        say_bad();
+        return;
+    }
+    let fields = rest(line);
+    let digits = field(fields);
+    let mut text = [0u8; MAX_TEXT];
+    let size = decode(digits, &mut text);
+    if size + size != digits.len() {
+        say_bad();
+        return;
+    }
+    run_kind(line[0], load(&text[..size]), rest(fields));
+}
+
+// Runs the line that is complete, if one is. A size above that of `line` marks one that did not fit.
+fn run_line(line: &[u8], input: Input) {
+    if !input.complete {
+        return;
+    }
+    let size = input.size;
+    if line.len() < size {
+        say_bad();
+        return;
+    }
+    run_case(&line[..size]);
+}
+
+// Nothing says that the input ends, so the loop counts its turns down from a number that no run uses up.
+fn run_all(line: &mut [u8], chunk: &mut [u8]) {
+    let mut input = no_input();
+    let mut turns = u64::MAX;
+    while turns > 0 {
+        let next = advance(line, chunk, input);
+        if next.ended {
+            return;
+        }
+        run_line(line, next);
+        input = next;
+        turns -= 1;
+    }
+}
+
+fn main() {
+    let mut line = [0u8; MAX_LINE];
+    let mut chunk = io::buffer();
+    run_all(&mut line, &mut chunk);
+}
