@@ -5,6 +5,7 @@ use mathlib.Core.List.{List, [], _∷_, _++_}
 use Prim.Native.Nat.{ℕ, zero, suc, _+_, _*_, _≤_, _<_}
 use native.Mathlib.Nat.{add-zero}
 use native.Mathlib.Omega.{arith}
+use native.Mathlib.Decide.{decLt}
 use borrow.Author.Tests.{lt-ltb, le-ltb}
 use lib.Dec.{ltb}
 use lib.ListN.{length, getD}
@@ -22,7 +23,7 @@ use Rattle.semantics.specs.Value.{nonempty}
 use Rattle.masks.specs.Nodes.{index}
 use Rattle.sweep.specs.declared.Spot.{Spot}
 use Rattle.sweep.specs.declared.Swept.{Swept}
-use Rattle.sweep.specs.Sweeping.{put, Wrote, Can-sweep, leaf-tree, Leaf-ready, Leaf-swept, Ready, is-choice, Led, Moves, Advanced}
+use Rattle.sweep.specs.Sweeping.{put, Wrote, Can-sweep, leaf-tree, Leaf-ready, Leaf-swept, Ready, Swept-all, is-choice, Led, Moves, Advanced}
 use Rattle.sweep.specs.SweepLaws.{wrote-then, wrote-put, wrote-same, wrote-none, put-long, Seq-way, seq-way, Side-way, left-way, right-way, Round-way, round-way, stop-way}
 
 pub index-made : (m : Label) (f : ℕ → Tree) (n : Node) → index (made m f n) ≡ m .index
@@ -282,29 +283,43 @@ module _ (kind first second words tape : List ℕ) (l i : ℕ) (taken : Bool) (a
             as-long = ap length ey ∙ put-long code at (not left ∷ []);
           }
 
-    -- a leaf in front of a sequence is read
+    -- the first part of a sequence is read
     module _ (p q : ℕ) (en : n ≡ Sequence p q) where
       pub pass-lower : (p < l) × (q < l)
       pass-lower = subst (λ k. Below l k) en (line-lower good l h n e)
 
+      pub moves-first : (ys : List ℕ) (one : Swept) → Swept-all kind first second words tape p i taken at code ys one → length ys ≡ length code → (flag : Bool) → flag ≡ (taken || ltb i (one .position))
+          → Moves kind first second words tape l i taken at code ys (record { node = q; position = one .position; taken = flag; at = one .at })
+      moves-first ys one f long flag ef = record {
+        down = omega (arith, pass-lower .1);
+        falls = λ c. pass-lower .1;
+        led = λ s.
+            let w = f (seq-first words tape good l h n e i taken at p q en s) in
+            record {
+              ready = seq-second words tape good l h n e i taken at p q en s code ys one w flag ef;
+              done = λ zs r v. seq-done words tape good l h n e i taken at p q en s code ys one w flag ef zs r v;
+              on = omega (arith, w .position-is);
+            };
+        as-long = long;
+      }
+
+      -- a leaf needs no call
       module _ (m : Node) (em : m ≡ node-in kind first second p) (x : Leaf) (ex : m ≡ Leaf-node x) where
         pub pass-ready : Ready kind first second words tape l i taken at → Leaf-ready x tape i at
         pass-ready s = leaf-ready words tape good p (omega (arith, pass-lower .0)) m em i taken at x ex (seq-first words tape good l h n e i taken at p q en s)
 
         module _ (ys : List ℕ) (one : Swept) (f : Leaf-swept x tape i at code ys one) (long : length ys ≡ length code) (flag : Bool) (ef : flag ≡ (taken || ltb i (one .position))) where
           pub moves-leaf : Moves kind first second words tape l i taken at code ys (record { node = q; position = one .position; taken = flag; at = one .at })
-          moves-leaf = record {
-            down = omega (arith, pass-lower .1);
-            falls = λ c. pass-lower .1;
-            led = λ s.
-                let w = leaf-done words tape good p (omega (arith, pass-lower .0)) m em i taken at x ex code ys one f (seq-first words tape good l h n e i taken at p q en s) in
-                record {
-                  ready = seq-second words tape good l h n e i taken at p q en s code ys one w flag ef;
-                  done = λ zs r v. seq-done words tape good l h n e i taken at p q en s code ys one w flag ef zs r v;
-                  on = omega (arith, w .position-is);
-                };
-            as-long = long;
-          }
+          moves-leaf = moves-first ys one (λ s. leaf-done words tape good p (omega (arith, pass-lower .0)) m em i taken at x ex code ys one f s) long flag ef
+
+-- all moves together are one
+pub advanced-moves : {kind first second words tape : List ℕ} {l i : ℕ} {taken : Bool} {at : ℕ} {xs ys : List ℕ} {r : Spot} → Advanced kind first second words tape l i taken at xs ys r
+    → Moves kind first second words tape l i taken at xs ys r
+advanced-moves {kind} {first} {second} {l = l} {r = r} a = record { down = a .down; falls = λ c. go c (decLt (r .node) l); led = a .led; as-long = a .as-long }
+  where
+    go : is-choice (node-in kind first second l) ≡ true → Dec (r .node < l) → r .node < l
+    go c (yes h) = h
+    go c (no h) = let e : r .node ≡ l = omega (arith, a .down) in absurd (true≢false (sym c ∙ ap (λ k. is-choice (node-in kind first second k)) (sym e) ∙ a .no-choice))
 
 pub moves-at : {kind first second words tape : List ℕ} {l i : ℕ} {taken : Bool} {at : ℕ} {xs ys : List ℕ} {r : Spot} (s : Spot) → r ≡ s → Moves kind first second words tape l i taken at xs ys s
     → Moves kind first second words tape l i taken at xs ys r

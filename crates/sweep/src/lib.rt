@@ -6,7 +6,8 @@ ghost use lib.Dec.{ltb};
 ghost use Prim.Native.Nat.{_+_, _*_, _≤_, _<_};
 ghost use lib.ListN.{length, getD};
 ghost use Rattle.bits.specs.Bits.{bit, test-bit, bits-of};
-ghost use Rattle.columns.specs.Columns.{Good};
+ghost use Rattle.syntax.specs.declared.Node.the-variants.{Star};
+ghost use Rattle.columns.specs.Columns.{Good, node-in};
 ghost use Rattle.sweep.specs.Sweeping.{put, Leaf-ready, Leaf-swept, Ready, Swept-all, Moves, Advanced};
 use bits::set_bit;
 use bits::set_byte;
@@ -183,8 +184,58 @@ fn advance(
     }
 }
 
-// Reads node l from position i on and writes its bits from bit `at` on. `taken` is the flag. Rounds are a loop, so that calls go no
-// deeper than the tree.
+// Reads the rounds of star `l`, whose child is p, from position i on, and writes their bits from bit `at` on. Rounds are a loop, so that
+// calls go no deeper than the tree.
+fn sweep_rounds(
+    kind: &[u8; 64],
+    first: &[u8; 64],
+    second: &[u8; 64],
+    words: &[u64],
+    tape: &[u8],
+    l: usize,
+    p: u8,
+    i: usize,
+    taken: bool,
+    code: &mut [u8],
+    at: u32,
+) -> Swept
+    requires { ⌜ Good (now kind) (now first) (now second) ⌝ }
+    requires { ⌜ (l < 64) × (node-in (now kind) (now first) (now second) l ≡ Star p) ⌝ }
+    requires { ⌜ Ready (now kind) (now first) (now second) (now words) (now tape) l i taken at ⌝ }
+    ensures { λ r.
+        ⌜ Swept-all (now (kind .entry)) (now (first .entry)) (now (second .entry)) (now (words .entry)) (now (tape .entry)) l i taken at (now (code .entry)) (now (code .exit)) r ⌝ }
+{
+    let child = p as usize;
+    let mut j = i;
+    let mut bit = at;
+    loop {
+        if !is_open(words, j, false, child) {
+            put_bit(code, bit, true);
+            return Swept {
+                position: j,
+                at: bit + 1,
+            };
+        }
+        put_bit(code, bit, false);
+        let one = sweep(
+            kind,
+            first,
+            second,
+            words,
+            tape,
+            child,
+            j,
+            false,
+            code,
+            bit + 1,
+        );
+        j = one.position;
+        bit = one.at;
+    }
+}
+
+// Reads node l from position i on and writes its bits from bit `at` on. `taken` is the flag. The first part of a sequence takes a call;
+// the second one goes on in the loop, so that a long sequence is no deep one.
 pub fn sweep(
     kind: &[u8; 64],
     first: &[u8; 64],
@@ -203,54 +254,41 @@ pub fn sweep(
     ensures { λ r.
         ⌜ Swept-all (now (kind .entry)) (now (first .entry)) (now (second .entry)) (now (words .entry)) (now (tape .entry)) l i taken at (now (code .entry)) (now (code .exit)) r ⌝ }
 {
-    let spot = advance(kind, first, second, words, tape, l, i, taken, code, at);
-    let node = node_at(kind, first, second, spot.node);
-    match node {
-        Node::Leaf(leaf) => sweep_leaf(leaf, tape, spot.position, code, spot.at),
-        Node::Sequence(p, q) => {
-            let one = sweep(
-                kind,
-                first,
-                second,
-                words,
-                tape,
-                p as usize,
-                spot.position,
-                spot.taken,
-                code,
-                spot.at,
-            );
-            let flag = flag_behind(spot.taken, spot.position, one.position);
-            sweep(
-                kind,
-                first,
-                second,
-                words,
-                tape,
-                q as usize,
-                one.position,
-                flag,
-                code,
-                one.at,
-            )
-        }
-        // `advance` leaves no alternative
-        Node::Alternative(_, _) => Swept {
-            position: spot.position,
-            at: spot.at,
-        },
-        Node::Star(p) => {
-            let mut j = spot.position;
-            let mut bit = spot.at;
-            loop {
-                if !is_open(words, j, false, p as usize) {
-                    put_bit(code, bit, true);
-                    return Swept {
-                        position: j,
-                        at: bit + 1,
-                    };
-                }
-                put_bit(code, bit, false);
+    let mut here = l;
+    let mut j = i;
+    let mut flag = taken;
+    let mut bit = at;
+    loop {
+        let spot = advance(kind, first, second, words, tape, here, j, flag, code, bit);
+        let k = spot.node;
+        let node = node_at(kind, first, second, k);
+        match node {
+            Node::Leaf(leaf) => {
+                return sweep_leaf(leaf, tape, spot.position, code, spot.at);
+            }
+            Node::Star(p) => {
+                return sweep_rounds(
+                    kind,
+                    first,
+                    second,
+                    words,
+                    tape,
+                    k,
+                    p,
+                    spot.position,
+                    spot.taken,
+                    code,
+                    spot.at,
+                );
+            }
+            // `advance` leaves no alternative
+            Node::Alternative(_, _) => {
+                return Swept {
+                    position: spot.position,
+                    at: spot.at,
+                };
+            }
+            Node::Sequence(p, q) => {
                 let one = sweep(
                     kind,
                     first,
@@ -258,11 +296,13 @@ pub fn sweep(
                     words,
                     tape,
                     p as usize,
-                    j,
-                    false,
+                    spot.position,
+                    spot.taken,
                     code,
-                    bit + 1,
+                    spot.at,
                 );
+                flag = flag_behind(spot.taken, spot.position, one.position);
+                here = q as usize;
                 j = one.position;
                 bit = one.at;
             }
