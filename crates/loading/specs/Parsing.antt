@@ -1,32 +1,20 @@
 -- Laws of parsing: what a kind and its fields say, one law for each way of the code.
-use mathlib.Core.Path.{_≡_, refl, sym, ap, _∙_}
+use mathlib.Core.Path.{_≡_, refl, sym, ap}
 use mathlib.Core.Bool.{Bool, true, false, _&&_, cond}
-use mathlib.Core.List.{List, [], _∷_}
+use mathlib.Core.List.{List}
 use mathlib.Core.Option.{Option, none, some}
 use Prim.Native.Nat.{ℕ, _≤_, _<_}
 use native.Mathlib.Omega.{arith}
-use borrow.Author.Tests.{eq-eqb, ne-eqb, lt-ltb, le-ltb, le-leb, lt-leb, leb-true}
-use lib.Dec.{eqb, ltb, leb}
+use borrow.Author.Tests.{eq-eqb, ne-eqb, lt-ltb, le-ltb, le-leb, lt-leb}
+use lib.Dec.{eqb, ltb}
 use Rattle.syntax.specs.declared.Leaf.the-variants.{Letter, Range}
 use Rattle.syntax.specs.declared.Node.{Node}
 use Rattle.syntax.specs.declared.Node.the-variants.{Leaf as Leaf-node, Sequence, Alternative, Star}
-use Rattle.loading.specs.declared.scan.Parsed.{Parsed}
 use Rattle.loading.specs.declared.scan.Parsed.the-variants.{Node as Parsed-node, Fault as No-node}
 use Rattle.syntax.specs.Letter.{is-letter}
+use Rattle.syntax.specs.LetterLaws.{letter-small}
 use Rattle.loading.specs.Text.{place, single, when, node-of-one, range-of, parts-of, node-of-two}
 use Rattle.loading.specs.Scans.{parsed}
-
--- a letter fits a byte
-pub letter-small : (c : ℕ) → is-letter c ≡ true → c < 256
-unfolding is-letter
-letter-small c = go (leb 33 c)
-  where
-    go : (b : Bool) → (b && leb c 126) ≡ true → c < 256
-    go true h = omega (arith, leb-true c 126 h)
-    go false h = let z : _≡_ {A = Bool} false true = h in absurd (bad z)
-      where
-        bad : _≡_ {A = Bool} false true → ⊥
-        bad e = let n : _≡_ {A = ℕ} 0 1 = ap (λ x. cond x 1 0) e in omega arith
 
 pub big-no-letter : (c : ℕ) → 255 < c → is-letter c ≡ false
 big-no-letter c h = go (is-letter c) refl

@@ -2,23 +2,16 @@
 use mathlib.Core.Path.{_≡_, _∙_}
 use mathlib.Core.Bool.{Bool, true, false}
 use mathlib.Core.List.{List}
-use Prim.Native.Nat.{ℕ, _<_}
+use Prim.Native.Nat.{ℕ}
 use native.Mathlib.Omega.{arith}
-use borrow.Author.Tests.{leb-true}
-use lib.Dec.{leb}
 use lib.ListN.{length, replicate, length-replicate, getD-replicate}
 use Rattle.syntax.specs.declared.Pattern.{Pattern}
-use Rattle.syntax.specs.Letter.{is-letter}
+use Rattle.syntax.specs.LetterLaws.{letter-below}
 use Rattle.syntax.specs.TreeLaws.{Rules}
 use Rattle.bits.specs.Bits.{word-of}
-use Rattle.semantics.specs.Basics.{and-snd}
 use Rattle.masks.specs.Fronts.{Fronts, follow-at}
 use Rattle.masks.specs.Follows.{Down, down-end, followed-of}
 use Rattle.masks.specs.Masks.{Filled, row, comes-to-end, column, column-says, row-ends, line-takers, line-takers-are, Masks-of}
-
-pub letter-small : (c : ℕ) → is-letter c ≡ true → c < 127
-unfolding is-letter
-letter-small c h = omega (arith, leb-true c 126 (and-snd (leb 33 c) (leb c 126) h))
 
 -- arrays in which nothing is marked, and room for the followers and the leaves that take a letter
 pub record Blank (zs os fs ks : List ℕ) : Type 0 where
@@ -39,6 +32,6 @@ masks-made p r xs ns ss bs es cs ds ks e u d z o k w = record {
   zeros = λ x h. z .cells x h ∙ column-says p r xs ns ss bs es u d false x;
   ones = λ x h. o .cells x h ∙ column-says p r xs ns ss bs es u d true x;
   follows = λ x h. followed-of p r x (follow-at ss bs es x) h (down-end p r ss bs es d x h);
-  letters = λ c h. k .cells c (omega (arith, letter-small c h)) ∙ line-takers-are p r c;
+  letters = λ c h. k .cells c (omega (arith, letter-below c h)) ∙ line-takers-are p r c;
   ends = w ∙ row-ends p r xs ns ss bs es u d;
 }

@@ -18,6 +18,7 @@ use Rattle.syntax.specs.declared.Node.{Node}
 use Rattle.syntax.specs.declared.Node.the-variants.{Leaf as Leaf-node}
 use Rattle.syntax.specs.declared.Pattern.{Pattern}
 use Rattle.syntax.specs.Letter.{is-letter, in-range}
+use Rattle.syntax.specs.LetterLaws.{letter-below}
 use Rattle.syntax.specs.Table.{leaf-good, node-good, line-good, line-at, node-at}
 use Rattle.syntax.specs.TreeLaws.{Rules}
 use Rattle.bits.specs.Bits.{bit, test-bit, word-of}
@@ -230,15 +231,11 @@ leaf-letter leaf i before now a e m = rw e (marked-same (between a a) (leaf-take
 pub leaf-range : (leaf : Leaf) (i : ℕ) (before now : List ℕ) (a b : ℕ) → leaf-good leaf ≡ true → leaf ≡ Range a b → Marked (between a b) i before now → Marked (leaf-takes leaf) i before now
 leaf-range leaf i before now a b g e m = rw e (marked-same (between a b) (leaf-takes (Range a b)) i before now (λ c. range-between a b c (rw e at g)) m)
 
-letter-small : (c : ℕ) → is-letter c ≡ true → c < 128
-unfolding is-letter
-letter-small c h = omega (arith, leb-true c 126 (and-snd (leb 33 c) (leb c 126) h))
-
 pub letter-cell : (leaf : Leaf) (a : ℕ) → leaf-good leaf ≡ true → leaf ≡ Letter a → a < 128
-letter-cell leaf a g e = letter-small a (rw e at g)
+letter-cell leaf a g e = let h : is-letter a ≡ true = rw e at g in omega (arith, letter-below a h)
 
 pub range-cell : (leaf : Leaf) (a b : ℕ) → leaf-good leaf ≡ true → leaf ≡ Range a b → b < 128
-range-cell leaf a b g e = letter-small b (and-snd (is-letter a) (is-letter b) (and-fst (is-letter a && is-letter b) (leb a b) (rw e at g)))
+range-cell leaf a b g e = omega (arith, letter-below b (and-snd (is-letter a) (is-letter b) (and-fst (is-letter a && is-letter b) (leb a b) (rw e at g))))
 
 pub node-leaf : (node : Node) (i : ℕ) (before now : List ℕ) (x : Leaf) → node ≡ Leaf-node x → Marked (leaf-takes x) i before now → Marked (node-takes node) i before now
 node-leaf node i before now x e m = rw e m

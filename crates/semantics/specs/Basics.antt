@@ -8,7 +8,6 @@ use native.Mathlib.Omega.{arith}
 use lib.Dec.{T, eqb, eqb-refl, eqb→eq, leb, leb→le, le→leb, nleb→lt}
 use lib.ListN.{length}
 pub use Rattle.syntax.specs.Bools.{and-fst, and-snd, and-intro}
-use Rattle.syntax.specs.Letter.{is-letter}
 use Rattle.semantics.specs.Value.{nonempty}
 
 pub or-left : {a : Bool} (b : Bool) → a ≡ true → (a || b) ≡ true
@@ -64,11 +63,6 @@ lt-nleb m n h = go (leb m n) refl
     go : (b : Bool) → leb m n ≡ b → b ≡ false
     go true e = absurd (omega (arith, leb-le m n e))
     go false e = refl
-
--- a letter fits a byte
-pub letter-small : (c : ℕ) → is-letter c ≡ true → c < 256
-unfolding is-letter
-letter-small c p = omega (arith, leb-le c 126 (and-snd (leb 33 c) _ p))
 
 pub not-self : (b : Bool) → b ≡ not b → ⊥
 not-self true e = true≢false e

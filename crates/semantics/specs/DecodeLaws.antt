@@ -13,10 +13,11 @@ use Rattle.syntax.specs.Letter.{is-letter, in-range}
 use Rattle.syntax.specs.Tree.{Label, Tree, nothing, letter, range, seq, alt, star}
 use Rattle.bits.specs.Bits.{bits-of}
 use Rattle.bits.specs.Numbers.{bits-of-compare}
+use Rattle.syntax.specs.LetterLaws.{letter-small}
 use Rattle.semantics.specs.Value.{Value}
 use Rattle.semantics.specs.Code.{code-rounds, code}
 use Rattle.semantics.specs.Decode.{get-bits, checked, by-bit, decode-rounds, decode, Read, read}
-use Rattle.semantics.specs.Basics.{and-fst, not-both, leb-le, le-leb, nleb-lt, lt-nleb, letter-small, not-self, glue}
+use Rattle.semantics.specs.Basics.{and-fst, not-both, leb-le, le-leb, nleb-lt, lt-nleb, not-self, glue}
 
 in-range-small : (low high c : ℕ) → in-range low high c ≡ true → c < 256
 unfolding in-range

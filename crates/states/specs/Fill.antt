@@ -6,25 +6,25 @@ use Prim.Native.Nat.{ℕ, zero, suc, _+_, _*_, _≤_, _<_}
 use native.Mathlib.Omega.{arith}
 use lib.ListN.{length, getD}
 use Rattle.syntax.specs.declared.Pattern.{Pattern}
-use Rattle.syntax.specs.Letter.{is-letter}
+use Rattle.syntax.specs.Letter.{is-letter, letter-limit}
 use Rattle.syntax.specs.TreeLaws.{Rules}
 use Rattle.bits.specs.Bits.{in-front}
 use Rattle.states.specs.StateSets.{words}
 use Rattle.states.specs.Sweep.{Sweepable, sweep-of}
 use Rattle.masks.specs.Masks.{Masks-of}
-use Rattle.masks.specs.Making.{letter-small}
+use Rattle.syntax.specs.LetterLaws.{letter-below}
 use Rattle.states.specs.SweepWords.{All-letters, sweep-words}
 
 -- a tested table, "at most 3,600 letters, all from 33 to 126", and 2 × (n + 1) words
 pub record Fillable (p : Pattern) (tape words : List ℕ) : Type 0 where
   pub rules : Rules p
-  pub few : length tape ≤ 3600
+  pub few : length tape ≤ letter-limit
   pub letters : (i : ℕ) → i < length tape → is-letter (getD tape i 0) ≡ true
   pub room : 2 * (length tape + 1) ≤ length words
 
 small-letters : (w : List ℕ) → ((i : ℕ) → i < length w → is-letter (getD w i 0) ≡ true) → (i : ℕ) → getD w i 0 < 128
 small-letters [] h i = omega arith
-small-letters (c ∷ w) h zero = omega (arith, letter-small c (h 0 (omega arith)))
+small-letters (c ∷ w) h zero = omega (arith, letter-below c (h 0 (omega arith)))
 small-letters (c ∷ w) h (suc i) = small-letters w (λ j k. h (suc j) (omega arith)) i
 
 all-letters : (w : List ℕ) → ((i : ℕ) → i < length w → is-letter (getD w i 0) ≡ true) → All-letters w

@@ -7,6 +7,7 @@ use native.Mathlib.Numerals.{add-one}
 use native.Mathlib.Omega.{arith}
 use lib.ListN.{length, getD, drop, set, length-set}
 use lib.Seq.{drop-cons, drop-length, drop-set-lt}
+use Rattle.syntax.specs.Letter.{letter-limit}
 use Rattle.bits.specs.Bits.{in-front}
 use Rattle.semantics.specs.Sweeps.{at-end}
 use Rattle.states.specs.declared.Words.{Words}
@@ -28,7 +29,7 @@ sweep-of zs os fs ks e (c ∷ w) = put (step-of zs os fs (entry ks c) (first-one
 
 -- every letter has an entry in the table of letters, and the buffer is long enough. 01: "Tapes hold at most 3,600 letters"
 pub record Sweepable (tape words : List ℕ) : Type 0 where
-  pub few : length tape ≤ 3600
+  pub few : length tape ≤ letter-limit
   pub letters : (i : ℕ) → getD tape i 0 < 128
   pub room : 2 * (length tape + 1) ≤ length words
 

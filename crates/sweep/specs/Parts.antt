@@ -9,7 +9,8 @@ use lib.Seq.{drop-at}
 use Rattle.syntax.specs.Tree.{Label, Tree, nothing, letter, range, seq, alt, star}
 use Rattle.syntax.specs.Letter.{is-letter, in-range}
 use Rattle.semantics.specs.Value.{nonempty, flat}
-use Rattle.semantics.specs.Basics.{and-fst, letter-small}
+use Rattle.syntax.specs.LetterLaws.{letter-small}
+use Rattle.semantics.specs.Basics.{and-fst}
 use Rattle.bits.specs.Bits.{bits-of}
 use Rattle.semantics.specs.Code.{code}
 use Rattle.semantics.specs.Sweeps.{After, after-round, can, another}

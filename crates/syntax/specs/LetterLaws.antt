@@ -1,6 +1,8 @@
--- Laws of the first byte that is no letter.
+-- Laws of letters, and of the first byte that is none.
 use mathlib.Core.Path.{_≡_, refl, sym, ap, _∙_}
 use mathlib.Core.Bool.{Bool, true, false, cond}
+use borrow.Author.Tests.{leb-true}
+use lib.Dec.{leb}
 use mathlib.Core.List.{List, [], _∷_}
 use Prim.Native.Nat.{ℕ, zero, suc, _+_, _≤_, _<_}
 use native.Mathlib.Nat.{add-zero}
@@ -8,6 +10,15 @@ use native.Mathlib.Omega.{arith}
 use lib.ListN.{length, getD, drop, drop-of-length-le}
 use lib.Seq.{drop-cons}
 use Rattle.syntax.specs.Letter.{is-letter, first-bad}
+use Rattle.syntax.specs.Bools.{and-snd}
+
+pub letter-below : (c : ℕ) → is-letter c ≡ true → c < 127
+unfolding is-letter
+letter-below c h = omega (arith, leb-true c 126 (and-snd (leb 33 c) (leb c 126) h))
+
+-- a letter fits a byte
+pub letter-small : (c : ℕ) → is-letter c ≡ true → c < 256
+letter-small c h = omega (arith, letter-below c h)
 
 -- what is found from position i on is what was to be found
 pub record Bad-from (tape : List ℕ) (i : ℕ) : Type 0 where

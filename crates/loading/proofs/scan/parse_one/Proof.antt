@@ -1,6 +1,7 @@
 -- `loading::scan::parse_one` meets its contract.
 use mathlib.Core.Path.{sym, _∙_}
-use Rattle.loading.specs.Parsing.{letter-small, one-letter, one-no-letter, one-star, one-no-star, one-other}
+use Rattle.syntax.specs.LetterLaws.{letter-small}
+use Rattle.loading.specs.Parsing.{one-letter, one-no-letter, one-star, one-no-star, one-other}
 use borrow.Author.Needs.{needs}
 use Rattle.loading.proofs.scan.parse_one.Statement.{statement}
 use Rattle.loading.proofs.scan.parse_one.Tie as tie

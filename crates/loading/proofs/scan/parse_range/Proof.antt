@@ -1,7 +1,8 @@
 -- `loading::scan::parse_range` meets its contract.
 use borrow.Author.Tests.{not-true, not-false}
 use mathlib.Core.Path.{sym, _∙_}
-use Rattle.loading.specs.Parsing.{letter-small, range-no-low, range-no-high, range-good, range-reversed}
+use Rattle.syntax.specs.LetterLaws.{letter-small}
+use Rattle.loading.specs.Parsing.{range-no-low, range-no-high, range-good, range-reversed}
 use borrow.Author.Needs.{needs}
 use Rattle.loading.proofs.scan.parse_range.Statement.{statement}
 use Rattle.loading.proofs.scan.parse_range.Tie as tie
