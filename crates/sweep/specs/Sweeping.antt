@@ -88,6 +88,7 @@ pub record Led {kind first second words tape : List ℕ} {l i : ℕ} {taken : Bo
   pub ready : Ready kind first second words tape (r .node) (r .position) (r .taken) (r .at)
   pub done : (zs : List ℕ) (w : Swept) → Wrote (r .position) (r .at) (ready .it .letters) (ready .it .bits) code zs w → Wrote i at (s .it .letters) (s .it .bits) code₀ zs w
   pub on : i ≤ r .position
+  pub further : at ≤ r .at
 
 -- what a move leaves: it goes down, from an alternative in any case
 pub record Moves (kind first second words tape : List ℕ) (l i : ℕ) (taken : Bool) (at : ℕ) (code₀ code : List ℕ) (r : Spot) : Type 0 where

@@ -1,11 +1,9 @@
 -- The ways of the sweep at a node of columns: what the calls for its parts need, and what is written when they are done.
-use mathlib.Core.Path.{_≡_, refl, sym, ap, ap₂, subst, _∙_}
+use mathlib.Core.Path.{_≡_, refl, sym, ap, subst, _∙_}
 use mathlib.Core.Bool.{Bool, true, false, _||_, not, cond, true≢false}
 use mathlib.Core.List.{List, [], _∷_, _++_}
-use Prim.Native.Nat.{ℕ, zero, suc, _+_, _*_, _≤_, _<_}
-use native.Mathlib.Nat.{add-zero}
+use Prim.Native.Nat.{ℕ, _+_, _*_, _≤_, _<_}
 use native.Mathlib.Omega.{arith}
-use native.Mathlib.Decide.{decLt}
 use borrow.Author.Tests.{lt-ltb, le-ltb}
 use lib.Dec.{ltb}
 use lib.ListN.{length, getD}
@@ -13,7 +11,7 @@ use Rattle.syntax.specs.declared.Leaf.{Leaf}
 use Rattle.syntax.specs.declared.Leaf.the-variants.{Nothing, Letter, Range}
 use Rattle.syntax.specs.declared.Node.{Node}
 use Rattle.syntax.specs.declared.Node.the-variants.{Leaf as Leaf-node, Sequence, Alternative, Star}
-use Rattle.syntax.specs.Tree.{Label, Tree, nothing, letter, range, seq, alt, star}
+use Rattle.syntax.specs.Tree.{Label, Tree}
 use Rattle.syntax.specs.Trees.{made}
 use Rattle.syntax.specs.TreeLaws.{Below}
 use Rattle.bits.specs.Bits.{bit, test-bit}
@@ -24,7 +22,7 @@ use Rattle.masks.specs.Nodes.{index}
 use Rattle.sweep.specs.declared.Spot.{Spot}
 use Rattle.sweep.specs.declared.Swept.{Swept}
 use Rattle.sweep.specs.Sweeping.{put, Wrote, Can-sweep, leaf-tree, Leaf-ready, Leaf-swept, Ready, Swept-all, is-choice, Led, Moves, Advanced}
-use Rattle.sweep.specs.SweepLaws.{wrote-then, wrote-put, wrote-same, wrote-none, put-long, Seq-way, seq-way, Side-way, left-way, right-way, Round-way, round-way, stop-way}
+use Rattle.sweep.specs.SweepLaws.{wrote-then, wrote-put, wrote-same, wrote-none, put-long, Seq-way, seq-way, left-way, right-way, Round-way, round-way, stop-way}
 
 pub index-made : (m : Label) (f : ℕ → Tree) (n : Node) → index (made m f n) ≡ m .index
 index-made m f (Leaf-node Nothing) = refl
@@ -74,6 +72,7 @@ pub record Going {kind first second words tape : List ℕ} {l i : ℕ} {taken : 
   pub done : (zs : List ℕ) (r : Swept) → Wrote j to (now .letters) (now .bits) code zs r → Wrote i at (s .it .letters) (s .it .bits) code₀ zs r
   pub as-long : length code ≡ length code₀
   pub on : i ≤ j
+  pub further : at ≤ to
 
 module _ {kind first second : List ℕ} (words tape : List ℕ) (good : Good kind first second) (l : ℕ) (h : l < 64) (n : Node) (e : n ≡ node-in kind first second l) (i : ℕ) (taken : Bool) (at : ℕ) where
   abbrev label-of : Ready kind first second words tape l i taken at → Label
@@ -216,6 +215,7 @@ module _ {kind first second : List ℕ} (words tape : List ℕ) (good : Good kin
                 (subst (λ y. Wrote j (to + 1) (turn .one .letters) (turn .one .bits) y zs one) ey w) v)));
             as-long = w .as-long ∙ ap length ey ∙ put-long code to (false ∷ []) ∙ g .as-long;
             on = omega (arith, g .on, round-less .0);
+            further = omega (arith, g .further, w .at-is);
           }
 
 -- ── moves ──
@@ -225,7 +225,7 @@ module _ (kind first second words tape : List ℕ) (l i : ℕ) (taken : Bool) (a
 
   -- nothing is done
   stay : (s : Ready kind first second words tape l i taken at) → Led s code code spot
-  stay s = record { ready = s; done = λ zs r w. w; on = omega arith }
+  stay s = record { ready = s; done = λ zs r w. w; on = omega arith; further = omega arith }
 
   pub moves-none : (n : Node) → n ≡ node-in kind first second l → is-choice n ≡ false → Moves kind first second words tape l i taken at code code spot
   moves-none n e f = record { down = omega arith; falls = λ c. absurd (true≢false (sym c ∙ ap is-choice (sym e) ∙ f)); led = stay; as-long = refl }
@@ -244,7 +244,7 @@ module _ (kind first second words tape : List ℕ) (l i : ℕ) (taken : Bool) (a
     joined s =
         let a = g .led s in
         let b = w .led (a .ready) in
-        record { ready = b .ready; done = λ zs u v. a .done zs u (b .done zs u v); on = omega (arith, a .on, b .on) }
+        record { ready = b .ready; done = λ zs u v. a .done zs u (b .done zs u v); on = omega (arith, a .on, b .on); further = omega (arith, a .further, b .further) }
 
     pub moving-next : Moving ys (r .node) (r .position) (r .taken) (r .at)
     moving-next = record { down = omega (arith, g .down, w .down); led = joined; as-long = w .as-long ∙ g .as-long }
@@ -279,6 +279,7 @@ module _ (kind first second words tape : List ℕ) (l i : ℕ) (taken : Bool) (a
               ready = side-ready words tape good l h n e i taken at p q en left eo side es s .ready;
               done = λ zs r w. side-done words tape good l h n e i taken at p q en left eo side es s code ys zs r ey w;
               on = omega arith;
+              further = omega arith;
             };
             as-long = ap length ey ∙ put-long code at (not left ∷ []);
           }
@@ -299,6 +300,7 @@ module _ (kind first second words tape : List ℕ) (l i : ℕ) (taken : Bool) (a
               ready = seq-second words tape good l h n e i taken at p q en s code ys one w flag ef;
               done = λ zs r v. seq-done words tape good l h n e i taken at p q en s code ys one w flag ef zs r v;
               on = omega (arith, w .position-is);
+              further = omega (arith, w .at-is);
             };
         as-long = long;
       }
@@ -312,15 +314,6 @@ module _ (kind first second words tape : List ℕ) (l i : ℕ) (taken : Bool) (a
           pub moves-leaf : Moves kind first second words tape l i taken at code ys (record { node = q; position = one .position; taken = flag; at = one .at })
           moves-leaf = moves-first ys one (λ s. leaf-done words tape good p (omega (arith, pass-lower .0)) m em i taken at x ex code ys one f s) long flag ef
 
--- all moves together are one
-pub advanced-moves : {kind first second words tape : List ℕ} {l i : ℕ} {taken : Bool} {at : ℕ} {xs ys : List ℕ} {r : Spot} → Advanced kind first second words tape l i taken at xs ys r
-    → Moves kind first second words tape l i taken at xs ys r
-advanced-moves {kind} {first} {second} {l = l} {r = r} a = record { down = a .down; falls = λ c. go c (decLt (r .node) l); led = a .led; as-long = a .as-long }
-  where
-    go : is-choice (node-in kind first second l) ≡ true → Dec (r .node < l) → r .node < l
-    go c (yes h) = h
-    go c (no h) = let e : r .node ≡ l = omega (arith, a .down) in absurd (true≢false (sym c ∙ ap (λ k. is-choice (node-in kind first second k)) (sym e) ∙ a .no-choice))
-
 pub moves-at : {kind first second words tape : List ℕ} {l i : ℕ} {taken : Bool} {at : ℕ} {xs ys : List ℕ} {r : Spot} (s : Spot) → r ≡ s → Moves kind first second words tape l i taken at xs ys s
     → Moves kind first second words tape l i taken at xs ys r
 moves-at {kind} {first} {second} {words} {tape} {l} {i} {taken} {at} {xs} {ys} s e m = subst (λ r. Moves kind first second words tape l i taken at xs ys r) (sym e) m
@@ -329,4 +322,4 @@ pub below-64 : (m l : ℕ) → m ≤ l → l < 64 → m < 64
 below-64 m l h k = omega arith
 
 pub turns-start-at : {kind first second words tape : List ℕ} {l i : ℕ} {taken : Bool} {at : ℕ} (s : Ready kind first second words tape l i taken at) (code : List ℕ) → Going s code code i at
-turns-start-at {taken = taken} s code = record { flag = taken; now = s .it; done = λ zs r w. w; as-long = refl; on = omega arith }
+turns-start-at {taken = taken} s code = record { flag = taken; now = s .it; done = λ zs r w. w; as-long = refl; on = omega arith; further = omega arith }

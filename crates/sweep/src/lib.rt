@@ -234,8 +234,7 @@ fn sweep_rounds(
     }
 }
 
-// Reads node l from position i on and writes its bits from bit `at` on. `taken` is the flag. The first part of a sequence takes a call;
-// the second one goes on in the loop, so that a long sequence is no deep one.
+// Reads node l from position i on and writes its bits from bit `at` on, by calls for its parts. `taken` is the flag.
 pub fn sweep(
     kind: &[u8; 64],
     first: &[u8; 64],
@@ -254,58 +253,55 @@ pub fn sweep(
     ensures { λ r.
         ⌜ Swept-all (now (kind .entry)) (now (first .entry)) (now (second .entry)) (now (words .entry)) (now (tape .entry)) l i taken at (now (code .entry)) (now (code .exit)) r ⌝ }
 {
-    let mut here = l;
-    let mut j = i;
-    let mut flag = taken;
-    let mut bit = at;
-    loop {
-        let spot = advance(kind, first, second, words, tape, here, j, flag, code, bit);
-        let k = spot.node;
-        let node = node_at(kind, first, second, k);
-        match node {
-            Node::Leaf(leaf) => {
-                return sweep_leaf(leaf, tape, spot.position, code, spot.at);
-            }
-            Node::Star(p) => {
-                return sweep_rounds(
-                    kind,
-                    first,
-                    second,
-                    words,
-                    tape,
-                    k,
-                    p,
-                    spot.position,
-                    spot.taken,
-                    code,
-                    spot.at,
-                );
-            }
-            // `advance` leaves no alternative
-            Node::Alternative(_, _) => {
-                return Swept {
-                    position: spot.position,
-                    at: spot.at,
-                };
-            }
-            Node::Sequence(p, q) => {
-                let one = sweep(
-                    kind,
-                    first,
-                    second,
-                    words,
-                    tape,
-                    p as usize,
-                    spot.position,
-                    spot.taken,
-                    code,
-                    spot.at,
-                );
-                flag = flag_behind(spot.taken, spot.position, one.position);
-                here = q as usize;
-                j = one.position;
-                bit = one.at;
-            }
+    let spot = advance(kind, first, second, words, tape, l, i, taken, code, at);
+    let k = spot.node;
+    let node = node_at(kind, first, second, k);
+    match node {
+        Node::Leaf(leaf) => sweep_leaf(leaf, tape, spot.position, code, spot.at),
+        Node::Sequence(p, q) => {
+            let one = sweep(
+                kind,
+                first,
+                second,
+                words,
+                tape,
+                p as usize,
+                spot.position,
+                spot.taken,
+                code,
+                spot.at,
+            );
+            let flag = flag_behind(spot.taken, spot.position, one.position);
+            sweep(
+                kind,
+                first,
+                second,
+                words,
+                tape,
+                q as usize,
+                one.position,
+                flag,
+                code,
+                one.at,
+            )
         }
+        // `advance` leaves no alternative
+        Node::Alternative(_, _) => Swept {
+            position: spot.position,
+            at: spot.at,
+        },
+        Node::Star(p) => sweep_rounds(
+            kind,
+            first,
+            second,
+            words,
+            tape,
+            k,
+            p,
+            spot.position,
+            spot.taken,
+            code,
+            spot.at,
+        ),
     }
 }
