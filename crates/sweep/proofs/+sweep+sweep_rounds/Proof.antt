@@ -62,15 +62,18 @@ sweep-rounds-μ-loop kind first second words tape l p i taken code₀ at child j
 small : (t : ℕ) (c : sweep-lts.After-node-at (given t) (sweep-at t) sweep.Post) → c .before .before .before .advance .result .node < 64
 small t c = below-64 _ _ (c .before .before .before .advance .ensures .down) (c .before .before .before .before .before .before .before .before .pre .1 .1 .0)
 
-abbrev ready : (t : ℕ) (c : sweep-lts.After-node-at (given t) (sweep-at t) sweep.Post) → Ready (c .before .before .before .before .before .before .before .before .args .kind .now) (c .before .before .before .before .before .before .before .before .args .first .now) (c .before .before .before .before .before .before .before .before .args .second .now) (c .before .before .before .before .before .before .before .before .args .words .now) (c .before .before .before .before .before .before .before .before .args .tape .now) (c .before .before .before .advance .result .node) (c .before .before .before .advance .result .position) (c .before .before .before .advance .result .taken) (c .before .before .before .advance .result .at)
-ready t c = c .before .before .before .advance .ensures .led (c .before .before .before .before .before .before .before .before .pre .1 .1 .1) .ready
+abbrev ready : (t : ℕ) (c : sweep-lts.After-node-at (given t) (sweep-at t) sweep.Post) → (s : Ready (c .before .before .before .before .before .before .before .before .args .kind .now) (c .before .before .before .before .before .before .before .before .args .first .now) (c .before .before .before .before .before .before .before .before .args .second .now) (c .before .before .before .before .before .before .before .before .args .words .now) (c .before .before .before .before .before .before .before .before .args .tape .now) (c .before .before .before .before .before .before .before .before .args .l) (c .before .before .before .before .before .before .before .before .args .i) (c .before .before .before .before .before .before .before .before .args .taken) (c .before .before .before .before .before .before .before .before .args .at)) → Ready (c .before .before .before .before .before .before .before .before .args .kind .now) (c .before .before .before .before .before .before .before .before .args .first .now) (c .before .before .before .before .before .before .before .before .args .second .now) (c .before .before .before .before .before .before .before .before .args .words .now) (c .before .before .before .before .before .before .before .before .args .tape .now) (c .before .before .before .advance .result .node) (c .before .before .before .advance .result .position) (c .before .before .before .advance .result .taken) (c .before .before .before .advance .result .at)
+ready t c = λ s. c .before .before .before .advance .ensures .led s .ready
 
--- of a sequence: its parts lie below it, and the first one can be swept
+-- of a sequence: its parts lie below it, and each can be swept in its turn
 lower : (t : ℕ) (c : sweep-lts.After-node2 (given t) (sweep-at t) sweep.Post) → (c .node2 .given .0 .0 < c .before .before .before .before .before .advance .result .node) × (c .node2 .given .0 .1 .0 < c .before .before .before .before .before .advance .result .node)
-lower t c = seq-lower (c .before .before .before .before .before .before .before .before .before .before .args .words .now) (c .before .before .before .before .before .before .before .before .before .before .args .tape .now) (c .before .before .before .before .before .before .before .before .before .before .pre .1 .0) (c .before .before .before .before .before .advance .result .node) (small t (c .before .before)) _ (c .before .before .node-at .ensures) (c .before .before .before .before .before .advance .result .position) (c .before .before .before .before .before .advance .result .taken) (c .before .before .before .before .before .advance .result .at) _ _ (c .node2 .given .1) (ready t (c .before .before))
+lower t c = seq-lower (c .before .before .before .before .before .before .before .before .before .before .args .words .now) (c .before .before .before .before .before .before .before .before .before .before .args .tape .now) (c .before .before .before .before .before .before .before .before .before .before .pre .1 .0) (c .before .before .before .before .before .advance .result .node) (small t (c .before .before)) _ (c .before .before .node-at .ensures) (c .before .before .before .before .before .advance .result .position) (c .before .before .before .before .before .advance .result .taken) (c .before .before .before .before .before .advance .result .at) _ _ (c .node2 .given .1) (ready t (c .before .before) (c .before .before .before .before .before .before .before .before .before .before .pre .1 .1 .1))
 
-abbrev first-ready : (t : ℕ) (c : sweep-lts.After-node2 (given t) (sweep-at t) sweep.Post) → Ready (c .before .before .before .before .before .before .before .before .before .before .args .kind .now) (c .before .before .before .before .before .before .before .before .before .before .args .first .now) (c .before .before .before .before .before .before .before .before .before .before .args .second .now) (c .before .before .before .before .before .before .before .before .before .before .args .words .now) (c .before .before .before .before .before .before .before .before .before .before .args .tape .now) (c .node2 .given .0 .0) (c .before .before .before .before .before .advance .result .position) (c .before .before .before .before .before .advance .result .taken) (c .before .before .before .before .before .advance .result .at)
-first-ready t c = seq-first (c .before .before .before .before .before .before .before .before .before .before .args .words .now) (c .before .before .before .before .before .before .before .before .before .before .args .tape .now) (c .before .before .before .before .before .before .before .before .before .before .pre .1 .0) (c .before .before .before .before .before .advance .result .node) (small t (c .before .before)) _ (c .before .before .node-at .ensures) (c .before .before .before .before .before .advance .result .position) (c .before .before .before .before .before .advance .result .taken) (c .before .before .before .before .before .advance .result .at) _ _ (c .node2 .given .1) (ready t (c .before .before))
+abbrev first-ready : (t : ℕ) (c : sweep-lts.After-node2 (given t) (sweep-at t) sweep.Post) → (s : Ready (c .before .before .before .before .before .before .before .before .before .before .args .kind .now) (c .before .before .before .before .before .before .before .before .before .before .args .first .now) (c .before .before .before .before .before .before .before .before .before .before .args .second .now) (c .before .before .before .before .before .before .before .before .before .before .args .words .now) (c .before .before .before .before .before .before .before .before .before .before .args .tape .now) (c .before .before .before .before .before .before .before .before .before .before .args .l) (c .before .before .before .before .before .before .before .before .before .before .args .i) (c .before .before .before .before .before .before .before .before .before .before .args .taken) (c .before .before .before .before .before .before .before .before .before .before .args .at)) → Ready (c .before .before .before .before .before .before .before .before .before .before .args .kind .now) (c .before .before .before .before .before .before .before .before .before .before .args .first .now) (c .before .before .before .before .before .before .before .before .before .before .args .second .now) (c .before .before .before .before .before .before .before .before .before .before .args .words .now) (c .before .before .before .before .before .before .before .before .before .before .args .tape .now) (c .node2 .given .0 .0) (c .before .before .before .before .before .advance .result .position) (c .before .before .before .before .before .advance .result .taken) (c .before .before .before .before .before .advance .result .at)
+first-ready t c = λ s. seq-first (c .before .before .before .before .before .before .before .before .before .before .args .words .now) (c .before .before .before .before .before .before .before .before .before .before .args .tape .now) (c .before .before .before .before .before .before .before .before .before .before .pre .1 .0) (c .before .before .before .before .before .advance .result .node) (small t (c .before .before)) _ (c .before .before .node-at .ensures) (c .before .before .before .before .before .advance .result .position) (c .before .before .before .before .before .advance .result .taken) (c .before .before .before .before .before .advance .result .at) _ _ (c .node2 .given .1) (ready t (c .before .before) s)
+
+abbrev second-ready : (t : ℕ) (c : sweep-lts.After-flag-behind (given t) (sweep-at t) sweep.Post) → (s : Ready (c .before .before .before .before .before .before .before .before .before .before .before .before .before .before .before .before .args .kind .now) (c .before .before .before .before .before .before .before .before .before .before .before .before .before .before .before .before .args .first .now) (c .before .before .before .before .before .before .before .before .before .before .before .before .before .before .before .before .args .second .now) (c .before .before .before .before .before .before .before .before .before .before .before .before .before .before .before .before .args .words .now) (c .before .before .before .before .before .before .before .before .before .before .before .before .before .before .before .before .args .tape .now) (c .before .before .before .before .before .before .before .before .before .before .before .before .before .before .before .before .args .l) (c .before .before .before .before .before .before .before .before .before .before .before .before .before .before .before .before .args .i) (c .before .before .before .before .before .before .before .before .before .before .before .before .before .before .before .before .args .taken) (c .before .before .before .before .before .before .before .before .before .before .before .before .before .before .before .before .args .at)) → Ready (c .before .before .before .before .before .before .before .before .before .before .before .before .before .before .before .before .args .kind .now) (c .before .before .before .before .before .before .before .before .before .before .before .before .before .before .before .before .args .first .now) (c .before .before .before .before .before .before .before .before .before .before .before .before .before .before .before .before .args .second .now) (c .before .before .before .before .before .before .before .before .before .before .before .before .before .before .before .before .args .words .now) (c .before .before .before .before .before .before .before .before .before .before .before .before .before .before .before .before .args .tape .now) (c .before .before .before .before .before .before .node2 .given .0 .1 .0) (c .before .before .before .sweep .result .position) (c .flag-behind .result) (c .before .before .before .sweep .result .at)
+second-ready t c = λ s. seq-second (c .before .before .before .before .before .before .before .before .before .before .before .before .before .before .before .before .args .words .now) (c .before .before .before .before .before .before .before .before .before .before .before .before .before .before .before .before .args .tape .now) (c .before .before .before .before .before .before .before .before .before .before .before .before .before .before .before .before .pre .1 .0) (c .before .before .before .before .before .before .before .before .before .before .before .advance .result .node) (small t (c .before .before .before .before .before .before .before .before)) _ (c .before .before .before .before .before .before .before .before .node-at .ensures) (c .before .before .before .before .before .before .before .before .before .before .before .advance .result .position) (c .before .before .before .before .before .before .before .before .before .before .before .advance .result .taken) (c .before .before .before .before .before .before .before .before .before .before .before .advance .result .at) _ _ (c .before .before .before .before .before .before .node2 .given .1) (ready t (c .before .before .before .before .before .before .before .before) s) _ _ _ (c .before .before .before .sweep .ensures (first-ready t (c .before .before .before .before .before .before) s)) _ (c .flag-behind .ensures)
 
 -- of a star: its child lies below it, and what is left of the rounds gives them all
 child-lower : (t : ℕ) (c : sweep-rounds-lts.At-loop (rounds-given t) (sweep-rounds-at t) sweep-rounds.Post sweep-rounds-Inv-loop sweep-rounds-μ-loop) → c .before .before .before .before .args .p < c .before .before .before .before .args .l
@@ -93,7 +96,7 @@ sweep-enum-known-node : (t : ℕ) → sweep-lts.Need-enum-known-node (given t) (
 sweep-enum-known-node t c = search needs
 
 sweep-sweep-leaf-requires : (t : ℕ) → sweep-lts.Need-sweep-leaf-requires (given t) (sweep-at t) sweep.Post
-sweep-sweep-leaf-requires t c κs = leaf-ready (c .before .before .before .before .before .before .before .before .before .before .before .before .args .words .now) (c .before .before .before .before .before .before .before .before .before .before .before .before .args .tape .now) (c .before .before .before .before .before .before .before .before .before .before .before .before .pre .1 .0) (c .before .before .before .before .before .before .before .advance .result .node) (small t (c .before .before .before .before)) _ (c .before .before .before .before .node-at .ensures) (c .before .before .before .before .before .before .before .advance .result .position) (c .before .before .before .before .before .before .before .advance .result .taken) (c .before .before .before .before .before .before .before .advance .result .at) _ (c .before .before .node .given .1) (ready t (c .before .before .before .before))
+sweep-sweep-leaf-requires t c κs = leaf-ready (c .before .before .before .before .before .before .before .before .before .before .before .before .args .words .now) (c .before .before .before .before .before .before .before .before .before .before .before .before .args .tape .now) (c .before .before .before .before .before .before .before .before .before .before .before .before .pre .1 .0) (c .before .before .before .before .before .before .before .advance .result .node) (small t (c .before .before .before .before)) _ (c .before .before .before .before .node-at .ensures) (c .before .before .before .before .before .before .before .advance .result .position) (c .before .before .before .before .before .before .before .advance .result .taken) (c .before .before .before .before .before .before .before .advance .result .at) _ (c .before .before .node .given .1) (ready t (c .before .before .before .before) (c .before .before .before .before .before .before .before .before .before .before .before .before .pre .1 .1 .1))
 
 sweep-enum-known-node-2 : (t : ℕ) → sweep-lts.Need-enum-known-node-2 (given t) (sweep-at t) sweep.Post
 sweep-enum-known-node-2 t c = search needs
@@ -102,7 +105,7 @@ sweep-cast-sweep : (t : ℕ) → sweep-lts.Need-cast-sweep (given t) (sweep-at t
 sweep-cast-sweep t c = omega (arith, lower t (c .before), (small t (c .before .before .before)))
 
 sweep-sweep-requires : (t : ℕ) → sweep-lts.Need-sweep-requires (given t) (sweep-at t) sweep.Post
-sweep-sweep-requires t c κs = (omega (arith, c .before .before .before .before .before .before .before .before .before .before .before .before .pre .0, lower t (c .before .before), c .before .before .before .before .before .before .before .advance .ensures .down, c .before .before .before .before .before .before .before .advance .ensures .led (c .before .before .before .before .before .before .before .before .before .before .before .before .pre .1 .1 .1) .further), ((c .before .before .before .before .before .before .before .before .before .before .before .before .pre .1 .0), (omega (arith, lower t (c .before .before), (small t (c .before .before .before .before))), (first-ready t (c .before .before)))))
+sweep-sweep-requires t c κs = (omega (arith, c .before .before .before .before .before .before .before .before .before .before .before .before .pre .0, lower t (c .before .before), c .before .before .before .before .before .before .before .advance .ensures .down, c .before .before .before .before .before .before .before .advance .ensures .led (c .before .before .before .before .before .before .before .before .before .before .before .before .pre .1 .1 .1) .further), ((c .before .before .before .before .before .before .before .before .before .before .before .before .pre .1 .0), (omega (arith, lower t (c .before .before), (small t (c .before .before .before .before))), (first-ready t (c .before .before) (c .before .before .before .before .before .before .before .before .before .before .before .before .pre .1 .1 .1)))))
 
 sweep-flag-behind-requires : (t : ℕ) → sweep-lts.Need-flag-behind-requires (given t) (sweep-at t) sweep.Post
 sweep-flag-behind-requires t c κs = search needs
@@ -111,7 +114,7 @@ sweep-cast-sweep-2 : (t : ℕ) → sweep-lts.Need-cast-sweep-2 (given t) (sweep-
 sweep-cast-sweep-2 t c = omega (arith, lower t (c .before .before .before .before .before .before), (small t (c .before .before .before .before .before .before .before .before)))
 
 sweep-sweep-requires-2 : (t : ℕ) → sweep-lts.Need-sweep-requires-2 (given t) (sweep-at t) sweep.Post
-sweep-sweep-requires-2 t c κs = (omega (arith, c .before .before .before .before .before .before .before .before .before .before .before .before .before .before .before .before .before .pre .0, lower t (c .before .before .before .before .before .before .before), c .before .before .before .before .before .before .before .before .before .before .before .before .advance .ensures .down, c .before .before .before .before .before .before .before .before .before .before .before .before .advance .ensures .led (c .before .before .before .before .before .before .before .before .before .before .before .before .before .before .before .before .before .pre .1 .1 .1) .further, (c .before .before .before .before .sweep .ensures (first-ready t (c .before .before .before .before .before .before .before))) .at-is), ((c .before .before .before .before .before .before .before .before .before .before .before .before .before .before .before .before .before .pre .1 .0), (omega (arith, lower t (c .before .before .before .before .before .before .before), (small t (c .before .before .before .before .before .before .before .before .before))), (seq-second (c .before .before .before .before .before .before .before .before .before .before .before .before .before .before .before .before .before .args .words .now) (c .before .before .before .before .before .before .before .before .before .before .before .before .before .before .before .before .before .args .tape .now) (c .before .before .before .before .before .before .before .before .before .before .before .before .before .before .before .before .before .pre .1 .0) (c .before .before .before .before .before .before .before .before .before .before .before .before .advance .result .node) (small t (c .before .before .before .before .before .before .before .before .before)) _ (c .before .before .before .before .before .before .before .before .before .node-at .ensures) (c .before .before .before .before .before .before .before .before .before .before .before .before .advance .result .position) (c .before .before .before .before .before .before .before .before .before .before .before .before .advance .result .taken) (c .before .before .before .before .before .before .before .before .before .before .before .before .advance .result .at) _ _ (c .before .before .before .before .before .before .before .node2 .given .1) (ready t (c .before .before .before .before .before .before .before .before .before)) _ _ _ (c .before .before .before .before .sweep .ensures (seq-first (c .before .before .before .before .before .before .before .before .before .before .before .before .before .before .before .before .before .args .words .now) (c .before .before .before .before .before .before .before .before .before .before .before .before .before .before .before .before .before .args .tape .now) (c .before .before .before .before .before .before .before .before .before .before .before .before .before .before .before .before .before .pre .1 .0) (c .before .before .before .before .before .before .before .before .before .before .before .before .advance .result .node) (small t (c .before .before .before .before .before .before .before .before .before)) _ (c .before .before .before .before .before .before .before .before .before .node-at .ensures) (c .before .before .before .before .before .before .before .before .before .before .before .before .advance .result .position) (c .before .before .before .before .before .before .before .before .before .before .before .before .advance .result .taken) (c .before .before .before .before .before .before .before .before .before .before .before .before .advance .result .at) _ _ (c .before .before .before .before .before .before .before .node2 .given .1) (ready t (c .before .before .before .before .before .before .before .before .before)))) _ (c .before .flag-behind .ensures)))))
+sweep-sweep-requires-2 t c κs = (omega (arith, c .before .before .before .before .before .before .before .before .before .before .before .before .before .before .before .before .before .pre .0, lower t (c .before .before .before .before .before .before .before), c .before .before .before .before .before .before .before .before .before .before .before .before .advance .ensures .down, c .before .before .before .before .before .before .before .before .before .before .before .before .advance .ensures .led (c .before .before .before .before .before .before .before .before .before .before .before .before .before .before .before .before .before .pre .1 .1 .1) .further, (c .before .before .before .before .sweep .ensures (first-ready t (c .before .before .before .before .before .before .before) (c .before .before .before .before .before .before .before .before .before .before .before .before .before .before .before .before .before .pre .1 .1 .1))) .at-is), ((c .before .before .before .before .before .before .before .before .before .before .before .before .before .before .before .before .before .pre .1 .0), (omega (arith, lower t (c .before .before .before .before .before .before .before), (small t (c .before .before .before .before .before .before .before .before .before))), (second-ready t (c .before) (c .before .before .before .before .before .before .before .before .before .before .before .before .before .before .before .before .before .pre .1 .1 .1)))))
 
 sweep-enum-told : (t : ℕ) → sweep-lts.Need-enum-told (given t) (sweep-at t) sweep.Post
 sweep-enum-told t c = search needs
@@ -120,19 +123,19 @@ sweep-enum-known-node-3 : (t : ℕ) → sweep-lts.Need-enum-known-node-3 (given 
 sweep-enum-known-node-3 t c = search needs
 
 sweep-sweep-rounds-requires : (t : ℕ) → sweep-lts.Need-sweep-rounds-requires (given t) (sweep-at t) sweep.Post
-sweep-sweep-rounds-requires t c κs = (omega (arith, c .before .before .before .before .before .before .before .before .before .before .before .before .pre .0, c .before .before .before .before .before .before .before .advance .ensures .down, c .before .before .before .before .before .before .before .advance .ensures .led (c .before .before .before .before .before .before .before .before .before .before .before .before .pre .1 .1 .1) .further), ((c .before .before .before .before .before .before .before .before .before .before .before .before .pre .1 .0), (((small t (c .before .before .before .before)), sym (c .before .before .before .before .node-at .ensures) ∙ c .before .before .node3 .given .1), (ready t (c .before .before .before .before)))))
+sweep-sweep-rounds-requires t c κs = (omega (arith, c .before .before .before .before .before .before .before .before .before .before .before .before .pre .0, c .before .before .before .before .before .before .before .advance .ensures .down, c .before .before .before .before .before .before .before .advance .ensures .led (c .before .before .before .before .before .before .before .before .before .before .before .before .pre .1 .1 .1) .further), ((c .before .before .before .before .before .before .before .before .before .before .before .before .pre .1 .0), (((small t (c .before .before .before .before)), sym (c .before .before .before .before .node-at .ensures) ∙ c .before .before .node3 .given .1), (ready t (c .before .before .before .before) (c .before .before .before .before .before .before .before .before .before .before .before .before .pre .1 .1 .1)))))
 
 sweep-same-length : (t : ℕ) → sweep-lts.Need-same-length (given t) (sweep-at t) sweep.Post
-sweep-same-length t c = (leaf-done (c .before .before .before .before .before .before .before .before .before .before .before .before .before .before .before .args .words .now) (c .before .before .before .before .before .before .before .before .before .before .before .before .before .before .before .args .tape .now) (c .before .before .before .before .before .before .before .before .before .before .before .before .before .before .before .pre .1 .0) (c .before .before .before .before .before .before .before .before .before .before .advance .result .node) (small t (c .before .before .before .before .before .before .before)) _ (c .before .before .before .before .before .before .before .node-at .ensures) (c .before .before .before .before .before .before .before .before .before .before .advance .result .position) (c .before .before .before .before .before .before .before .before .before .before .advance .result .taken) (c .before .before .before .before .before .before .before .before .before .before .advance .result .at) _ (c .before .before .before .before .before .node .given .1) _ _ _ (c .before .before .sweep-leaf .ensures) (ready t (c .before .before .before .before .before .before .before))) .as-long ∙ c .before .before .before .before .before .before .before .before .before .before .advance .ensures .as-long
+sweep-same-length t c = (leaf-done (c .before .before .before .before .before .before .before .before .before .before .before .before .before .before .before .args .words .now) (c .before .before .before .before .before .before .before .before .before .before .before .before .before .before .before .args .tape .now) (c .before .before .before .before .before .before .before .before .before .before .before .before .before .before .before .pre .1 .0) (c .before .before .before .before .before .before .before .before .before .before .advance .result .node) (small t (c .before .before .before .before .before .before .before)) _ (c .before .before .before .before .before .before .before .node-at .ensures) (c .before .before .before .before .before .before .before .before .before .before .advance .result .position) (c .before .before .before .before .before .before .before .before .before .before .advance .result .taken) (c .before .before .before .before .before .before .before .before .before .before .advance .result .at) _ (c .before .before .before .before .before .node .given .1) _ _ _ (c .before .before .sweep-leaf .ensures) (ready t (c .before .before .before .before .before .before .before) (c .before .before .before .before .before .before .before .before .before .before .before .before .before .before .before .pre .1 .1 .1))) .as-long ∙ c .before .before .before .before .before .before .before .before .before .before .advance .ensures .as-long
 
 sweep-returns : (t : ℕ) → sweep-lts.Need-returns (given t) (sweep-at t) sweep.Post
-sweep-returns t c = λ s. c .before .before .before .before .before .before .before .before .before .before .advance .ensures .led s .done _ _ (leaf-done (c .before .before .before .before .before .before .before .before .before .before .before .before .before .before .before .args .words .now) (c .before .before .before .before .before .before .before .before .before .before .before .before .before .before .before .args .tape .now) (c .before .before .before .before .before .before .before .before .before .before .before .before .before .before .before .pre .1 .0) (c .before .before .before .before .before .before .before .before .before .before .advance .result .node) (small t (c .before .before .before .before .before .before .before)) _ (c .before .before .before .before .before .before .before .node-at .ensures) (c .before .before .before .before .before .before .before .before .before .before .advance .result .position) (c .before .before .before .before .before .before .before .before .before .before .advance .result .taken) (c .before .before .before .before .before .before .before .before .before .before .advance .result .at) _ (c .before .before .before .before .before .node .given .1) _ _ _ (c .before .before .sweep-leaf .ensures) (c .before .before .before .before .before .before .before .before .before .before .advance .ensures .led s .ready))
+sweep-returns t c = λ s. c .before .before .before .before .before .before .before .before .before .before .advance .ensures .led s .done _ _ (leaf-done (c .before .before .before .before .before .before .before .before .before .before .before .before .before .before .before .args .words .now) (c .before .before .before .before .before .before .before .before .before .before .before .before .before .before .before .args .tape .now) (c .before .before .before .before .before .before .before .before .before .before .before .before .before .before .before .pre .1 .0) (c .before .before .before .before .before .before .before .before .before .before .advance .result .node) (small t (c .before .before .before .before .before .before .before)) _ (c .before .before .before .before .before .before .before .node-at .ensures) (c .before .before .before .before .before .before .before .before .before .before .advance .result .position) (c .before .before .before .before .before .before .before .before .before .before .advance .result .taken) (c .before .before .before .before .before .before .before .before .before .before .advance .result .at) _ (c .before .before .before .before .before .node .given .1) _ _ _ (c .before .before .sweep-leaf .ensures) (ready t (c .before .before .before .before .before .before .before) s))
 
 sweep-same-length-2 : (t : ℕ) → sweep-lts.Need-same-length-2 (given t) (sweep-at t) sweep.Post
-sweep-same-length-2 t c = (c .before .before .sweep2 .ensures (seq-second (c .before .before .before .before .before .before .before .before .before .before .before .before .before .before .before .before .before .before .before .before .args .words .now) (c .before .before .before .before .before .before .before .before .before .before .before .before .before .before .before .before .before .before .before .before .args .tape .now) (c .before .before .before .before .before .before .before .before .before .before .before .before .before .before .before .before .before .before .before .before .pre .1 .0) (c .before .before .before .before .before .before .before .before .before .before .before .before .before .before .before .advance .result .node) (small t (c .before .before .before .before .before .before .before .before .before .before .before .before)) _ (c .before .before .before .before .before .before .before .before .before .before .before .before .node-at .ensures) (c .before .before .before .before .before .before .before .before .before .before .before .before .before .before .before .advance .result .position) (c .before .before .before .before .before .before .before .before .before .before .before .before .before .before .before .advance .result .taken) (c .before .before .before .before .before .before .before .before .before .before .before .before .before .before .before .advance .result .at) _ _ (c .before .before .before .before .before .before .before .before .before .before .node2 .given .1) (ready t (c .before .before .before .before .before .before .before .before .before .before .before .before)) _ _ _ (c .before .before .before .before .before .before .before .sweep .ensures (seq-first (c .before .before .before .before .before .before .before .before .before .before .before .before .before .before .before .before .before .before .before .before .args .words .now) (c .before .before .before .before .before .before .before .before .before .before .before .before .before .before .before .before .before .before .before .before .args .tape .now) (c .before .before .before .before .before .before .before .before .before .before .before .before .before .before .before .before .before .before .before .before .pre .1 .0) (c .before .before .before .before .before .before .before .before .before .before .before .before .before .before .before .advance .result .node) (small t (c .before .before .before .before .before .before .before .before .before .before .before .before)) _ (c .before .before .before .before .before .before .before .before .before .before .before .before .node-at .ensures) (c .before .before .before .before .before .before .before .before .before .before .before .before .before .before .before .advance .result .position) (c .before .before .before .before .before .before .before .before .before .before .before .before .before .before .before .advance .result .taken) (c .before .before .before .before .before .before .before .before .before .before .before .before .before .before .before .advance .result .at) _ _ (c .before .before .before .before .before .before .before .before .before .before .node2 .given .1) (ready t (c .before .before .before .before .before .before .before .before .before .before .before .before)))) _ (c .before .before .before .before .flag-behind .ensures))) .as-long ∙ (c .before .before .before .before .before .before .before .sweep .ensures (first-ready t (c .before .before .before .before .before .before .before .before .before .before))) .as-long ∙ c .before .before .before .before .before .before .before .before .before .before .before .before .before .before .before .advance .ensures .as-long
+sweep-same-length-2 t c = (c .before .before .sweep2 .ensures (second-ready t (c .before .before .before .before) (c .before .before .before .before .before .before .before .before .before .before .before .before .before .before .before .before .before .before .before .before .pre .1 .1 .1))) .as-long ∙ (c .before .before .before .before .before .before .before .sweep .ensures (first-ready t (c .before .before .before .before .before .before .before .before .before .before) (c .before .before .before .before .before .before .before .before .before .before .before .before .before .before .before .before .before .before .before .before .pre .1 .1 .1))) .as-long ∙ c .before .before .before .before .before .before .before .before .before .before .before .before .before .before .before .advance .ensures .as-long
 
 sweep-returns-2 : (t : ℕ) → sweep-lts.Need-returns-2 (given t) (sweep-at t) sweep.Post
-sweep-returns-2 t c = λ s. c .before .before .before .before .before .before .before .before .before .before .before .before .before .before .before .advance .ensures .led s .done _ _ (seq-done (c .before .before .before .before .before .before .before .before .before .before .before .before .before .before .before .before .before .before .before .before .args .words .now) (c .before .before .before .before .before .before .before .before .before .before .before .before .before .before .before .before .before .before .before .before .args .tape .now) (c .before .before .before .before .before .before .before .before .before .before .before .before .before .before .before .before .before .before .before .before .pre .1 .0) (c .before .before .before .before .before .before .before .before .before .before .before .before .before .before .before .advance .result .node) (small t (c .before .before .before .before .before .before .before .before .before .before .before .before)) _ (c .before .before .before .before .before .before .before .before .before .before .before .before .node-at .ensures) (c .before .before .before .before .before .before .before .before .before .before .before .before .before .before .before .advance .result .position) (c .before .before .before .before .before .before .before .before .before .before .before .before .before .before .before .advance .result .taken) (c .before .before .before .before .before .before .before .before .before .before .before .before .before .before .before .advance .result .at) _ _ (c .before .before .before .before .before .before .before .before .before .before .node2 .given .1) (c .before .before .before .before .before .before .before .before .before .before .before .before .before .before .before .advance .ensures .led s .ready) _ _ _ (c .before .before .before .before .before .before .before .sweep .ensures (seq-first (c .before .before .before .before .before .before .before .before .before .before .before .before .before .before .before .before .before .before .before .before .args .words .now) (c .before .before .before .before .before .before .before .before .before .before .before .before .before .before .before .before .before .before .before .before .args .tape .now) (c .before .before .before .before .before .before .before .before .before .before .before .before .before .before .before .before .before .before .before .before .pre .1 .0) (c .before .before .before .before .before .before .before .before .before .before .before .before .before .before .before .advance .result .node) (small t (c .before .before .before .before .before .before .before .before .before .before .before .before)) _ (c .before .before .before .before .before .before .before .before .before .before .before .before .node-at .ensures) (c .before .before .before .before .before .before .before .before .before .before .before .before .before .before .before .advance .result .position) (c .before .before .before .before .before .before .before .before .before .before .before .before .before .before .before .advance .result .taken) (c .before .before .before .before .before .before .before .before .before .before .before .before .before .before .before .advance .result .at) _ _ (c .before .before .before .before .before .before .before .before .before .before .node2 .given .1) (c .before .before .before .before .before .before .before .before .before .before .before .before .before .before .before .advance .ensures .led s .ready))) _ (c .before .before .before .before .flag-behind .ensures) _ _ (c .before .before .sweep2 .ensures (seq-second (c .before .before .before .before .before .before .before .before .before .before .before .before .before .before .before .before .before .before .before .before .args .words .now) (c .before .before .before .before .before .before .before .before .before .before .before .before .before .before .before .before .before .before .before .before .args .tape .now) (c .before .before .before .before .before .before .before .before .before .before .before .before .before .before .before .before .before .before .before .before .pre .1 .0) (c .before .before .before .before .before .before .before .before .before .before .before .before .before .before .before .advance .result .node) (small t (c .before .before .before .before .before .before .before .before .before .before .before .before)) _ (c .before .before .before .before .before .before .before .before .before .before .before .before .node-at .ensures) (c .before .before .before .before .before .before .before .before .before .before .before .before .before .before .before .advance .result .position) (c .before .before .before .before .before .before .before .before .before .before .before .before .before .before .before .advance .result .taken) (c .before .before .before .before .before .before .before .before .before .before .before .before .before .before .before .advance .result .at) _ _ (c .before .before .before .before .before .before .before .before .before .before .node2 .given .1) (c .before .before .before .before .before .before .before .before .before .before .before .before .before .before .before .advance .ensures .led s .ready) _ _ _ (c .before .before .before .before .before .before .before .sweep .ensures (seq-first (c .before .before .before .before .before .before .before .before .before .before .before .before .before .before .before .before .before .before .before .before .args .words .now) (c .before .before .before .before .before .before .before .before .before .before .before .before .before .before .before .before .before .before .before .before .args .tape .now) (c .before .before .before .before .before .before .before .before .before .before .before .before .before .before .before .before .before .before .before .before .pre .1 .0) (c .before .before .before .before .before .before .before .before .before .before .before .before .before .before .before .advance .result .node) (small t (c .before .before .before .before .before .before .before .before .before .before .before .before)) _ (c .before .before .before .before .before .before .before .before .before .before .before .before .node-at .ensures) (c .before .before .before .before .before .before .before .before .before .before .before .before .before .before .before .advance .result .position) (c .before .before .before .before .before .before .before .before .before .before .before .before .before .before .before .advance .result .taken) (c .before .before .before .before .before .before .before .before .before .before .before .before .before .before .before .advance .result .at) _ _ (c .before .before .before .before .before .before .before .before .before .before .node2 .given .1) (c .before .before .before .before .before .before .before .before .before .before .before .before .before .before .before .advance .ensures .led s .ready))) _ (c .before .before .before .before .flag-behind .ensures))))
+sweep-returns-2 t c = λ s. c .before .before .before .before .before .before .before .before .before .before .before .before .before .before .before .advance .ensures .led s .done _ _ (seq-done (c .before .before .before .before .before .before .before .before .before .before .before .before .before .before .before .before .before .before .before .before .args .words .now) (c .before .before .before .before .before .before .before .before .before .before .before .before .before .before .before .before .before .before .before .before .args .tape .now) (c .before .before .before .before .before .before .before .before .before .before .before .before .before .before .before .before .before .before .before .before .pre .1 .0) (c .before .before .before .before .before .before .before .before .before .before .before .before .before .before .before .advance .result .node) (small t (c .before .before .before .before .before .before .before .before .before .before .before .before)) _ (c .before .before .before .before .before .before .before .before .before .before .before .before .node-at .ensures) (c .before .before .before .before .before .before .before .before .before .before .before .before .before .before .before .advance .result .position) (c .before .before .before .before .before .before .before .before .before .before .before .before .before .before .before .advance .result .taken) (c .before .before .before .before .before .before .before .before .before .before .before .before .before .before .before .advance .result .at) _ _ (c .before .before .before .before .before .before .before .before .before .before .node2 .given .1) (ready t (c .before .before .before .before .before .before .before .before .before .before .before .before) s) _ _ _ (c .before .before .before .before .before .before .before .sweep .ensures (first-ready t (c .before .before .before .before .before .before .before .before .before .before) s)) _ (c .before .before .before .before .flag-behind .ensures) _ _ (c .before .before .sweep2 .ensures (second-ready t (c .before .before .before .before) s)))
 
 sweep-same-length-3 : (t : ℕ) → sweep-lts.Need-same-length-3 (given t) (sweep-at t) sweep.Post
 sweep-same-length-3 t c = c .before .before .before .before .before .advance .ensures .as-long
@@ -141,10 +144,10 @@ sweep-returns-3 : (t : ℕ) → sweep-lts.Need-returns-3 (given t) (sweep-at t) 
 sweep-returns-3 t c = absurd (true≢false (sym (ap is-choice (sym (c .before .before .node-at .ensures) ∙ c .enum-told .given .1)) ∙ c .before .before .before .before .before .advance .ensures .no-choice))
 
 sweep-same-length-4 : (t : ℕ) → sweep-lts.Need-same-length-4 (given t) (sweep-at t) sweep.Post
-sweep-same-length-4 t c = (c .before .before .sweep-rounds .ensures (ready t (c .before .before .before .before .before .before .before))) .as-long ∙ c .before .before .before .before .before .before .before .before .before .before .advance .ensures .as-long
+sweep-same-length-4 t c = (c .before .before .sweep-rounds .ensures (ready t (c .before .before .before .before .before .before .before) (c .before .before .before .before .before .before .before .before .before .before .before .before .before .before .before .pre .1 .1 .1))) .as-long ∙ c .before .before .before .before .before .before .before .before .before .before .advance .ensures .as-long
 
 sweep-returns-4 : (t : ℕ) → sweep-lts.Need-returns-4 (given t) (sweep-at t) sweep.Post
-sweep-returns-4 t c = λ s. c .before .before .before .before .before .before .before .before .before .before .advance .ensures .led s .done _ _ (c .before .before .sweep-rounds .ensures (c .before .before .before .before .before .before .before .before .before .before .advance .ensures .led s .ready))
+sweep-returns-4 t c = λ s. c .before .before .before .before .before .before .before .before .before .before .advance .ensures .led s .done _ _ (c .before .before .sweep-rounds .ensures (ready t (c .before .before .before .before .before .before .before) s))
 
 sweep-rounds-loop-holds : (t : ℕ) → sweep-rounds-lts.Need-loop-holds (rounds-given t) (sweep-rounds-at t) sweep-rounds.Post sweep-rounds-Inv-loop sweep-rounds-μ-loop
 sweep-rounds-loop-holds t c = λ s. turns-start-at s _
