@@ -3,3 +3,4 @@ pub mod Writing
 pub mod ParseLaws
 pub mod Rejected
 pub mod MarkLaws
+pub mod ChoiceLaws
