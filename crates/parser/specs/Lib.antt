@@ -2,3 +2,5 @@ pub mod Parse
 pub mod Writing
 pub mod ParseLaws
 pub mod Rejected
+pub mod MarkLaws
+pub mod ChoiceLaws

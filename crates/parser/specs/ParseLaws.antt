@@ -74,6 +74,14 @@ root-nodes p r = as-weight (root p) ∙ root-weight p r (λ i. 1) ∙ ones (p .c
     ones zero = refl
     ones (suc n) = omega (arith, ones n)
 
+-- 01: "The last line is the root."
+pub root-index : (p : Pattern) → obeys p ≡ true → index (root p) ≡ p .count - 1
+unfolding root
+root-index p good =
+    let r = obeys-iff p .0 good in
+    let one = r .one in
+    ap index (tree-line (line-at p) (p .count - 1) (r .lower (p .count - 1) (omega arith))) ∙ index-made _ (tree-of (line-at p)) (line-at p (p .count - 1) .node)
+
 pub root-choices : (p : Pattern) → obeys p ≡ true → choices (root p) ≤ 64
 root-choices p h = let r = obeys-iff p .0 h in omega (arith, choices-nodes (root p), root-nodes p r, r .few)
 
@@ -245,15 +253,9 @@ module _ (p : Pattern) (tape ws xs : List ℕ) where
             marked : o ≡ readable (root p) tape
             unfolding readable
             marked =
-                eo ∙ ap (λ l. test-bit (getD us (2 * 0 + bit true) 0) l) (sym root-index)
+                eo ∙ ap (λ l. test-bit (getD us (2 * 0 + bit true) 0) l) (sym (root-index p good))
                 ∙ ap (λ x. test-bit x (index (root p))) (ap (λ v. getD v (2 * 0 + bit true) 0) filled ∙ filled-at p tape ws 0 (omega arith) true)
                 ∙ state-bit p (obeys-iff p .0 good) true tape (root p) top
-              where
-                root-index : index (root p) ≡ p .count - 1
-                root-index = unfold root in
-                    let r = obeys-iff p .0 good in
-                    let one = r .one in
-                    ap index (tree-line (line-at p) (p .count - 1) (r .lower (p .count - 1) (omega arith))) ∙ index-made _ (tree-of (line-at p)) (line-at p (p .count - 1) .node)
 
             pub parse-unreadable : o ≡ false → Parses p tape ws us xs xs (Refused Unreadable)
             parse-unreadable f = on us xs (Refused Unreadable) filled

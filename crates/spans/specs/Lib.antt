@@ -6,3 +6,5 @@ pub mod Seeks
 -- The services: one law for each way of the code.
 pub mod SpanLaws
 pub mod Pieces
+-- A node outside the table has no visit.
+pub mod Outside
