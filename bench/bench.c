@@ -285,6 +285,8 @@ static void growth(const char *name, void (*pattern)(Table *, int)) {
 
 enum { STACK = 1 << 20, PAINT = 0xa5 };
 
+enum { STACK_BOUND = 8192 };  // bytes of a parse with the load before it
+
 // The bytes of a painted stack that a call changes.
 static size_t stack_of(void (*call)(void)) {
   static uint8_t stack[STACK] __attribute__((aligned(64)));
@@ -304,9 +306,10 @@ static size_t stack_of(void (*call)(void)) {
 static void no_call(void) {}
 
 static void stacks(const char *name) {
-  size_t none = stack_of(no_call);
-  printf("| %s | %zu | %zu | %zu | %zu | %zu | %zu | %zu |\n", name, stack_of(p_load) - none, stack_of(p_parse) - none, stack_of(p_walk) - none,
-         stack_of(p_spell) - none, stack_of(p_total) - none, stack_of(p_settle) - none, stack_of(c_parse) - none);
+  size_t none = stack_of(no_call), parse = stack_of(p_parse) - none;
+  wanting += parse > STACK_BOUND;
+  printf("| %s | %zu | %zu, %s | %zu | %zu | %zu | %zu | %zu |\n", name, stack_of(p_load) - none, parse, parse > STACK_BOUND ? "NOT MET" : "met",
+         stack_of(p_walk) - none, stack_of(p_spell) - none, stack_of(p_total) - none, stack_of(p_settle) - none, stack_of(c_parse) - none);
 }
 
 static void meter(void) { meter_pattern(&table, 64); }
@@ -362,7 +365,7 @@ int main(int argc, char **argv) {
   growth("meter tape", meter_pattern);
   growth("hostile", hostile_pattern);
   puts("\n### Stack: bytes that a call changes, with the load before it\n");
-  puts("| Pattern | Load | Parse | Walk | Spell | Totals | Settle | C's parse |");
+  puts("| Pattern | Load | Parse, at most 8192 | Walk | Spell | Totals | Settle | C's parse |");
   puts("|---|---|---|---|---|---|---|---|");
   for (int k = 0; k < 3; k++) pattern(k), stacks(patterns[k].name);
   printf("\nBounds not met: %d.\n", wanting);
