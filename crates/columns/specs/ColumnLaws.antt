@@ -32,6 +32,11 @@ row-node (Sequence p q) = refl
 row-node (Alternative p q) = refl
 row-node (Star p) = refl
 
+-- the node of a line whose kind has the number n
+pub kind-in : (kind first second : List ℕ) (l n : ℕ) → getD kind l 0 ≡ n → node-from n (getD first l 0) (getD second l 0) ≡ node-in kind first second l
+unfolding node-in
+kind-in kind first second l n e = ap (λ k. node-from k (getD first l 0) (getD second l 0)) (sym e)
+
 pub star-from : (k a b : ℕ) → 5 ≤ k → Star a ≡ node-from k a b
 star-from zero a b h = absurd (omega arith)
 star-from (suc zero) a b h = absurd (omega arith)

@@ -1,5 +1,11 @@
 // What the cases of more than one kind say. Each `put_` function puts its bytes into `out` from `at` on and answers where
 // they end. What does not fit is left out.
+ghost use mathlib.Core.Path.{_≡_};
+ghost use mathlib.Core.Bool.{cond};
+ghost use mathlib.Core.List.{_++_};
+ghost use lib.Dec.{eqb};
+ghost use lib.ListN.{length};
+ghost use Rattle.vector_text.specs.Text.{part, Puts, parted-text, shown-text, bytes-digest, words-digest};
 use libc::STDOUT_FILENO;
 use vector_text::START;
 use vector_text::of_bytes;
@@ -28,12 +34,17 @@ pub fn print_line(out: &mut [u8], at: usize) {
 }
 
 // A tab stands before the first number of a list, commas before the others.
-pub fn part_before(i: usize) -> u8 {
+pub fn part_before(i: usize) -> u8
+    ensures { λ r. ⌜ r ≡ cond (eqb i 0) 9 44 ⌝ }
+{
     if i == 0 { b'\t' } else { b',' }
 }
 
 // The digest of the bytes from position `from` to before `to`.
-pub fn put_digest(out: &mut [u8], at: usize, bytes: &[u8], from: usize, to: usize) -> usize {
+pub fn put_digest(out: &mut [u8], at: usize, bytes: &[u8], from: usize, to: usize) -> usize
+    ensures { λ r.
+        ⌜ Puts (now (out .entry)) at (parted-text 9 (bytes-digest 1 (part from to (now (bytes .entry))))) (now (out .exit)) r ⌝ }
+{
     put_parted(out, at, b'\t', of_bytes(START, bytes, from, to))
 }
 
@@ -47,7 +58,10 @@ pub fn put_left(
     lent: usize,
     code: &[u8],
     bytes: usize,
-) -> usize {
+) -> usize
+    ensures { λ r.
+        ⌜ Puts (now (out .entry)) at (parted-text 9 (words-digest 1 (part 0 lent (now (words .entry)))) ++ shown-text bytes (now (code .entry)) ++ parted-text 9 (bytes-digest (words-digest digest (part lent (length (now (words .entry))) (now (words .entry)))) (part bytes (length (now (code .entry))) (now (code .entry))))) (now (out .exit)) r ⌝ }
+{
     let a = put_parted(out, at, b'\t', of_words(START, words, 0, lent));
     let b = put_shown(out, a, code, bytes);
     let past = of_words(digest, words, lent, words.len());

@@ -1,6 +1,6 @@
 -- `columns::node_at` meets its contract.
 use lib.ListN.{getD}
-use Rattle.columns.specs.ColumnLaws.{star-from}
+use Rattle.columns.specs.ColumnLaws.{kind-in, star-from}
 use Rattle.columns.specs.Columns.{node-in}
 use native.Mathlib.Omega.{arith}
 use borrow.Author.Needs.{needs}
@@ -17,24 +17,19 @@ element-copy-out-b : tie.Need-element-copy-out-b
 element-copy-out-b c = search needs
 
 returns : tie.Need-returns
-unfolding node-in
-returns c = rw (c .if1 .taken)
+returns c = let s = c .before .before .before .before in kind-in (s .args .kind .now) (s .args .first .now) (s .args .second .now) (s .args .l) 0 (c .if1 .taken)
 
 returns-2 : tie.Need-returns-2
-unfolding node-in
-returns-2 c = rw (c .if2 .taken)
+returns-2 c = let s = c .before .before .before .before .before in kind-in (s .args .kind .now) (s .args .first .now) (s .args .second .now) (s .args .l) 1 (c .if2 .taken)
 
 returns-3 : tie.Need-returns-3
-unfolding node-in
-returns-3 c = rw (c .if3 .taken)
+returns-3 c = let s = c .before .before .before .before .before .before in kind-in (s .args .kind .now) (s .args .first .now) (s .args .second .now) (s .args .l) 2 (c .if3 .taken)
 
 returns-4 : tie.Need-returns-4
-unfolding node-in
-returns-4 c = rw (c .if4 .taken)
+returns-4 c = let s = c .before .before .before .before .before .before .before in kind-in (s .args .kind .now) (s .args .first .now) (s .args .second .now) (s .args .l) 3 (c .if4 .taken)
 
 returns-5 : tie.Need-returns-5
-unfolding node-in
-returns-5 c = rw (c .if5 .taken)
+returns-5 c = let s = c .before .before .before .before .before .before .before .before in kind-in (s .args .kind .now) (s .args .first .now) (s .args .second .now) (s .args .l) 4 (c .if5 .taken)
 
 returns-6 : tie.Need-returns-6
 unfolding node-in
