@@ -6,3 +6,4 @@ pub mod Demanded
 pub mod Rejected
 pub mod Agree
 pub mod AgreeLaws
+pub mod Unique

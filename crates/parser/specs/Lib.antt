@@ -4,3 +4,4 @@ pub mod ParseLaws
 pub mod Rejected
 pub mod MarkLaws
 pub mod ChoiceLaws
+pub mod Unique
