@@ -40,7 +40,7 @@ fn spell_leaf(leaf: Leaf, code: &[u8], count: u32, at: u32, tape: &mut [u8], n: 
 }
 
 // Writes the letters of node l, whose bits start at `at`, from cell n on.
-pub fn spell(
+pub(crate) fn spell(
     kind: &[u8; 64],
     first: &[u8; 64],
     second: &[u8; 64],

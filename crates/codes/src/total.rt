@@ -64,7 +64,7 @@ fn charge_leaf(leaf: Leaf, account: u8, code: &[u8], count: u32, at: u32, sums: 
 }
 
 // Adds the litres of node l, whose bits start at `at`; `above` is the account that the nodes above hand down.
-pub fn charge(
+pub(crate) fn charge(
     kind: &[u8; 64],
     first: &[u8; 64],
     second: &[u8; 64],

@@ -35,7 +35,7 @@ fn put_line(out: &mut [u8], at: usize, word: &[u8], a: u32, b: u32) -> usize
 }
 
 // Letters, bits, and the code in hexadecimal.
-pub fn put_tape(out: &mut [u8], at: usize, letters: u32, bits: u32, code: &[u8]) -> usize
+pub(crate) fn put_tape(out: &mut [u8], at: usize, letters: u32, bits: u32, code: &[u8]) -> usize
     requires { ⌜ at + (28 + 2 * length (now code)) ≤ length (now out) ⌝ }
     ensures { λ r. ⌜ Puts (now (out .entry)) at (tape-line letters bits (now (code .entry))) (now (out .exit)) r ⌝ }
 {
@@ -56,7 +56,7 @@ fn put_account(out: &mut [u8], at: usize, account: u32, litres: u32) -> usize
     put_line(out, at, b"account", account, litres)
 }
 
-pub fn put_accounts(out: &mut [u8], at: usize, litres: &[u32]) -> usize
+pub(crate) fn put_accounts(out: &mut [u8], at: usize, litres: &[u32]) -> usize
     requires { ⌜ (at + 300 ≤ length (now out)) × (length (now litres) ≤ 10) ⌝ }
     ensures { λ r. ⌜ (Puts (now (out .entry)) at (account-lines 0 (now (litres .entry))) (now (out .exit)) r) × (r ≤ at + 300) ⌝ }
 {
@@ -70,7 +70,7 @@ pub fn put_accounts(out: &mut [u8], at: usize, litres: &[u32]) -> usize
 }
 
 // Positions 0 to `letters`, each with the ones of its flag 1 word.
-pub fn put_open(out: &mut [u8], at: usize, words: &[u64], letters: usize) -> usize
+pub(crate) fn put_open(out: &mut [u8], at: usize, words: &[u64], letters: usize) -> usize
     requires { ⌜ (at + 27 * (letters + 1) ≤ length (now out)) × (letters ≤ letter-limit) × (2 * (letters + 1) ≤ length (now words)) ⌝ }
     ensures { λ r. ⌜ Puts (now (out .entry)) at (open-lines (now (words .entry)) 0 (suc letters)) (now (out .exit)) r ⌝ }
 {
@@ -85,7 +85,7 @@ pub fn put_open(out: &mut [u8], at: usize, words: &[u64], letters: usize) -> usi
 }
 
 // The line of a refusal.
-pub fn put_refused(out: &mut [u8], at: usize, why: Refusal) -> usize
+pub(crate) fn put_refused(out: &mut [u8], at: usize, why: Refusal) -> usize
     requires { ⌜ at + 30 ≤ length (now out) ⌝ }
     ensures { λ r. ⌜ (Puts (now (out .entry)) at (refused-line (refused why)) (now (out .exit)) r) × (r ≤ at + 30) ⌝ }
 {

@@ -7,7 +7,7 @@ ghost use lib.ListN.{length};
 ghost use Rattle.listing.specs.Listing.{decimal, hex-digit, hex-byte, hex, field};
 ghost use Rattle.listing.specs.Putting.{Puts, Room};
 
-pub fn put_byte(out: &mut [u8], at: usize, byte: u8) -> usize
+pub(crate) fn put_byte(out: &mut [u8], at: usize, byte: u8) -> usize
     requires { ⌜ Room (length (now out)) at (byte ∷ []) ⌝ }
     ensures { λ r. ⌜ Puts (now (out .entry)) at (byte ∷ []) (now (out .exit)) r ⌝ }
 {
@@ -15,7 +15,7 @@ pub fn put_byte(out: &mut [u8], at: usize, byte: u8) -> usize
     at + 1
 }
 
-pub fn put_bytes(out: &mut [u8], at: usize, bytes: &[u8]) -> usize
+pub(crate) fn put_bytes(out: &mut [u8], at: usize, bytes: &[u8]) -> usize
     requires { ⌜ Room (length (now out)) at (now bytes) ⌝ }
     ensures { λ r. ⌜ Puts (now (out .entry)) at (now (bytes .entry)) (now (out .exit)) r ⌝ }
 {
@@ -29,7 +29,7 @@ pub fn put_bytes(out: &mut [u8], at: usize, bytes: &[u8]) -> usize
 }
 
 // A number's decimal digits: those of its tenth, and its last one. Calls go ten deep.
-pub fn put_decimal(out: &mut [u8], at: usize, n: u32) -> usize
+pub(crate) fn put_decimal(out: &mut [u8], at: usize, n: u32) -> usize
     requires { ⌜ Room (length (now out)) at (decimal n) ⌝ }
     ensures { λ r. ⌜ Puts (now (out .entry)) at (decimal n) (now (out .exit)) r ⌝ }
 {
@@ -42,7 +42,7 @@ pub fn put_decimal(out: &mut [u8], at: usize, n: u32) -> usize
 }
 
 // A tab and a number.
-pub fn put_field(out: &mut [u8], at: usize, n: u32) -> usize
+pub(crate) fn put_field(out: &mut [u8], at: usize, n: u32) -> usize
     requires { ⌜ Room (length (now out)) at (field n) ⌝ }
     ensures { λ r. ⌜ Puts (now (out .entry)) at (field n) (now (out .exit)) r ⌝ }
 {
@@ -68,7 +68,7 @@ fn put_hex_byte(out: &mut [u8], at: usize, byte: u8) -> usize
 }
 
 // Bytes in hexadecimal.
-pub fn put_hex(out: &mut [u8], at: usize, bytes: &[u8]) -> usize
+pub(crate) fn put_hex(out: &mut [u8], at: usize, bytes: &[u8]) -> usize
     requires { ⌜ Room (length (now out)) at (hex (now bytes)) ⌝ }
     ensures { λ r. ⌜ Puts (now (out .entry)) at (hex (now (bytes .entry))) (now (out .exit)) r ⌝ }
 {

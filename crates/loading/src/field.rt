@@ -38,7 +38,7 @@ fn ends(b: u16) -> bool
     b == 256
 }
 
-pub fn field_from(text: &[u8], at: usize) -> Field
+pub(crate) fn field_from(text: &[u8], at: usize) -> Field
     requires { ⌜ at ≤ length (now text) ⌝ }
     ensures { λ r. ⌜ r ≡ field-at (now (text .entry)) at ⌝ }
 {
@@ -114,7 +114,7 @@ fn long_place(a: u16, b: u16) -> u16
 }
 
 // The node index that a field writes, 64 where it writes none.
-pub fn place_of(f: Field) -> u16
+pub(crate) fn place_of(f: Field) -> u16
     ensures { λ r. ⌜ r ≡ place (word f) ⌝ }
 {
     if f.size == 1 {
@@ -127,14 +127,14 @@ pub fn place_of(f: Field) -> u16
 }
 
 // The byte of a field of one byte, 0 for any other field.
-pub fn single_of(f: Field) -> u16
+pub(crate) fn single_of(f: Field) -> u16
     ensures { λ r. ⌜ r ≡ single (word f) ⌝ }
 {
     if f.size == 1 { f.first } else { 0 }
 }
 
 // The account that a byte writes, 10 where it writes none.
-pub fn account_of(b: u16) -> u8
+pub(crate) fn account_of(b: u16) -> u8
     ensures { λ r. ⌜ r ≡ account b ⌝ }
 {
     if b == 45 {

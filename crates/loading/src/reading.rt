@@ -10,7 +10,7 @@ pub struct Read {
     pub fault: usize,
 }
 
-pub fn read_lines(text: &[u8]) -> Read
+pub(crate) fn read_lines(text: &[u8]) -> Read
     ensures { λ r. ⌜ Reads-lines (now (text .entry)) r ⌝ }
 {
     let mut p = Pattern::new();

@@ -154,7 +154,7 @@ fn scan_account(text: &[u8], at: usize, kind: u16) -> Scanned
 }
 
 // Line i of the text, which begins at position `at`.
-pub fn scan_line(text: &[u8], at: usize, i: usize) -> Scanned
+pub(crate) fn scan_line(text: &[u8], at: usize, i: usize) -> Scanned
     requires { ⌜ (at ≤ length (now text)) × (i < 64) ⌝ }
     ensures { λ r. ⌜ r ≡ scanned i at (drop at (now (text .entry))) ⌝ }
 {

@@ -44,7 +44,7 @@ fn before_round(star: u8, front: Front, follow: Follow) -> Follow
 }
 
 // The parts of line i: a star has one, and a leaf stands for its own.
-pub fn first_part(node: Node, i: usize) -> usize
+pub(crate) fn first_part(node: Node, i: usize) -> usize
     ensures { λ r. ⌜ r ≡ first-part i node ⌝ }
 {
     match node {
@@ -55,7 +55,7 @@ pub fn first_part(node: Node, i: usize) -> usize
     }
 }
 
-pub fn second_part(node: Node, i: usize) -> usize
+pub(crate) fn second_part(node: Node, i: usize) -> usize
     ensures { λ r. ⌜ r ≡ second-part i node ⌝ }
 {
     match node {
@@ -92,7 +92,7 @@ fn put_follow(states: &mut [u8], behind: &mut [u64], ends: &mut [bool], i: usize
 }
 
 // What follows each line, into three lent arrays. The end follows the last line; each line hands on to its parts.
-pub fn put_follows(
+pub(crate) fn put_follows(
     p: Pattern,
     firsts: &[u64],
     nulls: &[bool],

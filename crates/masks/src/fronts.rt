@@ -76,7 +76,7 @@ fn front_of(node: Node, i: usize, a: Front, b: Front) -> Front
 }
 
 // The fronts of all lines, into two lent arrays: arrays of structs would be copied at each call.
-pub fn put_fronts(p: Pattern, firsts: &mut [u64], nulls: &mut [bool])
+pub(crate) fn put_fronts(p: Pattern, firsts: &mut [u64], nulls: &mut [bool])
     requires { ⌜ Rules p × (length (now firsts) ≡ 64) × (length (now nulls) ≡ 64) ⌝ }
     ensures { λ _. ⌜ ((good : Rules p) → Fronts p good (p .count) (now (firsts .exit)) (now (nulls .exit))) ⌝ }
 {

@@ -32,7 +32,7 @@ fn put_row(cells: &mut [u64], row: u64, i: usize)
 
 // For each leaf the nodes that come to it with a flag, 0 or 1: each line's bit goes to the leaves that the line comes to, those inside it
 // and, where it can be empty, those behind it with that flag.
-pub fn put_columns(
+pub(crate) fn put_columns(
     count: usize,
     firsts: &[u64],
     nulls: &[bool],
@@ -54,7 +54,7 @@ pub fn put_columns(
 }
 
 // The nodes that come to the end with flag 1.
-pub fn ends_of(count: usize, nulls: &[bool], ends: &[bool]) -> u64
+pub(crate) fn ends_of(count: usize, nulls: &[bool], ends: &[bool]) -> u64
     requires { ⌜ (count ≤ 64) × (length (now nulls) ≡ 64) × (length (now ends) ≡ 64) ⌝ }
     ensures { λ r. ⌜ r ≡ word-of count (comes-to-end (now (nulls .entry)) (now (ends .entry))) ⌝ }
 {
@@ -118,7 +118,7 @@ fn clear(cells: &mut [u64])
 }
 
 // For each letter the leaves that take it. Whatever the cells held before is gone.
-pub fn put_takers(p: Pattern, takers: &mut [u64])
+pub(crate) fn put_takers(p: Pattern, takers: &mut [u64])
     requires { ⌜ Rules p × (length (now takers) ≡ 128) ⌝ }
     ensures { λ _. ⌜ Filled 0 (λ c. line-takers p c (p .count)) 128 128 (now (takers .exit)) ⌝ }
 {

@@ -7,26 +7,26 @@ ghost use Rattle.bits.specs.Bits.{bit};
 ghost use Rattle.masks.specs.Unions.{pick};
 
 // The word, joined with the mask where it is chosen.
-pub fn join(word: u64, mask: u64, chosen: bool) -> u64
+pub(crate) fn join(word: u64, mask: u64, chosen: bool) -> u64
     ensures { λ r. ⌜ r ≡ bitOr word (pick chosen mask) ⌝ }
 {
     if chosen { word | mask } else { word }
 }
 
-pub fn both(x: bool, y: bool) -> bool
+pub(crate) fn both(x: bool, y: bool) -> bool
     ensures { λ r. ⌜ r ≡ (x && y) ⌝ }
 {
     if x { y } else { false }
 }
 
-pub fn either(x: bool, y: bool) -> bool
+pub(crate) fn either(x: bool, y: bool) -> bool
     ensures { λ r. ⌜ r ≡ (x || y) ⌝ }
 {
     if x { true } else { y }
 }
 
 // The word with bit l only, or with none.
-pub fn single(l: usize, v: bool) -> u64
+pub(crate) fn single(l: usize, v: bool) -> u64
     requires { ⌜ l < 64 ⌝ }
     ensures { λ r. ⌜ r ≡ bit v * 2 ^ l ⌝ }
 {

@@ -28,7 +28,7 @@ fn begins(own: &[u8], tape: &[u8]) -> bool
 }
 
 // Whether a code is a code of a tape: it is spelled and compared.
-pub fn spells(p: Pattern, code: &[u8], count: u32, tape: &[u8]) -> bool
+pub(crate) fn spells(p: Pattern, code: &[u8], count: u32, tape: &[u8]) -> bool
     requires { ⌜ (obeys p ≡ true) × (length (now tape) ≤ letter-limit) ⌝ }
     ensures { λ r. ⌜ r ≡ code-of-tape (root p) (now (tape .entry)) (now (code .entry)) count ⌝ }
 {

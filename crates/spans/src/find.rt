@@ -94,7 +94,7 @@ fn left_inside(l: usize, node: u32, k: u32) -> u32
 }
 
 // Looks for visit k of a node among those of node l, whose bits start at `at` and whose letters start at `position`.
-pub fn find(
+pub(crate) fn find(
     kind: &[u8; 64],
     first: &[u8; 64],
     second: &[u8; 64],

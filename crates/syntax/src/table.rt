@@ -48,7 +48,7 @@ fn good_line(line: Line) -> bool
     }
 }
 
-pub fn good_lines(p: Pattern) -> bool
+pub(crate) fn good_lines(p: Pattern) -> bool
     requires { ⌜ p .count ≤ 64 ⌝ }
     ensures { λ r. ⌜ r ≡ is-none (lowest (badly-formed p) 0 (p .count)) ⌝ }
 {

@@ -73,7 +73,7 @@ fn put_hex_byte(out: &mut [u8], at: usize, byte: u8) -> usize
 }
 
 // The first `count` bytes in hexadecimal.
-pub fn put_hex(out: &mut [u8], at: usize, bytes: &[u8], count: usize) -> usize
+pub(crate) fn put_hex(out: &mut [u8], at: usize, bytes: &[u8], count: usize) -> usize
     ensures { λ r. ⌜ Puts (now (out .entry)) at (hex-text (part 0 count (now (bytes .entry)))) (now (out .exit)) r ⌝ }
     ensures { λ r. ⌜ Counts r (now (out .exit)) ⌝ }
 {

@@ -27,7 +27,7 @@ pub fn least(a: usize, b: usize) -> usize
     if a < b { a } else { b }
 }
 
-pub fn put_bytes(out: &mut [u8], at: usize, bytes: &[u8]) -> usize
+pub(crate) fn put_bytes(out: &mut [u8], at: usize, bytes: &[u8]) -> usize
     ensures { λ r. ⌜ Puts (now (out .entry)) at (now (bytes .entry)) (now (out .exit)) r ⌝ }
     ensures { λ r. ⌜ Counts r (now (out .exit)) ⌝ }
 {
@@ -41,7 +41,7 @@ pub fn put_bytes(out: &mut [u8], at: usize, bytes: &[u8]) -> usize
 }
 
 // In decimal.
-pub fn put_number(out: &mut [u8], at: usize, x: u64) -> usize
+pub(crate) fn put_number(out: &mut [u8], at: usize, x: u64) -> usize
     ensures { λ r. ⌜ Puts (now (out .entry)) at (decimal-text x) (now (out .exit)) r ⌝ }
     ensures { λ r. ⌜ Counts r (now (out .exit)) ⌝ }
 {

@@ -184,7 +184,7 @@ fn run_sizes(p: Pattern, code: &[u8], count: u32, line: &[u8]) {
     run_lent(p, code, count, letters, lent, number(last) as usize);
 }
 
-pub fn run_code(p: Pattern, line: &[u8]) {
+pub(crate) fn run_code(p: Pattern, line: &[u8]) {
     let digits = field(line);
     let mut code = [0u8; MAX_CODE];
     let size = decode(digits, &mut code);

@@ -71,7 +71,7 @@ fn put_lines(out: &mut [u8], at: usize, p: Pattern) -> usize {
 }
 
 // Prints the outcome, then the table's lines: a refused load's table has none. All take less than 1,024 bytes.
-pub fn print_loaded(loaded: Loaded) {
+pub(crate) fn print_loaded(loaded: Loaded) {
     let outcome = loaded.outcome;
     let pattern = loaded.pattern;
     let mut out = [0u8; 1024];

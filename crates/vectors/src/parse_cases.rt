@@ -110,7 +110,7 @@ fn run_sizes(p: Pattern, tape: &[u8], line: &[u8]) {
     run_lent(p, tape, number(field(line)) as usize, number(last) as usize);
 }
 
-pub fn run_parse(p: Pattern, line: &[u8]) {
+pub(crate) fn run_parse(p: Pattern, line: &[u8]) {
     let digits = field(line);
     let mut tape = [0u8; MAX_TAPE];
     let size = decode(digits, &mut tape);

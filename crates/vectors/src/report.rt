@@ -23,25 +23,25 @@ pub const WORD_BEFORE: u64 = 0x5555555555555555;
 
 pub const BYTE_BEFORE: u8 = 0xAA;
 
-pub fn say_bad() {
+pub(crate) fn say_bad() {
     io::write_all(STDOUT_FILENO, b"not a case\n");
 }
 
 // Ends the line in `out` at `at` with byte 10, and prints it.
-pub fn print_line(out: &mut [u8], at: usize) {
+pub(crate) fn print_line(out: &mut [u8], at: usize) {
     let size = put_byte(out, at, b'\n');
     io::write_all(STDOUT_FILENO, &out[..size]);
 }
 
 // A tab stands before the first number of a list, commas before the others.
-pub fn part_before(i: usize) -> u8
+pub(crate) fn part_before(i: usize) -> u8
     ensures { λ r. ⌜ r ≡ cond (eqb i 0) 9 44 ⌝ }
 {
     if i == 0 { b'\t' } else { b',' }
 }
 
 // The digest of the bytes from position `from` to before `to`.
-pub fn put_digest(out: &mut [u8], at: usize, bytes: &[u8], from: usize, to: usize) -> usize
+pub(crate) fn put_digest(out: &mut [u8], at: usize, bytes: &[u8], from: usize, to: usize) -> usize
     ensures { λ r.
         ⌜ Puts (now (out .entry)) at (parted-text 9 (bytes-digest 1 (part from to (now (bytes .entry))))) (now (out .exit)) r ⌝ }
 {
@@ -50,7 +50,7 @@ pub fn put_digest(out: &mut [u8], at: usize, bytes: &[u8], from: usize, to: usiz
 
 // The digest of the words lent, the code bytes lent, and one digest of all cells past those lent, of the words and then
 // of the code, which goes on from `digest`.
-pub fn put_left(
+pub(crate) fn put_left(
     out: &mut [u8],
     at: usize,
     digest: u64,

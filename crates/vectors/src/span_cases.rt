@@ -78,7 +78,7 @@ fn run_tape(p: Pattern, tape: &[u8], line: &[u8]) {
     run_numbers(p, tape, &code[..size], rest(line));
 }
 
-pub fn run_span(p: Pattern, line: &[u8]) {
+pub(crate) fn run_span(p: Pattern, line: &[u8]) {
     let digits = field(line);
     let mut tape = [0u8; MAX_TAPE];
     let size = decode(digits, &mut tape);
