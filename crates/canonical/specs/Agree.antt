@@ -7,13 +7,13 @@ use Prim.Native.Nat.{ℕ, _+_, _*_, _≤_}
 use lib.Dec.{ltb}
 use lib.ListN.{length, take}
 use Rattle.syntax.specs.declared.Pattern.{Pattern}
-use Rattle.syntax.specs.declared.Refusal.the-variants.{CodeTooShort}
+use Rattle.refusals.specs.declared.Refusal.the-variants.{CodeTooShort}
 use Rattle.syntax.specs.Letter.{letter-limit}
 use Rattle.syntax.specs.Table.{obeys}
 use Rattle.syntax.specs.Trees.{root}
 use Rattle.bits.specs.Bits.{cell-count, pack, in-front}
 use Rattle.semantics.specs.Code.{Canonical}
-use Rattle.states.specs.StateSets.{words}
+use Rattle.first_sweep.specs.StateSets.{words}
 use Rattle.canonical.specs.declared.Canonicalized.{Canonicalized}
 use Rattle.canonical.specs.declared.Canonicalized.the-variants.{Bits, Refused}
 use Rattle.canonical.specs.declared.agree.Agreement.{Agreement}

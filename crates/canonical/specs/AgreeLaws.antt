@@ -9,9 +9,9 @@ use borrow.Author.Tests.{ltb-true, ltb-false, le-ltb, leb-true, leb-false}
 use lib.Dec.{ltb, leb}
 use lib.ListN.{length, take}
 use Rattle.syntax.specs.declared.Pattern.{Pattern}
-use Rattle.syntax.specs.declared.Refusal.{Refusal}
-use Rattle.syntax.specs.declared.Refusal.the-variants.{LineForm, Tree as Tree-fault, TapeTooLong, TapeByte, Unreadable, WordsTooShort, CodeTooShort, NotACode, TapeTooShort, NoSuchVisit}
-use Rattle.syntax.specs.Refusals.{answer, refused}
+use Rattle.refusals.specs.declared.Refusal.{Refusal}
+use Rattle.refusals.specs.declared.Refusal.the-variants.{LineForm, Tree as Tree-fault, TapeTooLong, TapeByte, Unreadable, WordsTooShort, CodeTooShort, NotACode, TapeTooShort, NoSuchVisit}
+use Rattle.refusals.specs.Refusals.{answer, refused}
 use Rattle.syntax.specs.Table.{obeys}
 use Rattle.syntax.specs.Trees.{root}
 use Rattle.bits.specs.Bits.{cell-count, pack, in-front}
@@ -20,8 +20,8 @@ use Rattle.bits.specs.Writing.{take-in-front, length-in-front}
 use Rattle.semantics.specs.Code.{Canonical}
 use Rattle.semantics.specs.Sweeps.{greedy}
 use Rattle.semantics.specs.GreedyLaws.{greedy-canonical}
-use Rattle.states.specs.StateSets.{words}
-use Rattle.states.specs.Meaning.{words-length}
+use Rattle.first_sweep.specs.StateSets.{words}
+use Rattle.first_sweep.specs.Meaning.{words-length}
 use Rattle.codes.specs.Flatten.{whole-code, letters-of, flatten-answer}
 use Rattle.parser.specs.Parse.{Reads-greedily}
 use Rattle.canonical.specs.declared.Canonicalized.{Canonicalized}

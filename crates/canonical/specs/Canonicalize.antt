@@ -6,11 +6,11 @@ use Prim.Native.Nat.{ℕ, zero, suc, _+_, _*_, _≤_, _<_}
 use lib.Dec.{ltb}
 use lib.ListN.{length}
 use Rattle.syntax.specs.declared.Pattern.{Pattern}
-use Rattle.syntax.specs.declared.Refusal.the-variants.{WordsTooShort}
-use Rattle.syntax.specs.Refusals.{Answer, answer, refused}
+use Rattle.refusals.specs.declared.Refusal.the-variants.{WordsTooShort}
+use Rattle.refusals.specs.Refusals.{Answer, answer, refused}
 use Rattle.syntax.specs.Trees.{root}
 use Rattle.bits.specs.Bits.{in-front}
-use Rattle.states.specs.StateSets.{words}
+use Rattle.first_sweep.specs.StateSets.{words}
 use Rattle.codes.specs.declared.Flattened.{Flattened}
 use Rattle.codes.specs.declared.Flattened.the-variants.{Letters, Refused as Not-flattened}
 use Rattle.codes.specs.Flatten.{letters-of, flatten-answer}

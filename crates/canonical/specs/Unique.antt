@@ -7,8 +7,8 @@ use native.Mathlib.Omega.{arith}
 use lib.Dec.{ltb}
 use lib.ListN.{length}
 use Rattle.syntax.specs.declared.Pattern.{Pattern}
-use Rattle.syntax.specs.Refusals.{refused}
-use Rattle.syntax.specs.RefusalLaws.{refused-same}
+use Rattle.refusals.specs.Refusals.{refused}
+use Rattle.refusals.specs.RefusalLaws.{refused-same}
 use Rattle.syntax.specs.Trees.{root}
 use Rattle.codes.specs.Flatten.{letters-of, flatten-answer}
 use Rattle.parser.specs.Unique.{refused-some, greedily-one}

@@ -8,8 +8,8 @@ ghost use Rattle.canonical.specs.Agree.{passed-on, concluded, worked, Co
 use super::Canonicalized;
 use super::canonicalize;
 use check::same;
+use refusals::Refusal;
 use syntax::Pattern;
-use syntax::Refusal;
 
 // Whether two codes settle to the same code, or why that is not known.
 pub enum Agreement {

@@ -8,8 +8,8 @@ use codes::Flattened;
 use codes::flatten;
 use parser::Parsed;
 use parser::parse;
+use refusals::Refusal;
 use syntax::Pattern;
-use syntax::Refusal;
 
 // What settling answers: the bit count of the canonical code, or why not.
 pub enum Canonicalized {

@@ -26,7 +26,7 @@ use Rattle.semantics.specs.AccountLaws.{total-append}
 use Rattle.semantics.specs.Decode.{Read, read}
 use Rattle.semantics.specs.Positions.{Seen, see, seen, joined, and-then}
 use Rattle.semantics.specs.PositionLaws.{see-stays, see-nothing, see-letter, see-short, see-range, see-outside, see-seq, see-alt-none, see-left, see-right, see-star-none, see-stop, see-round}
-use Rattle.columns.specs.Columns.{node-in, tree-in, Good}
+use Rattle.table.specs.Columns.{node-in, tree-in, Good}
 use Rattle.codes.specs.Handed.{held-length, held-bit, held-number}
 use Rattle.codes.specs.Words.{same-seen, then-some}
 use Rattle.codes.specs.Lines.{line-as}

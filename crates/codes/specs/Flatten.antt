@@ -6,13 +6,13 @@ use Prim.Native.Nat.{ℕ}
 use lib.Dec.{eqb, leb}
 use lib.ListN.{length}
 use Rattle.syntax.specs.declared.Pattern.{Pattern}
-use Rattle.syntax.specs.declared.Refusal.{Refusal}
-use Rattle.syntax.specs.declared.Refusal.the-variants.{Tree as Tree-fault, TapeTooLong, NotACode, TapeTooShort}
+use Rattle.refusals.specs.declared.Refusal.{Refusal}
+use Rattle.refusals.specs.declared.Refusal.the-variants.{Tree as Tree-fault, TapeTooLong, NotACode, TapeTooShort}
 use Rattle.syntax.specs.Letter.{letter-limit}
 use Rattle.syntax.specs.Tree.{Tree}
 use Rattle.syntax.specs.Trees.{root}
 use Rattle.syntax.specs.Table.{obeys}
-use Rattle.syntax.specs.Refusals.{Answer, answer, refused}
+use Rattle.refusals.specs.Refusals.{Answer, answer, refused}
 use Rattle.bits.specs.Bits.{held, handed-good, in-front}
 use Rattle.semantics.specs.Decode.{is-code, spelled}
 use Rattle.codes.specs.declared.Flattened.{Flattened}

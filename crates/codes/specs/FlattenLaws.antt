@@ -11,16 +11,16 @@ use borrow.Author.Tests.{le-leb, lt-leb}
 use lib.ListN.{length, take, drop}
 use lib.Seq.{sets, sets-eq}
 use Rattle.syntax.specs.declared.Pattern.{Pattern}
-use Rattle.syntax.specs.declared.Refusal.the-variants.{Tree as Tree-fault, TapeTooLong, NotACode, TapeTooShort}
+use Rattle.refusals.specs.declared.Refusal.the-variants.{Tree as Tree-fault, TapeTooLong, NotACode, TapeTooShort}
 use Rattle.syntax.specs.Letter.{letter-limit}
 use Rattle.syntax.specs.Tree.{Tree}
 use Rattle.syntax.specs.Trees.{root}
 use Rattle.syntax.specs.Table.{obeys}
-use Rattle.syntax.specs.Refusals.{Answer, answer, refused}
+use Rattle.refusals.specs.Refusals.{Answer, answer, refused}
 use Rattle.bits.specs.Bits.{in-front}
-use Rattle.columns.specs.declared.Columns.{Columns}
-use Rattle.columns.specs.Columns.{tree-in, Holds}
-use Rattle.columns.specs.ColumnLaws.{holds-tree}
+use Rattle.table.specs.declared.Columns.{Columns}
+use Rattle.table.specs.Columns.{tree-in, Holds}
+use Rattle.table.specs.ColumnLaws.{holds-tree}
 use Rattle.codes.specs.declared.Flattened.{Flattened}
 use Rattle.codes.specs.declared.Flattened.the-variants.{Letters, Refused}
 use Rattle.codes.specs.declared.walk.Measured.{Measured}

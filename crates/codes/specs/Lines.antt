@@ -19,8 +19,8 @@ use Rattle.syntax.specs.Tree.{Label, Tree, range}
 use Rattle.syntax.specs.Trees.{made}
 use Rattle.syntax.specs.TreeLaws.{Below}
 use Rattle.bits.specs.Bits.{bit-at}
-use Rattle.columns.specs.Columns.{node-in, tree-in, Good}
-use Rattle.columns.specs.ColumnLaws.{line-tree, line-lower, line-formed}
+use Rattle.table.specs.Columns.{node-in, tree-in, Good}
+use Rattle.table.specs.ColumnLaws.{line-tree, line-lower, line-formed}
 use Rattle.codes.specs.Words.{word-at, word-then, word-seq, word-alt-none, word-side, word-star-none, word-stop, word-round}
 
 -- names for the clauses of the source, where `Leaf` and `Range` cannot be imported beside the types

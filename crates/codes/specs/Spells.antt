@@ -20,7 +20,7 @@ use Rattle.bits.specs.Bits.{number-at, held}
 use Rattle.semantics.specs.Value.{Value, flat}
 use Rattle.semantics.specs.Decode.{Read, read}
 use Rattle.semantics.specs.Positions.{see, seen}
-use Rattle.columns.specs.Columns.{node-in, tree-in, Good}
+use Rattle.table.specs.Columns.{node-in, tree-in, Good}
 use Rattle.codes.specs.declared.spell.Spelled.{Spelled}
 use Rattle.codes.specs.Lines.{line-as, alt-none-is, star-none-is}
 use Rattle.codes.specs.Words.{word-at, word-join, word-then, then-some, same-seen, word-stays, word-nothing, word-letter, word-short, word-range, word-outside}

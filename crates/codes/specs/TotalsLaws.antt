@@ -14,20 +14,20 @@ use Rattle.syntax.specs.declared.Line.{Line}
 use Rattle.syntax.specs.declared.Leaf.the-variants.{Nothing, Letter, Range}
 use Rattle.syntax.specs.declared.Node.{Node}
 use Rattle.syntax.specs.declared.Node.the-variants.{Leaf as Leaf-node, Sequence, Alternative, Star}
-use Rattle.syntax.specs.declared.Refusal.{Refusal}
-use Rattle.syntax.specs.declared.Refusal.the-variants.{Tree as Tree-fault, TapeTooLong, NotACode}
+use Rattle.refusals.specs.declared.Refusal.{Refusal}
+use Rattle.refusals.specs.declared.Refusal.the-variants.{Tree as Tree-fault, TapeTooLong, NotACode}
 use Rattle.syntax.specs.Bools.{and-fst}
 use Rattle.syntax.specs.Letter.{letter-limit}
 use Rattle.syntax.specs.Tree.{Label, Tree}
 use Rattle.syntax.specs.Trees.{made, tree-of, root}
 use Rattle.syntax.specs.TreeLaws.{Below, obeys-iff, tree-line}
 use Rattle.syntax.specs.Table.{obeys, line-at, node-at, node-good, line-good}
-use Rattle.syntax.specs.Refusals.{refused}
+use Rattle.refusals.specs.Refusals.{refused}
 use Rattle.semantics.specs.Accounts.{accounts, entries, total, totals, digits}
 use Rattle.semantics.specs.AccountLaws.{Accounts, entries-flat, letters, total-small, totals-digits}
-use Rattle.columns.specs.declared.Columns.{Columns}
-use Rattle.columns.specs.Columns.{tree-in, Holds}
-use Rattle.columns.specs.ColumnLaws.{holds-tree}
+use Rattle.table.specs.declared.Columns.{Columns}
+use Rattle.table.specs.Columns.{tree-in, Holds}
+use Rattle.table.specs.ColumnLaws.{holds-tree}
 use Rattle.codes.specs.declared.TotalsOutcome.the-variants.{Added, Refused}
 use Rattle.codes.specs.declared.walk.Measured.{Measured}
 use Rattle.codes.specs.Flatten.{whole-code, letters-of}

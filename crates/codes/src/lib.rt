@@ -7,11 +7,11 @@ mod spell; // spell.rt: the walk that writes the letters
 mod total; // total.rt: the walk that adds up litres
 pub mod walk; // walk.rt: whether bits are a whole code, where it stops, and how many letters it spells
 
-use columns::columns_of;
+use refusals::Refusal;
 use spell::spell;
 use syntax::Pattern;
-use syntax::Refusal;
 use syntax::obeys_rules;
+use table::columns_of;
 use total::charge;
 use walk::measure;
 

@@ -8,16 +8,16 @@ ghost use Rattle.syntax.specs.Table.{leaf-good};
 ghost use Rattle.syntax.specs.Tree.{Label, Tree};
 ghost use Rattle.syntax.specs.Trees.{made};
 ghost use Rattle.bits.specs.Bits.{bit-at};
-ghost use Rattle.columns.specs.Columns.{Good, tree-in};
+ghost use Rattle.table.specs.Columns.{Good, tree-in};
 ghost use Rattle.codes.specs.Lines.{leaf-node, range-node};
 ghost use Rattle.codes.specs.Walks.{cap, walked, more};
 ghost use Rattle.codes.specs.Measures.{no-measure, measured};
 use bits::bit_at;
 use bits::byte_at;
 use bits::handed_good;
-use columns::node_at;
 use syntax::Leaf;
 use syntax::Node;
+use table::node_at;
 
 // Where the bits of a node stop, and how many letters they spell, or that they are not all there.
 pub struct Walked {

@@ -6,8 +6,8 @@ use Prim.Native.Nat.{ℕ, zero, suc, _+_, _*_, _≤_, _<_}
 use native.Mathlib.Omega.{arith}
 use lib.Dec.{eqb}
 use lib.ListN.{length, getD, length-append}
-use Rattle.syntax.specs.declared.Refusal.{Refusal}
-use Rattle.syntax.specs.Refusals.{refused, number, value}
+use Rattle.refusals.specs.declared.Refusal.{Refusal}
+use Rattle.refusals.specs.Refusals.{refused, number, value}
 use Rattle.bits.specs.Bits.{bit, test-bit, count-below}
 use Rattle.listing.specs.Listing.{decimal, hex-byte, hex, field, entry, line, tape-word, tape-line, account-word, open-word, refused-word, account-line, account-lines, open-lines, refused-line}
 use Rattle.listing.specs.Digits.{decimal-ten}

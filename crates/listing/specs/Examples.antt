@@ -10,7 +10,7 @@ use Rattle.syntax.specs.Trees.{tree-of, root}
 use Rattle.semantics.specs.Sweeps.{readable, greedy}
 use Rattle.semantics.specs.Accounts.{accounts, litres, total, totals}
 use Rattle.semantics.specs.Decode.{value-of}
-use Rattle.states.specs.StateSets.{state-set}
+use Rattle.first_sweep.specs.StateSets.{state-set}
 use Rattle.masks.specs.Nodes.{node-word}
 use Rattle.bits.specs.Bits.{bits-of, pack, word-of, count-below}
 use Rattle.parser.specs.Parse.{early}

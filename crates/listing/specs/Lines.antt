@@ -9,8 +9,8 @@ use borrow.Author.Tests.{lt-ltb, le-ltb, eq-eqb, ne-eqb}
 use lib.Dec.{eqb, ltb}
 use lib.ListN.{length, drop, getD}
 use lib.Seq.{drop-length}
-use Rattle.syntax.specs.declared.Refusal.{Refusal}
-use Rattle.syntax.specs.Refusals.{refused, number, value}
+use Rattle.refusals.specs.declared.Refusal.{Refusal}
+use Rattle.refusals.specs.Refusals.{refused, number, value}
 use Rattle.bits.specs.Bits.{test-bit, count-below}
 use Rattle.listing.specs.Listing.{decimal, hex-digit, hex-byte, hex, field, entry, line, tape-word, tape-line, account-word, open-word, refused-word, account-line, account-lines, open-lines, refused-line}
 use Rattle.listing.specs.Putting.{Puts, Room, puts-both, first-room, middle-room, second-room, next-byte}

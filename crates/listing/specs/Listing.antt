@@ -6,15 +6,15 @@ use Prim.Native.Nat.{ℕ, zero, suc, _+_, _*_, _-_, _/_, _%_, _≤_, _<_}
 use lib.Dec.{eqb, ltb}
 use lib.ListN.{length, take, getD}
 use Rattle.syntax.specs.declared.Pattern.{Pattern}
-use Rattle.syntax.specs.declared.Refusal.the-variants.{Unreadable}
-use Rattle.syntax.specs.Refusals.{Answer, refused}
+use Rattle.refusals.specs.declared.Refusal.the-variants.{Unreadable}
+use Rattle.refusals.specs.Refusals.{Answer, refused}
 use Rattle.loading.specs.Load.{load-answer, load-table}
 use Rattle.syntax.specs.Trees.{root}
 use Rattle.bits.specs.Bits.{test-bit, count-below, pack, in-front}
 use Rattle.semantics.specs.Accounts.{totals}
 use Rattle.semantics.specs.Decode.{value-of}
 use Rattle.semantics.specs.Sweeps.{readable, greedy}
-use Rattle.states.specs.StateSets.{words}
+use Rattle.first_sweep.specs.StateSets.{words}
 use Rattle.codes.specs.Totals.{entries-by}
 use Rattle.parser.specs.Parse.{early}
 use Rattle.listing.specs.declared.Listed.{Listed}

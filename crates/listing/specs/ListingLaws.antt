@@ -12,9 +12,9 @@ use Rattle.syntax.specs.Letter.{first-bad, letter-limit}
 use Rattle.syntax.specs.declared.Pattern.{Pattern}
 use Rattle.loading.specs.declared.Loaded.{Loaded}
 use Rattle.loading.specs.declared.Outcome.the-variants.{Lines, Refused as Not-loaded}
-use Rattle.syntax.specs.declared.Refusal.{Refusal}
-use Rattle.syntax.specs.declared.Refusal.the-variants.{LineForm, Tree as Tree-fault, TapeTooLong, TapeByte, Unreadable, WordsTooShort, CodeTooShort, NotACode, TapeTooShort, NoSuchVisit}
-use Rattle.syntax.specs.Refusals.{answer, refused, number}
+use Rattle.refusals.specs.declared.Refusal.{Refusal}
+use Rattle.refusals.specs.declared.Refusal.the-variants.{LineForm, Tree as Tree-fault, TapeTooLong, TapeByte, Unreadable, WordsTooShort, CodeTooShort, NotACode, TapeTooShort, NoSuchVisit}
+use Rattle.refusals.specs.Refusals.{answer, refused, number}
 use Rattle.syntax.specs.Table.{obeys}
 use Rattle.syntax.specs.Trees.{root}
 use Rattle.loading.specs.Load.{outcome-answer, load-answer, Loads}
@@ -26,8 +26,8 @@ use Rattle.semantics.specs.Accounts.{totals}
 use Rattle.semantics.specs.Decode.{value-of}
 use Rattle.semantics.specs.Sweeps.{readable, greedy}
 use Rattle.semantics.specs.GreedyLaws.{greedy-canonical, readable-iff}
-use Rattle.states.specs.StateSets.{words}
-use Rattle.states.specs.Meaning.{words-length}
+use Rattle.first_sweep.specs.StateSets.{words}
+use Rattle.first_sweep.specs.Meaning.{words-length}
 use Rattle.codes.specs.declared.Totalled.{Totalled}
 use Rattle.codes.specs.Totals.{entries-by, entries-of, totals-answer, totals-litres, Totals}
 use Rattle.canonical.specs.RoundTrip.{canonical-whole, canonical-spells}

@@ -8,8 +8,8 @@ use borrow.Author.Tests.{eq-eqb, ne-eqb}
 use lib.Dec.{eqb}
 use lib.ListN.{length}
 use Rattle.syntax.specs.declared.Pattern.{Pattern}
-use Rattle.syntax.specs.declared.Refusal.the-variants.{Unreadable}
-use Rattle.syntax.specs.Refusals.{refused}
+use Rattle.refusals.specs.declared.Refusal.the-variants.{Unreadable}
+use Rattle.refusals.specs.Refusals.{refused}
 use Rattle.loading.specs.Load.{load-answer, load-table}
 use Rattle.syntax.specs.Trees.{root}
 use Rattle.bits.specs.Bits.{pack}
@@ -21,7 +21,7 @@ use Rattle.semantics.specs.Decode.{value-of}
 use Rattle.semantics.specs.Sweeps.{readable, greedy}
 use Rattle.semantics.specs.CodeLaws.{value-of-code}
 use Rattle.semantics.specs.GreedyLaws.{canonical-greedy, readable-iff}
-use Rattle.states.specs.StateSets.{words}
+use Rattle.first_sweep.specs.StateSets.{words}
 use Rattle.listing.specs.Listing.{tape-line, account-lines, open-lines, refused-line, listing, read-listing, early-cause, pattern-listing, tape-of, listing-of}
 
 -- the lines of a tape whose greedy value is v: letters, bits and bytes of its code; litres by account; open nodes of each position

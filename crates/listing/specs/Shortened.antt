@@ -11,9 +11,9 @@ use lib.Dec.{eqb, ltb}
 use lib.ListN.{length, take, drop, length-take}
 use lib.Seq.{take-nil, take-all, length-take-le}
 use Rattle.syntax.specs.declared.Pattern.{Pattern}
-use Rattle.syntax.specs.declared.Refusal.the-variants.{Tree as Tree-fault, TapeTooLong}
+use Rattle.refusals.specs.declared.Refusal.the-variants.{Tree as Tree-fault, TapeTooLong}
 use Rattle.syntax.specs.Letter.{letter-limit}
-use Rattle.syntax.specs.Refusals.{refused}
+use Rattle.refusals.specs.Refusals.{refused}
 use Rattle.syntax.specs.Table.{obeys}
 use Rattle.loading.specs.Text.{Row, byte-front, rows, place, single, account, line-of, row-line, fault, line-front, forms}
 use Rattle.loading.specs.Load.{forms-answer, forms-table, load-answer, load-table}

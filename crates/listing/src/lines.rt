@@ -5,15 +5,15 @@ ghost use lib.ListN.{length};
 ghost use Rattle.listing.specs.Listing.{entry, line, tape-line, account-line, account-lines, open-lines, refused-line};
 ghost use Rattle.listing.specs.Putting.{Puts, Room};
 ghost use Rattle.syntax.specs.Letter.{letter-limit};
-ghost use Rattle.syntax.specs.Refusals.{refused};
+ghost use Rattle.refusals.specs.Refusals.{refused};
 use crate::put::put_byte;
 use crate::put::put_bytes;
 use crate::put::put_field;
 use crate::put::put_hex;
-use answers::number_of;
-use answers::value_of;
 use bits::open_nodes;
-use syntax::Refusal;
+use refusals::Refusal;
+use refusals::number_of;
+use refusals::value_of;
 
 // A word and two numbers.
 fn put_entry(out: &mut [u8], at: usize, word: &[u8], a: u32, b: u32) -> usize

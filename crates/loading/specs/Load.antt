@@ -6,11 +6,11 @@ use Prim.Native.Nat.{ℕ, _-_}
 use lib.ListN.{length, replicate}
 use Rattle.syntax.specs.declared.Line.{Line}
 use Rattle.syntax.specs.declared.Pattern.{Pattern}
-use Rattle.syntax.specs.declared.Refusal.{Refusal}
+use Rattle.refusals.specs.declared.Refusal.{Refusal}
 use Rattle.loading.specs.declared.Outcome.{Outcome}
 use Rattle.loading.specs.declared.Outcome.the-variants.{Lines, Refused}
 use Rattle.loading.specs.declared.Loaded.{Loaded}
-use Rattle.syntax.specs.Refusals.{Answer, answer, refused}
+use Rattle.refusals.specs.Refusals.{Answer, answer, refused}
 use Rattle.loading.specs.Text.{rows, Forms, good, fault, forms}
 use Rattle.syntax.specs.Table.{blank, no-lines, tree-fault}
 

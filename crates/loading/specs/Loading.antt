@@ -9,7 +9,7 @@ use borrow.Author.Tests.{ltb-true}
 use lib.Dec.{ltb}
 use lib.ListN.{length}
 use Rattle.syntax.specs.declared.Line.{Line}
-use Rattle.syntax.specs.declared.Refusal.the-variants.{LineForm, Tree}
+use Rattle.refusals.specs.declared.Refusal.the-variants.{LineForm, Tree}
 use Rattle.loading.specs.declared.Outcome.the-variants.{Lines}
 use Rattle.loading.specs.declared.reading.Read.{Read}
 use Rattle.loading.specs.Text.{Row, rows, row-line, Forms, good, fault, line-front, forms}

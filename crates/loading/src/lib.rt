@@ -7,8 +7,8 @@ mod reading; // reading.rt: the lines of a text
 mod scan; // scan.rt: one line of a text
 
 use reading::read_lines;
+use refusals::Refusal;
 use syntax::Pattern;
-use syntax::Refusal;
 use syntax::naming::TreeFault;
 use syntax::naming::tree_fault_of;
 

@@ -15,16 +15,15 @@ use Rattle.syntax.specs.declared.Node.{Node}
 use Rattle.syntax.specs.declared.Node.the-variants.{Leaf as Leaf-node, Sequence, Alternative, Star}
 use Rattle.syntax.specs.declared.Pattern.{Pattern}
 use Rattle.syntax.specs.Table.{node-at, parts, member, named-below}
-use Rattle.syntax.specs.Tree.{Label, Tree, seq, alt, star}
+use Rattle.syntax.specs.Tree.{Label, Tree, seq, alt, star, index}
 use Rattle.syntax.specs.Trees.{made, root}
-use Rattle.syntax.specs.TreeLaws.{Below, Rules, times}
+use Rattle.syntax.specs.TreeLaws.{Below, Rules, made-index, times}
 use Rattle.syntax.specs.TreeLaws as tree-laws
 use Rattle.bits.specs.Words.{test-or}
 use Rattle.semantics.specs.Basics.{eqb-eq, or-cases}
 use Rattle.semantics.specs.Automaton.{top, fst, snd, lft, rgt, rnd}
 use Rattle.masks.specs.declared.fronts.Front.{Front}
 use Rattle.masks.specs.declared.follows.Follow.{Follow}
-use Rattle.masks.specs.Nodes.{index}
 use Rattle.masks.specs.Closure.{passes, nowhere, reach-none}
 use Rattle.masks.specs.Unions.{equal}
 use Rattle.masks.specs.Leaves.{Followed}
@@ -182,14 +181,6 @@ module _ (p : Pattern) (r : Rules p) where
           let i : p .count - 1 ≡ l = omega arith in
           subst (λ x. Follow-of p (tree p r x) (follow-at ts ys fs x)) i
           (subst (Follow-of p (tree p r (p .count - 1))) (sym (stored-here s z (omega (arith, r .few, r .one)))) (record { place = top; states = refl; zeros = nothing-bit; ones = nothing-bit; ends = refl }))
-
-  made-index : (m : Label) (f : ℕ → Tree) (k : Node) → index (made m f k) ≡ m .index
-  made-index m f (Leaf-node Nothing) = refl
-  made-index m f (Leaf-node (Letter c)) = refl
-  made-index m f (Leaf-node (Range a b)) = refl
-  made-index m f (Sequence a b) = refl
-  made-index m f (Alternative a b) = refl
-  made-index m f (Star a) = refl
 
   pub tree-index : (l : ℕ) → l < p .count → index (tree p r l) ≡ l
   tree-index l h = ap index (line-tree p r l h) ∙ made-index (label-of p r l) (tree p r) (node-at p l)

@@ -15,7 +15,7 @@ use Rattle.syntax.specs.declared.Node.{Node}
 use Rattle.syntax.specs.declared.Node.the-variants.{Leaf as Leaf-node, Sequence, Alternative, Star}
 use Rattle.syntax.specs.declared.Pattern.{Pattern}
 use Rattle.syntax.specs.Table.{line-at, node-at}
-use Rattle.syntax.specs.Tree.{Label, Tree, seq, alt, star}
+use Rattle.syntax.specs.Tree.{Label, Tree, seq, alt, star, index}
 use Rattle.syntax.specs.Trees.{made, tree-of, root}
 use Rattle.syntax.specs.TreeLaws.{Below, Rules, tree-line}
 use Rattle.bits.specs.Bits.{test-bit}
@@ -25,7 +25,6 @@ use Rattle.semantics.specs.Basics.{eqb-self, eqb-eq, eqb-no}
 use Rattle.semantics.specs.Automaton.{Location, follower}
 use Rattle.masks.specs.declared.fronts.Front.{Front}
 use Rattle.masks.specs.declared.follows.Follow.{Follow}
-use Rattle.masks.specs.Nodes.{index}
 use Rattle.masks.specs.Closure.{reach, passes, nowhere, reach-or, reach-none}
 use Rattle.masks.specs.Unions.{pick, pick-bit}
 use Rattle.masks.specs.Leaves.{state-index}

@@ -7,10 +7,10 @@ use lib.Dec.{eqb}
 use lib.ListN.{getD}
 use Rattle.syntax.specs.declared.Pattern.{Pattern}
 use Rattle.syntax.specs.Letter.{in-range}
-use Rattle.syntax.specs.Tree.{Tree, nothing, letter, range, seq, alt, star}
+use Rattle.syntax.specs.Tree.{Tree, nothing, letter, range, seq, alt, star, index}
 use Rattle.syntax.specs.Trees.{root}
 use Rattle.semantics.specs.Automaton.{State, end, at, follower}
-use Rattle.masks.specs.Nodes.{index, node-word, Node-at}
+use Rattle.masks.specs.Nodes.{node-word, Node-at}
 
 -- a state's number: a node's index, and 64 for the end
 abbrev pub state-index : {root : Tree} → State root → ℕ

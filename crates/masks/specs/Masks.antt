@@ -18,14 +18,14 @@ use Rattle.syntax.specs.declared.Node.the-variants.{Leaf as Leaf-node, Sequence
 use Rattle.syntax.specs.declared.Pattern.{Pattern}
 use Rattle.syntax.specs.Letter.{is-letter, in-range}
 use Rattle.syntax.specs.Table.{node-at}
-use Rattle.syntax.specs.Tree.{Label, Tree, letter}
+use Rattle.syntax.specs.Tree.{Label, Tree, letter, index}
 use Rattle.syntax.specs.Trees.{made, root}
 use Rattle.syntax.specs.TreeLaws.{Below, Rules}
 use Rattle.bits.specs.Bits.{bit, test-bit, word-of}
 use Rattle.bits.specs.Words.{word-lt, word-bit}
 use Rattle.semantics.specs.Basics.{eqb-eq, or-cases}
 use Rattle.semantics.specs.Automaton.{Location, top, fst, snd, lft, rgt, rnd}
-use Rattle.masks.specs.Nodes.{index, has, Predicate, node-word, index-lt, word-is}
+use Rattle.masks.specs.Nodes.{has, Predicate, node-word, index-lt, word-is}
 use Rattle.masks.specs.Closure.{passes, reaches, nowhere, leaf-mask, end-mask}
 use Rattle.masks.specs.Unions.{pick}
 use Rattle.masks.specs.Planting.{root-planted, same-node}

@@ -7,25 +7,13 @@ use Prim.Native.Nat.{ℕ, zero, suc, _^_, _≤_, _<_}
 use native.Mathlib.Omega.{arith}
 use lib.Dec.{eqb, ltb}
 use borrow.Author.Tests.{ltb-true, lt-ltb}
-use Rattle.syntax.specs.Tree.{Label, Tree, nothing, letter, range, seq, alt, star}
+use Rattle.syntax.specs.Tree.{Tree, nothing, letter, range, seq, alt, star, index}
 use Rattle.syntax.specs.TreeLaws.{occurrences}
 use Rattle.syntax.specs.TreeLaws as tree-laws
 use Rattle.bits.specs.Bits.{test-bit, word-of}
 use Rattle.bits.specs.Words.{word-lt, word-bit, word-past, word-unique}
 use Rattle.semantics.specs.Basics.{or-left, or-right, or-cases, not-both, eqb-self, eqb-eq}
 use Rattle.semantics.specs.Automaton.{Location, top, fst, snd, lft, rgt, rnd}
-
-abbrev pub label : Tree → Label
-label (nothing m) = m
-label (letter m c) = m
-label (range m a e) = m
-label (seq m t u) = m
-label (alt m t u) = m
-label (star m again t) = m
-
--- 01: a node's place
-abbrev pub index : Tree → ℕ
-index t = label t .index
 
 -- whether an index stands in a tree
 abbrev pub has : Tree → ℕ → Bool

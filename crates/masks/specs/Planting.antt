@@ -2,11 +2,11 @@
 use mathlib.Core.Path.{_≡_, sym, ap, _∙_}
 use Prim.Native.Nat.{ℕ}
 use Rattle.syntax.specs.declared.Pattern.{Pattern}
-use Rattle.syntax.specs.Tree.{Tree}
+use Rattle.syntax.specs.Tree.{Tree, index}
 use Rattle.syntax.specs.Trees.{root}
 use Rattle.syntax.specs.TreeLaws.{Rules, root-once}
 use Rattle.semantics.specs.Automaton.{Location, top}
-use Rattle.masks.specs.Nodes.{index, Predicate, said, said-at, Planted, planted}
+use Rattle.masks.specs.Nodes.{Predicate, said, said-at, Planted, planted}
 
 -- the tree of a tested table has every index below the count once, and no other
 pub root-planted : (p : Pattern) → Rules p → Planted (root p) (p .count)

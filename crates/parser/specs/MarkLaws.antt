@@ -15,8 +15,8 @@ use Rattle.semantics.specs.Value.{Value, flat}
 use Rattle.semantics.specs.Code.{IsCode, Spells, NoEmptyRound}
 use Rattle.semantics.specs.Sweeps.{readable, greedy}
 use Rattle.semantics.specs.GreedyLaws.{greedy-canonical, readable-iff}
-use Rattle.states.specs.StateSets.{words}
-use Rattle.states.specs.Meaning.{root-says}
+use Rattle.first_sweep.specs.StateSets.{words}
+use Rattle.first_sweep.specs.Meaning.{root-says}
 use Rattle.parser.specs.ParseLaws.{root-index, greedy-few}
 
 abbrev pub root-mark : Pattern → (tape : List ℕ) → Bool

@@ -9,19 +9,19 @@ use native.Mathlib.Decide.{decLe, decLt}
 use borrow.Author.Tests.{lt-ltb, le-ltb}
 use lib.ListN.{length, getD, drop, length-append, length-drop, List·getD-append}
 use Rattle.syntax.specs.declared.Pattern.{Pattern}
-use Rattle.syntax.specs.declared.Refusal.the-variants.{Tree as Tree-fault, TapeTooLong, TapeByte, Unreadable, WordsTooShort, CodeTooShort}
+use Rattle.refusals.specs.declared.Refusal.the-variants.{Tree as Tree-fault, TapeTooLong, TapeByte, Unreadable, WordsTooShort, CodeTooShort}
 use Rattle.syntax.specs.Letter.{first-bad, letter-limit}
-use Rattle.syntax.specs.Refusals.{answer, refused}
+use Rattle.refusals.specs.Refusals.{answer, refused}
 use Rattle.syntax.specs.Table.{obeys, line-at}
-use Rattle.syntax.specs.Tree.{Tree, nothing, letter, range, seq, alt, star}
+use Rattle.syntax.specs.Tree.{Tree, nothing, letter, range, seq, alt, star, index}
 use Rattle.syntax.specs.Trees.{root, tree-of}
-use Rattle.syntax.specs.TreeLaws.{Rules, obeys-iff, weight, sum-to, root-weight, tree-line}
+use Rattle.syntax.specs.TreeLaws.{Rules, obeys-iff, weight, sum-to, root-weight, tree-line, made-index}
 use Rattle.syntax.specs.LetterLaws.{all-letters}
 use Rattle.bits.specs.Bits.{bit, test-bit, cell-count, in-front, write}
 use Rattle.bits.specs.Writing.{write-start}
-use Rattle.columns.specs.declared.Columns.{Columns}
-use Rattle.columns.specs.Columns.{Holds}
-use Rattle.columns.specs.ColumnLaws.{holds-tree}
+use Rattle.table.specs.declared.Columns.{Columns}
+use Rattle.table.specs.Columns.{Holds}
+use Rattle.table.specs.ColumnLaws.{holds-tree}
 use Rattle.semantics.specs.Value.{Value, flat}
 use Rattle.semantics.specs.Code.{Canonical, code, choices}
 use Rattle.semantics.specs.Automaton.{Location, top, fst, snd, lft, rgt, rnd}
@@ -30,15 +30,13 @@ use Rattle.semantics.specs.AutomatonLaws.{after}
 use Rattle.semantics.specs.BoundLaws.{nodes, choices-nodes, code-fits, bits-bound}
 use Rattle.semantics.specs.SecondSweepLaws.{wrote}
 use Rattle.semantics.specs.GreedyLaws.{greedy-canonical, canonical-greedy, readable-iff}
-use Rattle.masks.specs.Nodes.{index}
-use Rattle.states.specs.StateSets.{state-set, words}
-use Rattle.states.specs.StateLaws.{state-bit}
-use Rattle.states.specs.Meaning.{words-length, words-at}
-use Rattle.states.specs.Fill.{Fillable}
-use Rattle.sweep.specs.declared.Swept.{Swept}
-use Rattle.sweep.specs.Parts.{Sweeps}
-use Rattle.sweep.specs.Sweeping.{Knows, Ready, Wrote}
-use Rattle.sweep.specs.Ways.{index-made}
+use Rattle.first_sweep.specs.StateSets.{state-set, words}
+use Rattle.first_sweep.specs.StateLaws.{state-bit}
+use Rattle.first_sweep.specs.Meaning.{words-length, words-at}
+use Rattle.first_sweep.specs.Fill.{Fillable}
+use Rattle.second_sweep.specs.declared.Swept.{Swept}
+use Rattle.second_sweep.specs.Parts.{Sweeps}
+use Rattle.second_sweep.specs.Sweeping.{Knows, Ready, Wrote}
 use Rattle.parser.specs.declared.Parsed.{Parsed}
 use Rattle.parser.specs.declared.Parsed.the-variants.{Bits, Refused}
 use Rattle.parser.specs.Parse.{parsed-answer, early, Reads-greedily, Parses-by, Parses}
@@ -80,7 +78,7 @@ unfolding root
 root-index p good =
     let r = obeys-iff p .0 good in
     let one = r .one in
-    ap index (tree-line (line-at p) (p .count - 1) (r .lower (p .count - 1) (omega arith))) ∙ index-made _ (tree-of (line-at p)) (line-at p (p .count - 1) .node)
+    ap index (tree-line (line-at p) (p .count - 1) (r .lower (p .count - 1) (omega arith))) ∙ made-index _ (tree-of (line-at p)) (line-at p (p .count - 1) .node)
 
 pub root-choices : (p : Pattern) → obeys p ≡ true → choices (root p) ≤ 64
 root-choices p h = let r = obeys-iff p .0 h in omega (arith, choices-nodes (root p), root-nodes p r, r .few)

@@ -10,9 +10,9 @@ use lib.ListN.{length, getD, replicate}
 use Rattle.syntax.specs.declared.Leaf.the-variants.{Letter}
 use Rattle.syntax.specs.declared.Node.the-variants.{Leaf as Leaf-node, Star}
 use Rattle.syntax.specs.declared.Pattern.{Pattern}
-use Rattle.syntax.specs.declared.Refusal.the-variants.{Unreadable}
+use Rattle.refusals.specs.declared.Refusal.the-variants.{Unreadable}
 use Rattle.syntax.specs.Letter.{is-letter, first-bad, letter-limit}
-use Rattle.syntax.specs.Refusals.{answer, refused}
+use Rattle.refusals.specs.Refusals.{answer, refused}
 use Rattle.syntax.specs.Table.{blank, obeys, line-good, wrongly-names, unnamed, tree-fault}
 use Rattle.syntax.specs.Trees.{root, tree-of}
 use Rattle.bits.specs.Bits.{cell-count, pack, in-front}

@@ -7,10 +7,10 @@ use native.Mathlib.Omega.{arith}
 use native.Mathlib.Decide.{decLe}
 use lib.ListN.{length}
 use Rattle.syntax.specs.declared.Pattern.{Pattern}
-use Rattle.syntax.specs.declared.Refusal.{Refusal}
-use Rattle.syntax.specs.declared.Refusal.the-variants.{LineForm, Tree as Tree-fault, TapeTooLong, TapeByte, Unreadable, WordsTooShort, CodeTooShort, NotACode, TapeTooShort, NoSuchVisit}
-use Rattle.syntax.specs.Refusals.{Answer, answer, refused}
-use Rattle.syntax.specs.RefusalLaws.{refused-same}
+use Rattle.refusals.specs.declared.Refusal.{Refusal}
+use Rattle.refusals.specs.declared.Refusal.the-variants.{LineForm, Tree as Tree-fault, TapeTooLong, TapeByte, Unreadable, WordsTooShort, CodeTooShort, NotACode, TapeTooShort, NoSuchVisit}
+use Rattle.refusals.specs.Refusals.{Answer, answer, refused}
+use Rattle.refusals.specs.RefusalLaws.{refused-same}
 use Rattle.syntax.specs.Tree.{Tree}
 use Rattle.bits.specs.Bits.{cell-count}
 use Rattle.semantics.specs.Value.{Value, flat}

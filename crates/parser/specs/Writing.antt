@@ -11,7 +11,7 @@ use Rattle.syntax.specs.Table.{obeys}
 use Rattle.syntax.specs.Trees.{root}
 use Rattle.bits.specs.Bits.{bit, cell-count}
 use Rattle.semantics.specs.Sweeps.{readable}
-use Rattle.states.specs.StateSets.{state-set}
+use Rattle.first_sweep.specs.StateSets.{state-set}
 use Rattle.parser.specs.declared.Parsed.{Parsed}
 use Rattle.parser.specs.Parse.{parsed-answer, Reads-greedily}
 

@@ -4,18 +4,18 @@ ghost use mathlib.Core.Bool.{true};
 ghost use Prim.Native.Nat.{_≤_, _<_};
 ghost use lib.ListN.{length};
 ghost use Rattle.syntax.specs.Letter.{letter-limit};
-ghost use Rattle.columns.specs.Columns.{Good};
-ghost use Rattle.sweep.specs.Sweeping.{Ready};
+ghost use Rattle.table.specs.Columns.{Good};
+ghost use Rattle.second_sweep.specs.Sweeping.{Ready};
 ghost use Rattle.parser.specs.Parse.{Parses};
 ghost use Rattle.parser.specs.Writing.{Missing, Writable, Writes};
-use columns::columns_of;
-use states::fill;
-use sweep::is_open;
-use sweep::sweep;
+use first_sweep::fill;
+use refusals::Refusal;
+use second_sweep::is_open;
+use second_sweep::sweep;
 use syntax::Pattern;
-use syntax::Refusal;
 use syntax::first_bad;
 use syntax::obeys_rules;
+use table::columns_of;
 
 // What reading a tape answers: the bit count of its code, or why it is refused.
 pub enum Parsed {

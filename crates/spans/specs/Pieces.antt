@@ -8,11 +8,11 @@ use native.Mathlib.Omega.{arith}
 use lib.Dec.{leb, ltb, eqb}
 use lib.ListN.{length, take, drop}
 use Rattle.syntax.specs.declared.Pattern.{Pattern}
-use Rattle.syntax.specs.declared.Refusal.the-variants.{TapeByte}
+use Rattle.refusals.specs.declared.Refusal.the-variants.{TapeByte}
 use Rattle.syntax.specs.Letter.{first-bad, letter-limit}
 use Rattle.syntax.specs.Trees.{root}
 use Rattle.syntax.specs.Table.{obeys}
-use Rattle.syntax.specs.Refusals.{number, refused}
+use Rattle.refusals.specs.Refusals.{number, refused}
 use Rattle.semantics.specs.Visits.{Visit, visit}
 use Rattle.semantics.specs.VisitLaws.{visit-shows}
 use Rattle.spans.specs.declared.Spanned.{Spanned}

@@ -22,7 +22,7 @@ use Rattle.semantics.specs.Visits.{Visit, visits, visit-of, label}
 use Rattle.semantics.specs.Decode.{Read, read}
 use Rattle.semantics.specs.Positions.{Seen, see, seen, joined, and-then, number-at as bits-number}
 use Rattle.semantics.specs.PositionLaws.{see-stays, see-as, see-nothing, see-letter, see-short, see-range, see-outside, see-seq, see-alt-none, see-left, see-right, see-star-none, see-stop, see-round}
-use Rattle.columns.specs.Columns.{node-in, tree-in, Good}
+use Rattle.table.specs.Columns.{node-in, tree-in, Good}
 use Rattle.spans.specs.declared.find.Found.{Found}
 use Rattle.spans.specs.declared.find.Step.{Step}
 use Rattle.codes.specs.Handed.{held-length, held-bit, held-number}

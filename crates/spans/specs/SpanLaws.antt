@@ -10,20 +10,20 @@ use borrow.Author.Tests.{lt-ltb, le-ltb, le-leb, lt-leb, leb-false, eq-eqb, ne-e
 use lib.ListN.{length, drop, getD, drop-of-length-le}
 use lib.Seq.{drop-cons}
 use Rattle.syntax.specs.declared.Pattern.{Pattern}
-use Rattle.syntax.specs.declared.Refusal.{Refusal}
-use Rattle.syntax.specs.declared.Refusal.the-variants.{LineForm, Tree as Tree-fault, TapeTooLong, TapeByte, Unreadable, WordsTooShort, CodeTooShort, NotACode, TapeTooShort, NoSuchVisit}
+use Rattle.refusals.specs.declared.Refusal.{Refusal}
+use Rattle.refusals.specs.declared.Refusal.the-variants.{LineForm, Tree as Tree-fault, TapeTooLong, TapeByte, Unreadable, WordsTooShort, CodeTooShort, NotACode, TapeTooShort, NoSuchVisit}
 use Rattle.syntax.specs.Bools.{and-fst, and-snd}
 use Rattle.syntax.specs.Letter.{first-bad, letter-limit}
 use Rattle.syntax.specs.Tree.{Tree}
 use Rattle.syntax.specs.Trees.{root}
 use Rattle.syntax.specs.Table.{obeys}
-use Rattle.syntax.specs.Refusals.{answer, refused, number}
+use Rattle.refusals.specs.Refusals.{answer, refused, number}
 use Rattle.bits.specs.Bits.{held, in-front}
 use Rattle.semantics.specs.Value.{flat}
 use Rattle.semantics.specs.Visits.{Visit, visits, visits-at, visit}
-use Rattle.columns.specs.declared.Columns.{Columns}
-use Rattle.columns.specs.Columns.{tree-in, Holds}
-use Rattle.columns.specs.ColumnLaws.{holds-tree}
+use Rattle.table.specs.declared.Columns.{Columns}
+use Rattle.table.specs.Columns.{tree-in, Holds}
+use Rattle.table.specs.ColumnLaws.{holds-tree}
 use Rattle.spans.specs.declared.SpanOutcome.the-variants.{Shown}
 use Rattle.spans.specs.declared.find.Found.{Found}
 use Rattle.codes.specs.declared.Flattened.the-variants.{Letters, Refused as Flatten-refused}

@@ -22,7 +22,7 @@ use Rattle.semantics.specs.Visits.{Visit, visit-of, visits, along, visits-at, n
 use Rattle.semantics.specs.Decode.{Read, read}
 use Rattle.semantics.specs.Positions.{Seen, see, seen, joined, and-then}
 use Rattle.semantics.specs.PositionLaws.{see-stays, see-as, see-nothing, see-letter, see-short, see-range, see-outside, see-seq, see-alt-none, see-left, see-right, see-star-none, see-stop, see-round}
-use Rattle.columns.specs.Columns.{node-in, tree-in, Good}
+use Rattle.table.specs.Columns.{node-in, tree-in, Good}
 use Rattle.spans.specs.declared.find.Found.{Found}
 use Rattle.codes.specs.Handed.{held-length, held-bit, held-number}
 use Rattle.codes.specs.Words.{word-at, word-stays}

@@ -5,15 +5,15 @@ ghost use mathlib.Core.List.{List};
 ghost use Prim.Native.Nat.{ℕ, _-_, _*_, _≤_, _<_};
 ghost use lib.Dec.{eqb};
 ghost use lib.ListN.{length};
-ghost use Rattle.columns.specs.Columns.{Good, tree-in};
+ghost use Rattle.table.specs.Columns.{Good, tree-in};
 ghost use Rattle.spans.specs.Traces.{trace-at, hit, miss};
 ghost use Rattle.spans.specs.Seeks.{step-of, Seeking, Finds};
 use bits::bit_at;
 use codes::walk::side_at;
 use codes::walk::walk;
-use columns::node_at;
 use syntax::Leaf;
 use syntax::Node;
+use table::node_at;
 
 // A visit found; or the position behind the bits, the one on the tape, and how many visits are still to be passed.
 pub struct Found {

@@ -6,13 +6,13 @@ mod compare; // compare.rt: a tape against a code
 mod find; // find.rt: the walk that looks for a visit
 
 use codes::walk::measure;
-use columns::columns_of;
 use compare::spells;
 use find::find;
+use refusals::Refusal;
 use syntax::Pattern;
-use syntax::Refusal;
 use syntax::first_bad;
 use syntax::obeys_rules;
+use table::columns_of;
 
 // What showing a piece answers: that it is shown, or why not.
 pub enum SpanOutcome {

@@ -2,8 +2,6 @@ pub mod Bools
 pub mod Letter
 pub mod LetterLaws
 pub mod Tree
-pub mod Refusals
-pub mod RefusalLaws
 pub mod Table
 pub mod Trees
 pub mod Lowest

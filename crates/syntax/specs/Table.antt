@@ -39,8 +39,12 @@ node-good (Sequence p q) = true
 node-good (Alternative p q) = true
 node-good (Star p) = true
 
+-- 01: "Account is `-` or a digit 1 to 9"; in code `Pattern::MAX_ACCOUNT`
+abbrev pub account-limit : ℕ
+account-limit = 9
+
 unfoldable pub line-good : Line → Bool
-line-good x = leb (x .account) 9 && node-good (x .node)
+line-good x = leb (x .account) account-limit && node-good (x .node)
 
 abbrev pub badly-formed : Pattern → (line : ℕ) → Bool
 badly-formed p i = not (line-good (line-at p i))

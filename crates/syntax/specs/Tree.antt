@@ -15,3 +15,15 @@ pub data Tree : Type 0 where
   alt : Label → Tree → Tree → Tree
   -- `again` is the bit that means another round: false, written 0, for kind `K`
   star : Label → (again : Bool) → Tree → Tree
+
+abbrev pub label : Tree → Label
+label (nothing m) = m
+label (letter m c) = m
+label (range m low high) = m
+label (seq m t u) = m
+label (alt m t u) = m
+label (star m again t) = m
+
+-- 01: a node's place
+abbrev pub index : Tree → ℕ
+index t = label t .index

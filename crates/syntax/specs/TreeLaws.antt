@@ -18,7 +18,7 @@ use Rattle.syntax.specs.declared.Node.the-variants.{Leaf as Leaf-node, S
 use Rattle.syntax.specs.declared.Line.{Line}
 use Rattle.syntax.specs.declared.Pattern.{Pattern}
 use Rattle.syntax.specs.Bools.{and-fst, and-snd, and-intro}
-use Rattle.syntax.specs.Tree.{Label, Tree, nothing, letter, range, seq, alt, star}
+use Rattle.syntax.specs.Tree.{Label, Tree, nothing, letter, range, seq, alt, star, index}
 use Rattle.syntax.specs.Table.{line-at, node-at, line-good, badly-formed, parts, named-below, member, rightly-named, wrongly-names, unnamed, lowest, or-else, tree-fault, is-none, obeys}
 use Rattle.syntax.specs.Trees.{made, unplanted, plant, trees, tree-of, root}
 use Rattle.syntax.specs.Lowest.{lowest-none, none-lowest}
@@ -253,6 +253,15 @@ made-same m t u l (Leaf-node (Range a b)) h e = refl
 made-same m t u l (Sequence p q) h e = ap₂ (λ x y. seq m x y) (e p (h .0)) (e q (h .1))
 made-same m t u l (Alternative p q) h e = ap₂ (λ x y. alt m x y) (e p (h .0)) (e q (h .1))
 made-same m t u l (Star p) h e = ap (λ x. star m false x) (e p h)
+
+-- the tree of a node has the node's index
+pub made-index : (m : Label) (f : ℕ → Tree) (n : Node) → index (made m f n) ≡ m .index
+made-index m f (Leaf-node Nothing) = refl
+made-index m f (Leaf-node (Letter c)) = refl
+made-index m f (Leaf-node (Range a b)) = refl
+made-index m f (Sequence p q) = refl
+made-index m f (Alternative p q) = refl
+made-index m f (Star p) = refl
 
 -- the tree of a line is its node over the trees of its parts
 pub tree-line : (f : ℕ → Line) (l : ℕ) → Below l (f l .node) → tree-of f l ≡ made (record { index = l; account = f l .account }) (tree-of f) (f l .node)

@@ -44,6 +44,11 @@ impl Pattern {
 
     pub const MAX_CODE_BYTES: usize = 65536;
 
+    pub const MAX_CODE_BITS: u32 = 524288;
+
+    // Accounts are 1 to this; 0 stands for none.
+    pub const MAX_ACCOUNT: u8 = 9;
+
     pub const FIRST_LETTER: u8 = 33;
 
     pub const LAST_LETTER: u8 = 126;
@@ -59,20 +64,6 @@ impl Pattern {
             lines: [line; Pattern::MAX_LINES],
         }
     }
-}
-
-// Why a service refuses, with the value returned beside the cause's number.
-pub enum Refusal {
-    LineForm(u32),
-    Tree(u32),
-    TapeTooLong,
-    TapeByte(u32),
-    Unreadable,
-    WordsTooShort(u32),
-    CodeTooShort(u32),
-    NotACode,
-    TapeTooShort(u32),
-    NoSuchVisit,
 }
 
 // Whether a byte is a letter.

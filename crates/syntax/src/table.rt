@@ -36,7 +36,7 @@ fn good_leaf(leaf: Leaf) -> bool
 fn good_line(line: Line) -> bool
     ensures { λ r. ⌜ r ≡ line-good line ⌝ }
 {
-    if 9 < line.account {
+    if Pattern::MAX_ACCOUNT < line.account {
         return false;
     }
     let node = line.node;

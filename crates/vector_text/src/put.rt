@@ -4,11 +4,11 @@ ghost use mathlib.Core.Path.{_≡_};
 ghost use mathlib.Core.List.{[], _∷_};
 ghost use Prim.Native.Nat.{min};
 ghost use Rattle.io.specs.Counts.{Counts};
-ghost use Rattle.syntax.specs.Refusals.{number, value};
+ghost use Rattle.refusals.specs.Refusals.{number, value};
 ghost use Rattle.vector_text.specs.Text.{Puts, decimal-text, parted-text, answer-text};
-use answers::number_of;
-use answers::value_of;
-use syntax::Refusal;
+use refusals::Refusal;
+use refusals::number_of;
+use refusals::value_of;
 
 pub fn put_byte(out: &mut [u8], at: usize, byte: u8) -> usize
     ensures { λ r. ⌜ Puts (now (out .entry)) at (byte ∷ []) (now (out .exit)) r ⌝ }

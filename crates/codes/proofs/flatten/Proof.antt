@@ -2,7 +2,7 @@
 use Rattle.codes.specs.FlattenLaws.{measured-root, wrote-root, measured-ready, flatten-bad, flatten-not, flatten-long, flatten-short, flatten-done}
 use Rattle.codes.specs.Measures.{handed-fit, whole-handed, measured-yes}
 use Rattle.bits.specs.Handed.{handed-count}
-use Rattle.columns.specs.ColumnLaws.{holds-good}
+use Rattle.table.specs.ColumnLaws.{holds-good}
 use Rattle.syntax.specs.TreeLaws.{obeys-iff}
 use borrow.Author.Tests.{not-true, not-false}
 use mathlib.Core.Path.{sym, _∙_}

@@ -3,7 +3,7 @@ use Rattle.codes.specs.TotalsLaws.{totals-bad, totals-not, totals-long, 
 use Rattle.codes.specs.FlattenLaws.{measured-root}
 use Rattle.codes.specs.Measures.{handed-fit, whole-handed, measured-yes}
 use Rattle.bits.specs.Handed.{handed-count}
-use Rattle.columns.specs.ColumnLaws.{holds-good, holds-accounts}
+use Rattle.table.specs.ColumnLaws.{holds-good, holds-accounts}
 use Rattle.syntax.specs.TreeLaws.{obeys-iff}
 use borrow.Author.Tests.{not-true, not-false}
 use mathlib.Core.Path.{sym, _∙_}

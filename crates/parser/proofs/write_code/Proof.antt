@@ -1,6 +1,6 @@
 -- `parser::write_code` meets its contract.
 use native.Mathlib.Omega.{arith}
-use Rattle.columns.specs.ColumnLaws.{holds-good}
+use Rattle.table.specs.ColumnLaws.{holds-good}
 use Rattle.parser.specs.ParseLaws.{root-ready, needed-small, write-short, write-done, rules-one}
 use borrow.Author.Needs.{needs}
 use Rattle.parser.proofs.write_code.Statement.{statement}

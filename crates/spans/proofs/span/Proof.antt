@@ -3,7 +3,7 @@ use Rattle.spans.specs.SpanLaws.{span-bad, span-long, span-byte, span-no
 use Rattle.codes.specs.FlattenLaws.{measured-root}
 use Rattle.codes.specs.Measures.{handed-fit, whole-handed, measured-yes, measured-no}
 use Rattle.bits.specs.Handed.{handed-count}
-use Rattle.columns.specs.ColumnLaws.{holds-good}
+use Rattle.table.specs.ColumnLaws.{holds-good}
 use Rattle.syntax.specs.TreeLaws.{obeys-iff}
 use borrow.Author.Tests.{not-true, not-false}
 use mathlib.Core.Path.{sym, _∙_}

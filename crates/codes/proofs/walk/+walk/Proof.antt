@@ -2,7 +2,7 @@
 use Rattle.bits.specs.Bits.{bit-at}
 use Rattle.codes.specs.Walks.{walked, walk-stays, walk-is, walk-same, first-no, second, Rounds, rounds-start, rounds-stop, rounds-none, rounds-no, rounds-more}
 use Rattle.codes.specs.Lines.{line-as, seq-is, alt-none-is, side-is, side-lower, star-none-is, stop-is, round-is, leaf-formed, first-lower, second-lower, star-lower}
-use Rattle.columns.specs.Columns.{tree-in}
+use Rattle.table.specs.Columns.{tree-in}
 use borrow.Author.Tests.{not-true, not-false}
 use mathlib.Core.List.{List, []}
 use mathlib.Core.Path.{sym, ap, _∙_}
@@ -20,7 +20,7 @@ use Rattle.codes.proofs.walk.after.Reads as after-reads
 use Rattle.codes.proofs.walk.plus.Reads as plus-reads
 use Rattle.codes.proofs.walk.side_at.Reads as side-at-reads
 use Rattle.codes.proofs.walk.walk_leaf.Reads as walk-leaf-reads
-use Rattle.columns.proofs.node_at.Reads as node-at-reads
+use Rattle.table.proofs.node_at.Reads as node-at-reads
 use Rattle.codes.proofs.walk.+walk.{statement}
 use Rattle.codes.proofs.walk.+walk.Tie.{close}
 

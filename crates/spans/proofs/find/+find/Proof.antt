@@ -1,6 +1,6 @@
 use Rattle.spans.specs.Seeks.{trace-grows, rounds-grows, own-found, label-in, here-is, seek-leaf-is, letters-room, inside-seeking, inside-found, first-seeking, second-seeking, first-found, second-found, found-stays, seek-seq-is, seek-side-is, seek-star-is, seek-alt-in, seek-round-in, seek-stop-is, seek-round-is, missed, missed-none, Seek-turns, seek-turns-start, seek-turns-found, seek-turns-more}
 use Rattle.codes.specs.Lines.{side-lower, first-lower, second-lower, star-lower}
-use Rattle.columns.specs.Columns.{tree-in}
+use Rattle.table.specs.Columns.{tree-in}
 use Rattle.bits.specs.Bits.{bit-at}
 use lib.ListN.{getD}
 use mathlib.Core.List.{List, []}
@@ -22,7 +22,7 @@ use Rattle.spans.proofs.find.not_found.Reads as not-found-reads
 use Rattle.spans.proofs.find.step_of.Reads as step-of-reads
 use Rattle.codes.proofs.walk.side_at.Reads as side-at-reads
 use Rattle.codes.proofs.walk.walk.Reads as walk-reads
-use Rattle.columns.proofs.node_at.Reads as node-at-reads
+use Rattle.table.proofs.node_at.Reads as node-at-reads
 use Rattle.spans.proofs.find.+find.{statement}
 use Rattle.spans.proofs.find.+find.Tie.{close}
 

@@ -1,0 +1,76 @@
+-- A table packed into cells: what the numbers of a cell mean, and what a walk may take from a packed table. Definitions only.
+use mathlib.Core.Path.{_≡_}
+use mathlib.Core.Bool.{true}
+use mathlib.Core.List.{List}
+use Prim.Native.Nat.{ℕ, zero, suc, _/_, _%_, _≤_, _<_}
+use lib.ListN.{length, getD}
+use Rattle.syntax.specs.declared.Leaf.{Leaf}
+use Rattle.syntax.specs.declared.Leaf.the-variants.{Nothing, Letter, Range}
+use Rattle.syntax.specs.declared.Node.{Node}
+use Rattle.syntax.specs.declared.Node.the-variants.{Leaf as Leaf-node, Sequence, Alternative, Star}
+use Rattle.syntax.specs.declared.Line.{Line}
+use Rattle.syntax.specs.declared.Pattern.{Pattern}
+use Rattle.syntax.specs.Table.{blank, line-at, node-good, account-limit}
+use Rattle.syntax.specs.Tree.{Tree}
+use Rattle.syntax.specs.Trees.{tree-of}
+use Rattle.syntax.specs.TreeLaws.{Below}
+use Rattle.table.specs.declared.Numbers.{Numbers}
+
+-- the numbers of a node
+abbrev pub row : (kind first second : ℕ) → Numbers
+row k a b = record { kind = k; first = a; second = b }
+
+abbrev pub leaf-row : Leaf → Numbers
+leaf-row Nothing = row 0 0 0
+leaf-row (Letter c) = row 1 c 0
+leaf-row (Range a b) = row 2 a b
+
+abbrev pub row-of : Node → Numbers
+row-of (Leaf-node x) = leaf-row x
+row-of (Sequence p q) = row 3 p q
+row-of (Alternative p q) = row 4 p q
+row-of (Star p) = row 5 p 0
+
+-- and the node of such numbers
+abbrev pub node-from : (kind first second : ℕ) → Node
+node-from zero a b = Leaf-node Nothing
+node-from (suc zero) a b = Leaf-node (Letter a)
+node-from (suc (suc zero)) a b = Leaf-node (Range a b)
+node-from (suc (suc (suc zero))) a b = Sequence a b
+node-from (suc (suc (suc (suc zero)))) a b = Alternative a b
+node-from (suc (suc (suc (suc (suc k))))) a b = Star a
+
+-- a cell is one number, its parts from the lowest: kind, first, second, account, each in 8 bits
+unfoldable pub cell-node : (cell : ℕ) → Node
+cell-node c = node-from (c % 256) (c / 256 % 256) (c / 65536 % 256)
+
+unfoldable pub cell-account : (cell : ℕ) → ℕ
+cell-account c = c / 16777216 % 256
+
+abbrev pub node-in : (table : List ℕ) → (l : ℕ) → Node
+node-in table l = cell-node (getD table l 0)
+
+abbrev pub account-in : (table : List ℕ) → (l : ℕ) → ℕ
+account-in table l = cell-account (getD table l 0)
+
+abbrev pub cell-line : (cell : ℕ) → Line
+cell-line c = record { account = cell-account c; node = cell-node c }
+
+abbrev pub line-in : (table : List ℕ) → (l : ℕ) → Line
+line-in table l = cell-line (getD table l 0)
+
+-- the tree of a line, as the pattern's own: what walks over a packed table are walks of
+unfoldable pub tree-in : (table : List ℕ) → (l : ℕ) → Tree
+tree-in table l = tree-of (line-in table) l
+
+-- a packed table that holds a pattern: below its count the pattern's lines, and nothing past it
+pub record Holds (p : Pattern) (table : List ℕ) : Type 0 where
+  pub long : length table ≡ 64
+  pub lines : (l : ℕ) → l < p .count → line-in table l ≡ line-at p l
+  pub rest : (l : ℕ) → p .count ≤ l → l < 64 → line-in table l ≡ blank
+
+-- what a walk asks of a table: parts stand below their line, letters are letters, and accounts are accounts
+pub record Good (table : List ℕ) : Type 0 where
+  pub lower : (l : ℕ) → l < 64 → Below l (node-in table l)
+  pub formed : (l : ℕ) → l < 64 → node-good (node-in table l) ≡ true
+  pub accounts : (l : ℕ) → l < 64 → account-in table l ≤ account-limit

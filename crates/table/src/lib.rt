@@ -1,0 +1,138 @@
+// The table of a pattern, packed: a line a cell, its numbers one above the other in 64 bits. Walks and sweeps read it thousands of times by
+// one reference, where a table by value would be copied at each call.
+ghost use mathlib.Core.Path.{_≡_};
+ghost use Prim.Native.Nat.{_≤_, _<_, _/_, _%_};
+ghost use Rattle.table.specs.Cells.{row, leaf-row, row-of, node-from, cell-line, node-in, account-in, Holds};
+use syntax::Leaf;
+use syntax::Line;
+use syntax::Node;
+use syntax::Pattern;
+
+// A node as three numbers. Which of them a kind uses, and for what, `node_of` says.
+pub struct Numbers {
+    pub kind: u8,
+    pub first: u8,
+    pub second: u8,
+}
+
+impl Numbers {
+    pub const NOTHING: u8 = 0;
+
+    pub const LETTER: u8 = 1;
+
+    pub const RANGE: u8 = 2;
+
+    pub const SEQUENCE: u8 = 3;
+
+    pub const ALTERNATIVE: u8 = 4;
+
+    pub const STAR: u8 = 5;
+}
+
+fn row(kind: u8, first: u8, second: u8) -> Numbers
+    ensures { λ r. ⌜ r ≡ row kind first second ⌝ }
+{
+    Numbers {
+        kind,
+        first,
+        second,
+    }
+}
+
+fn leaf_row(leaf: Leaf) -> Numbers
+    ensures { λ r. ⌜ r ≡ leaf-row leaf ⌝ }
+{
+    match leaf {
+        Leaf::Nothing => row(Numbers::NOTHING, 0, 0),
+        Leaf::Letter(c) => row(Numbers::LETTER, c, 0),
+        Leaf::Range(a, b) => row(Numbers::RANGE, a, b),
+    }
+}
+
+fn row_of(node: Node) -> Numbers
+    ensures { λ r. ⌜ r ≡ row-of node ⌝ }
+{
+    match node {
+        Node::Leaf(leaf) => leaf_row(leaf),
+        Node::Sequence(p, q) => row(Numbers::SEQUENCE, p, q),
+        Node::Alternative(p, q) => row(Numbers::ALTERNATIVE, p, q),
+        Node::Star(p) => row(Numbers::STAR, p, 0),
+    }
+}
+
+fn wide(x: u8) -> u64
+    ensures { λ r. ⌜ (r ≡ x) × (r < 256) ⌝ }
+{
+    x as u64
+}
+
+fn pack(kind: u8, first: u8, second: u8, account: u8) -> u64
+    ensures { λ r.
+        ⌜ (r % 256 ≡ kind) × (r / 256 % 256 ≡ first) × (r / 65536 % 256 ≡ second) × (r / 16777216 % 256 ≡ account) ⌝ }
+{
+    wide(kind) + wide(first) * 256 + wide(second) * 65536 + wide(account) * 16777216
+}
+
+fn cell_of(line: Line) -> u64
+    ensures { λ r. ⌜ cell-line r ≡ line ⌝ }
+{
+    let node = line.node;
+    let row = row_of(node);
+    pack(row.kind, row.first, row.second, line.account)
+}
+
+// The packed table of a pattern; lines at or past its count are nothing.
+pub fn table_of(p: Pattern) -> [u64; 64]
+    requires { ⌜ p .count ≤ 64 ⌝ }
+    ensures { λ r. ⌜ Holds p r ⌝ }
+{
+    let mut table = [0u64; 64];
+    let mut i = 0;
+    while i < p.count {
+        let line = p.lines[i];
+        let cell = cell_of(line);
+        table[i] = cell;
+        i += 1;
+    }
+    table
+}
+
+fn node_of(kind: u64, first: u8, second: u8) -> Node
+    ensures { λ r. ⌜ r ≡ node-from kind first second ⌝ }
+{
+    if kind == 0 {
+        return Node::Leaf(Leaf::Nothing);
+    }
+    if kind == 1 {
+        return Node::Leaf(Leaf::Letter(first));
+    }
+    if kind == 2 {
+        return Node::Leaf(Leaf::Range(first, second));
+    }
+    if kind == 3 {
+        return Node::Sequence(first, second);
+    }
+    if kind == 4 {
+        return Node::Alternative(first, second);
+    }
+    Node::Star(first)
+}
+
+// The node of a line, so that a walk over a packed table is a match on the node.
+pub fn node_at(table: &[u64; 64], l: usize) -> Node
+    requires { ⌜ l < 64 ⌝ }
+    ensures { λ r. ⌜ r ≡ node-in (now (table .entry)) l ⌝ }
+{
+    let cell = table[l];
+    let first = (cell / 256 % 256) as u8;
+    let second = (cell / 65536 % 256) as u8;
+    node_of(cell % 256, first, second)
+}
+
+// The account of a line, 0 for none.
+pub fn account_at(table: &[u64; 64], l: usize) -> u8
+    requires { ⌜ l < 64 ⌝ }
+    ensures { λ r. ⌜ r ≡ account-in (now (table .entry)) l ⌝ }
+{
+    (table[l] / 16777216 % 256) as u8
+}

@@ -1,0 +1,50 @@
+-- What each call from C answers: the number and value of the service on the loaded table, in one 64-bit number. Definitions only.
+use mathlib.Core.Path.{_≡_}
+use mathlib.Core.Option.{Option, none, some}
+use mathlib.Core.List.{List}
+use Prim.Native.Nat.{ℕ, _+_, _*_, _/_, _%_}
+use lib.ListN.{length, getD}
+use Rattle.syntax.specs.declared.Pattern.{Pattern}
+use Rattle.refusals.specs.Refusals.{Answer, answer}
+use Rattle.loading.specs.Load.{load-table}
+use Rattle.semantics.specs.Visits.{Visit}
+use Rattle.codes.specs.Flatten.{flatten-answer, flatten-tape}
+use Rattle.codes.specs.Totals.{totals-answer, totals-litres}
+use Rattle.spans.specs.Spans.{span-answer, span-shown}
+use Rattle.parser.specs.declared.Parsed.{Parsed}
+use Rattle.parser.specs.Parse.{parsed-answer, Parses}
+use Rattle.canonical.specs.declared.Canonicalized.{Canonicalized}
+use Rattle.canonical.specs.Canonicalize.{canonicalized-answer, Canonicalizes}
+
+-- the number is the upper 32 bits, the value the lower 32
+abbrev pub unpacked : ℕ → Answer
+unpacked r = answer (r / 4294967296) (r % 4294967296)
+
+-- THE PROMISE of reading a tape from C: answer and buffers are those that the service promises on the table of the text
+pub record Parses-text (text tape words words-now code code-now : List ℕ) (r : ℕ) : Type 0 where
+  pub parsed : Parsed
+  pub answers : unpacked r ≡ parsed-answer parsed
+  pub parses : Parses (load-table text) tape words words-now code code-now parsed
+
+-- THE PROMISE of spelling a code from C
+pub record Flattens-text (text code : List ℕ) (count : ℕ) (tape after : List ℕ) (r : ℕ) : Type 0 where
+  pub answers : unpacked r ≡ flatten-answer (load-table text) code count (length tape)
+  pub leaves : after ≡ flatten-tape (load-table text) code count tape
+
+-- THE PROMISE of settling a code from C
+pub record Canonicalizes-text (text code : List ℕ) (count : ℕ) (tape tape-now words words-now canonical canonical-now : List ℕ) (r : ℕ) : Type 0 where
+  pub canonicalized : Canonicalized
+  pub answers : unpacked r ≡ canonicalized-answer canonicalized
+  pub canonicalizes : Canonicalizes (load-table text) code count tape tape-now words words-now canonical canonical-now canonicalized
+
+-- the value of a visit that is shown is its start and length, 16 bits each; a refusal keeps its own
+abbrev pub shown-answer : Answer → Option Visit → Answer
+shown-answer a none = a
+shown-answer a (some x) = answer (a .number) (x .start * 65536 + x .size)
+
+unfoldable pub span-text : (text tape code : List ℕ) → (count node visit : ℕ) → Answer
+span-text text tape code count l k = shown-answer (span-answer (load-table text) tape code count l k) (span-shown (load-table text) tape code count l k)
+
+-- the litres of one account; 0 for an account above 9, and 0 if refused, since the totals are then
+unfoldable pub total-text : (text code : List ℕ) → (count account : ℕ) → Answer
+total-text text code count a = answer (totals-answer (load-table text) code count .number) (getD (totals-litres (load-table text) code count) a 0)

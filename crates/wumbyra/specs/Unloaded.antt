@@ -1,0 +1,57 @@
+-- A text that does not load has a table of no lines, and every service on it answers 2 and 0.
+use mathlib.Core.Path.{_≡_, refl, sym, ap, _∙_}
+use mathlib.Core.Bool.{Bool, true, false, not, cond}
+use mathlib.Core.Option.{Option, none, some}
+use mathlib.Core.List.{List, [], _∷_}
+use Prim.Native.Nat.{ℕ, zero, suc, _≤_}
+use native.Mathlib.Omega.{arith}
+use lib.ListN.{getD, replicate}
+use Rattle.syntax.specs.declared.Pattern.{Pattern}
+use Rattle.refusals.specs.Refusals.{answer}
+use Rattle.loading.specs.Text.{rows, Forms, good, fault, forms}
+use Rattle.syntax.specs.Table.{no-lines, obeys, tree-fault}
+use Rattle.loading.specs.Load.{table, tree-answer, forms-answer, tree-table, forms-table, load-answer, load-table}
+use Rattle.codes.specs.Flatten.{flatten-answer}
+use Rattle.codes.specs.Totals.{totals-answer, totals-litres}
+use Rattle.spans.specs.Spans.{span-answer, span-shown}
+use Rattle.parser.specs.Parse.{early}
+use Rattle.wumbyra.specs.Packed.{span-text, total-text}
+
+by-tree : (p : Pattern) (o : Option ℕ) → 1 ≤ tree-answer p o .number → tree-table p o ≡ no-lines
+by-tree p none h = absurd (omega arith)
+by-tree p (some l) h = refl
+
+by-forms : (f : Forms) → 1 ≤ forms-answer f .number → forms-table f ≡ no-lines
+by-forms (fault l) h = refl
+by-forms (good []) h = refl
+by-forms (good (x ∷ xs)) h = by-tree (table (x ∷ xs)) (tree-fault (table (x ∷ xs))) h
+
+zeros : (n i : ℕ) → _≡_ {A = ℕ} (getD (replicate n 0) i 0) 0
+zeros zero i = refl
+zeros (suc n) zero = refl
+zeros (suc n) (suc i) = zeros n i
+
+module _ (text : List ℕ) (h : 1 ≤ load-answer text .number) where
+  pub no-table : load-table text ≡ no-lines
+  unfolding load-answer load-table
+  no-table = by-forms (forms 0 (rows text)) h
+
+  pub not-obeyed : obeys (load-table text) ≡ false
+  unfolding obeys no-lines
+  not-obeyed = ap obeys no-table
+
+  pub early-unloaded : (tape : List ℕ) (n : ℕ) → early (load-table text) tape n ≡ answer 2 0
+  unfolding early
+  early-unloaded tape n = rw not-obeyed
+
+  pub flatten-unloaded : (code : List ℕ) (count size : ℕ) → flatten-answer (load-table text) code count size ≡ answer 2 0
+  unfolding flatten-answer
+  flatten-unloaded code count size = rw not-obeyed
+
+  pub span-unloaded : (tape code : List ℕ) (count l k : ℕ) → span-text text tape code count l k ≡ answer 2 0
+  unfolding span-text span-answer span-shown
+  span-unloaded tape code count l k = rw not-obeyed
+
+  pub total-unloaded : (code : List ℕ) (count a : ℕ) → total-text text code count a ≡ answer 2 0
+  unfolding total-text totals-answer totals-litres
+  total-unloaded code count a = rw (not-obeyed, zeros 10 a)

@@ -1,0 +1,171 @@
+// The services for callers from C, each on a pattern's text. An answer is one number: the cause's number (0: none) in its
+// upper 32 bits, the value beside it in the lower 32. A slice is passed as a pointer and a length.
+ghost use mathlib.Core.Path.{_≡_};
+ghost use lib.ListN.{getD};
+ghost use Rattle.refusals.specs.Refusals.{answer, refused};
+ghost use Rattle.loading.specs.Load.{outcome-answer, load-answer};
+ghost use Rattle.codes.specs.Flatten.{flattened-answer};
+ghost use Rattle.codes.specs.Totals.{totals-outcome};
+ghost use Rattle.parser.specs.Parse.{parsed-answer};
+ghost use Rattle.canonical.specs.Canonicalize.{canonicalized-answer};
+ghost use Rattle.wumbyra.specs.Packed.{unpacked, Parses-text, Flattens-text, Canonicalizes-text, span-text, total-text};
+use canonical::Canonicalized;
+use canonical::canonicalize;
+use codes::Flattened;
+use codes::TotalsOutcome;
+use codes::flatten;
+use codes::totals;
+use loading::Outcome;
+use loading::load;
+use parser::Parsed;
+use parser::parse;
+use refusals::Refusal;
+use refusals::number_of;
+use refusals::value_of;
+use spans::SpanOutcome;
+use spans::span;
+
+fn packed(number: u32, value: u32) -> u64
+    ensures { λ r. ⌜ unpacked r ≡ answer number value ⌝ }
+{
+    number as u64 * 4294967296 + value as u64
+}
+
+fn of_refusal(why: Refusal) -> u64
+    ensures { λ r. ⌜ unpacked r ≡ refused why ⌝ }
+{
+    packed(number_of(why), value_of(why))
+}
+
+fn of_outcome(outcome: Outcome) -> u64
+    ensures { λ r. ⌜ unpacked r ≡ outcome-answer outcome ⌝ }
+{
+    match outcome {
+        Outcome::Lines(n) => packed(0, n),
+        Outcome::Refused(why) => of_refusal(why),
+    }
+}
+
+fn of_parsed(parsed: Parsed) -> u64
+    ensures { λ r. ⌜ unpacked r ≡ parsed-answer parsed ⌝ }
+{
+    match parsed {
+        Parsed::Bits(n) => packed(0, n),
+        Parsed::Refused(why) => of_refusal(why),
+    }
+}
+
+fn of_flattened(flattened: Flattened) -> u64
+    ensures { λ r. ⌜ unpacked r ≡ flattened-answer flattened ⌝ }
+{
+    match flattened {
+        Flattened::Letters(n) => packed(0, n),
+        Flattened::Refused(why) => of_refusal(why),
+    }
+}
+
+fn of_canonicalized(canonicalized: Canonicalized) -> u64
+    ensures { λ r. ⌜ unpacked r ≡ canonicalized-answer canonicalized ⌝ }
+{
+    match canonicalized {
+        Canonicalized::Bits(n) => packed(0, n),
+        Canonicalized::Refused(why) => of_refusal(why),
+    }
+}
+
+fn totals_number(outcome: TotalsOutcome) -> u32
+    ensures { λ r. ⌜ r ≡ totals-outcome outcome .number ⌝ }
+{
+    match outcome {
+        TotalsOutcome::Added => 0,
+        TotalsOutcome::Refused(why) => number_of(why),
+    }
+}
+
+// The litres of an account, 0 for one that there is not.
+fn litres_of(litres: &[u32], account: u32) -> u32
+    ensures { λ r. ⌜ r ≡ getD (now (litres .entry)) account 0 ⌝ }
+{
+    let i = account as usize;
+    if litres.len() <= i {
+        return 0;
+    }
+    litres[i]
+}
+
+#[no_mangle]
+pub extern "C" fn wumbyra_load(text: &[u8]) -> u64
+    ensures { λ r. ⌜ unpacked r ≡ load-answer (now (text .entry)) ⌝ }
+{
+    let loaded = load(text);
+    let outcome = loaded.outcome;
+    of_outcome(outcome)
+}
+
+#[no_mangle]
+pub extern "C" fn wumbyra_parse(text: &[u8], tape: &[u8], words: &mut [u64], code: &mut [u8]) -> u64
+    ensures { λ r.
+        ⌜ Parses-text (now (text .entry)) (now (tape .entry)) (now (words .entry)) (now (words .exit)) (now (code .entry)) (now (code .exit)) r ⌝ }
+{
+    let loaded = load(text);
+    let parsed = parse(loaded.pattern, tape, words, code);
+    of_parsed(parsed)
+}
+
+#[no_mangle]
+pub extern "C" fn wumbyra_flatten(text: &[u8], code: &[u8], count: u32, tape: &mut [u8]) -> u64
+    ensures { λ r. ⌜ Flattens-text (now (text .entry)) (now (code .entry)) count (now (tape .entry)) (now (tape .exit)) r ⌝ }
+{
+    let loaded = load(text);
+    let flattened = flatten(loaded.pattern, code, count, tape);
+    of_flattened(flattened)
+}
+
+#[no_mangle]
+pub extern "C" fn wumbyra_canonicalize(
+    text: &[u8],
+    code: &[u8],
+    count: u32,
+    tape: &mut [u8],
+    words: &mut [u64],
+    canonical: &mut [u8],
+) -> u64
+    ensures { λ r.
+        ⌜ Canonicalizes-text (now (text .entry)) (now (code .entry)) count (now (tape .entry)) (now (tape .exit)) (now (words .entry)) (now (words .exit)) (now (canonical .entry)) (now (canonical .exit)) r ⌝ }
+{
+    let loaded = load(text);
+    let canonicalized = canonicalize(loaded.pattern, code, count, tape, words, canonical);
+    of_canonicalized(canonicalized)
+}
+
+// The value of a piece that is shown: its start in the upper 16 bits, its length in the lower 16.
+#[no_mangle]
+pub extern "C" fn wumbyra_span(
+    text: &[u8],
+    tape: &[u8],
+    code: &[u8],
+    count: u32,
+    node: u32,
+    visit: u32,
+) -> u64
+    ensures { λ r. ⌜ unpacked r ≡ span-text (now (text .entry)) (now (tape .entry)) (now (code .entry)) count node visit ⌝ }
+{
+    let loaded = load(text);
+    let spanned = span(loaded.pattern, tape, code, count, node, visit);
+    let outcome = spanned.outcome;
+    match outcome {
+        SpanOutcome::Shown => packed(0, spanned.start * 65536 + spanned.length),
+        SpanOutcome::Refused(why) => of_refusal(why),
+    }
+}
+
+#[no_mangle]
+pub extern "C" fn wumbyra_total(text: &[u8], code: &[u8], count: u32, account: u32) -> u64
+    ensures { λ r. ⌜ unpacked r ≡ total-text (now (text .entry)) (now (code .entry)) count account ⌝ }
+{
+    let loaded = load(text);
+    let totalled = totals(loaded.pattern, code, count);
+    let outcome = totalled.outcome;
+    let litres = totalled.litres;
+    packed(totals_number(outcome), litres_of(&litres, account))
+}
