@@ -18,14 +18,6 @@ use Rattle.semantics.specs.Decode.{is-code, spelled}
 use Rattle.codes.specs.declared.Flattened.{Flattened}
 use Rattle.codes.specs.declared.Flattened.the-variants.{Letters, Refused}
 
--- 01, cause 8: "not a whole code of the pattern, by bits, range, count or padding". What is handed in is good bytes, and its bits are a code.
-unfoldable pub whole-code : (t : Tree) → (code : List ℕ) → (count : ℕ) → Bool
-whole-code t code count = handed-good code count && is-code t (held 8 code count)
-
--- 01: what a code "spells"
-unfoldable pub letters-of : (t : Tree) → (code : List ℕ) → (count : ℕ) → List ℕ
-letters-of t code count = spelled t (held 8 code count)
-
 -- 01: "Each service tests the loaded table it is given; any departure from the pattern rules [..] is 2", and beside it, but when loading, 0
 abbrev pub bad-table : Answer
 bad-table = refused (Tree-fault 0)

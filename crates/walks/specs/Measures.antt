@@ -17,12 +17,12 @@ use Rattle.semantics.specs.Decode.{value-of, is-code, spelled, spelled-by}
 use Rattle.semantics.specs.CodeLaws.{value-of-code, value-of-sound}
 use Rattle.semantics.specs.Positions.{see}
 use Rattle.semantics.specs.PositionLaws.{see-whole, see-whole-sound}
-use Rattle.codes.specs.declared.walk.Walked.{Walked}
-use Rattle.codes.specs.declared.walk.Measured.{Measured}
-use Rattle.codes.specs.Flatten.{whole-code, letters-of}
-use Rattle.codes.specs.Handed.{held-length}
-use Rattle.codes.specs.Words.{word-at}
-use Rattle.codes.specs.Walks.{cap, went, walk-answer, walked}
+use Rattle.walks.specs.declared.Walked.{Walked}
+use Rattle.walks.specs.declared.Measured.{Measured}
+use Rattle.walks.specs.Whole.{whole-code, letters-of}
+use Rattle.walks.specs.Handed.{held-length}
+use Rattle.walks.specs.Words.{word-at}
+use Rattle.walks.specs.Walks.{cap, went, walk-answer, walked}
 
 abbrev pub no-measure : Measured
 no-measure = record { whole = false; letters = 0 }

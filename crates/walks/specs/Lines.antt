@@ -15,13 +15,13 @@ use Rattle.syntax.specs.declared.Node.the-variants.{Leaf as Leaf-node, Sequence
 use Rattle.syntax.specs.Bools.{and-fst, and-snd}
 use Rattle.syntax.specs.Letter.{is-letter, in-range}
 use Rattle.syntax.specs.Table.{leaf-good, node-good}
-use Rattle.syntax.specs.Tree.{Label, Tree, range}
+use Rattle.syntax.specs.Tree.{Label, Tree, star}
 use Rattle.syntax.specs.Trees.{made}
 use Rattle.syntax.specs.TreeLaws.{Below}
 use Rattle.bits.specs.Bits.{bit-at}
-use Rattle.table.specs.Columns.{node-in, tree-in, Good}
-use Rattle.table.specs.ColumnLaws.{line-tree, line-lower, line-formed}
-use Rattle.codes.specs.Words.{word-at, word-then, word-seq, word-alt-none, word-side, word-star-none, word-stop, word-round}
+use Rattle.table.specs.Cells.{node-in, account-in, tree-in, Good}
+use Rattle.table.specs.CellLaws.{line-tree, line-lower, line-formed}
+use Rattle.walks.specs.Words.{word-at, word-then, word-seq, word-alt-none, word-side}
 
 -- names for the clauses of the source, where `Leaf` and `Range` cannot be imported beside the types
 abbrev pub leaf-node : Leaf → Node
@@ -58,7 +58,7 @@ module _ (low high c : ℕ) (g : leaf-good (Range low high) ≡ true) where
       and-no false = refl
 
 -- ── what a walk may take from a line: its letters are letters, its parts stand below it ──
-module _ {kind first second : List ℕ} (good : Good kind first second) (l : ℕ) (s : l < 64) (n : Node) (en : n ≡ node-in kind first second l) where
+module _ {table : List ℕ} (good : Good table) (l : ℕ) (s : l < 64) (n : Node) (en : n ≡ node-in table l) where
   pub leaf-formed : (x : Leaf) → n ≡ Leaf-node x → leaf-good x ≡ true
   leaf-formed x e = ap node-good (sym e) ∙ line-formed good l s n en
 
@@ -81,20 +81,29 @@ module _ {kind first second : List ℕ} (good : Good kind first second) (l : ℕ
   pub star-lower : (p : ℕ) → n ≡ Star p → p < l
   star-lower p e = lower (Star p) e
 
--- ── at a line ──
-module _ {kind first second : List ℕ} (good : Good kind first second) (account : List ℕ) (code : List ℕ) (count : ℕ) (fit : count ≤ length code * 8)
-    (l : ℕ) (s : l < 64) (n : Node) (en : n ≡ node-in kind first second l) (at : ℕ) where
+-- ── the tree of a line, by its node ──
+module _ {table : List ℕ} (good : Good table) (l : ℕ) (s : l < 64) (n : Node) (en : n ≡ node-in table l) where
+  abbrev pub label-at : Label
+  label-at = record { index = l; account = account-in table l }
+
+  pub line-as : (k : Node) → n ≡ k → tree-in table l ≡ made label-at (tree-in table) k
+  line-as k e = line-tree good l s n en ∙ ap (made label-at (tree-in table)) e
+
+  -- `K` takes another round for bit 0
+  pub star-as : (p : ℕ) → n ≡ Star p → tree-in table l ≡ star label-at false (tree-in table p)
+  star-as p e = line-as (Star p) e
+
+-- ── what is spelled at a line ──
+module _ {table : List ℕ} (good : Good table) (code : List ℕ) (count : ℕ) (fit : count ≤ length code * 8)
+    (l : ℕ) (s : l < 64) (n : Node) (en : n ≡ node-in table l) (at : ℕ) where
   abbrev T : ℕ → Tree
-  T = tree-in kind first second account
+  T = tree-in table
 
   abbrev m : Label
-  m = record { index = l; account = getD account l 0 }
-
-  pub line-as : (k : Node) → n ≡ k → tree-in kind first second account l ≡ made m T k
-  line-as k e = line-tree good l s n en account ∙ ap (made m T) e
+  m = record { index = l; account = account-in table l }
 
   word-as : (k : Node) → n ≡ k → word-at code count (T l) at ≡ word-at code count (made m T k) at
-  word-as k e = ap (λ t. word-at code count t at) (line-as k e)
+  word-as k e = ap (λ t. word-at code count t at) (line-as good l s n en k e)
 
   pub seq-is : (p q : ℕ) → n ≡ Sequence p q → at ≤ count → word-at code count (T l) at ≡ word-then (word-at code count (T p) at) (word-at code count (T q))
   seq-is p q e le = word-as (Sequence p q) e ∙ word-seq code count fit m (T p) (T q) at le
@@ -106,17 +115,6 @@ module _ {kind first second : List ℕ} (good : Good kind first second) (account
   side-is p q r e h er =
       word-as (Alternative p q) e ∙ word-side code count fit m (T p) (T q) at h ∙ ap (λ t. word-at code count t (at + 1)) (pick (bit-at 8 code at) ∙ ap T (sym er))
     where
-      pick : (b : Bool) → cond b (tree-in kind first second account q) (tree-in kind first second account p) ≡ tree-in kind first second account (cond b q p)
+      pick : (b : Bool) → cond b (tree-in table q) (tree-in table p) ≡ tree-in table (cond b q p)
       pick true = refl
       pick false = refl
-
-  module _ (p : ℕ) (e : n ≡ Star p) where
-    pub star-none-is : count ≤ at → word-at code count (T l) at ≡ none
-    star-none-is h = word-as (Star p) e ∙ word-star-none code count fit m (T p) at h
-
-    pub stop-is : at < count → (b : Bool) → b ≡ bit-at 8 code at → b ≡ true → word-at code count (T l) at ≡ some ([], at + 1)
-    stop-is h b eb z = word-as (Star p) e ∙ word-stop code count fit m (T p) at h (sym eb ∙ z)
-
-    pub round-is : at < count → (b : Bool) → b ≡ bit-at 8 code at → b ≡ false → word-at code count (T l) at ≡ word-then (word-at code count (T p) (at + 1)) (word-at code count (T l))
-    round-is h b eb z =
-        word-as (Star p) e ∙ word-round code count fit m (T p) at h (sym eb ∙ z) ∙ ap (λ t. word-then (word-at code count (T p) (at + 1)) (word-at code count t)) (sym (line-as (Star p) e))

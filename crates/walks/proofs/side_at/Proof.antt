@@ -1,8 +1,8 @@
--- `codes::walk::side_at` meets its contract.
+-- `walks::side_at` meets its contract.
 use mathlib.Core.Path.{sym, _∙_}
 use borrow.Author.Needs.{needs}
-use Rattle.codes.proofs.walk.side_at.Statement.{statement}
-use Rattle.codes.proofs.walk.side_at.Tie as tie
+use Rattle.walks.proofs.side_at.Statement.{statement}
+use Rattle.walks.proofs.side_at.Tie as tie
 
 bit-at-requires : tie.Need-bit-at-requires
 bit-at-requires c κs = search needs

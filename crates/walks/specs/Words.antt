@@ -1,6 +1,6 @@
 -- What is spelled from a position of a code on, and the position behind it: the equations of a walk for the spelling.
 use mathlib.Core.Path.{_≡_, refl, sym, ap, _∙_}
-use mathlib.Core.Bool.{Bool, true, false, cond}
+use mathlib.Core.Bool.{Bool, true, false, cond, not}
 use mathlib.Core.Option.{Option, none, some, Option·none-ne-some, Option·some-injective}
 use mathlib.Core.List.{List, [], _∷_, _++_}
 use Prim.Native.Nat.{ℕ, _+_, _*_, _≤_, _<_}
@@ -12,7 +12,7 @@ use Rattle.bits.specs.Bits.{bit-at, number-at, held}
 use Rattle.semantics.specs.Value.{Value, flat}
 use Rattle.semantics.specs.Positions.{Seen, see, joined, and-then}
 use Rattle.semantics.specs.PositionLaws.{see-stays, see-nothing, see-letter, see-short, see-range, see-outside, see-seq, see-alt-none, see-left, see-right, see-star-none, see-stop, see-round}
-use Rattle.codes.specs.Handed.{held-length, held-bit, held-number}
+use Rattle.walks.specs.Handed.{held-length, held-bit, held-number}
 
 abbrev pub Word : Type 0
 Word = Seen (List ℕ)
@@ -95,18 +95,27 @@ module _ (code : List ℕ) (count : ℕ) (fit : count ≤ length code * 8) where
       go l true e = see-right (held 8 code count) m t u (flat (alt m t u)) at l e
       go l false e = see-left (held 8 code count) m t u (flat (alt m t u)) at l e
 
-  module _ (m : Label) (t : Tree) (at : ℕ) where
-    pub word-star-none : count ≤ at → word-at code count (star m false t) at ≡ none
-    unfolding word-at
-    word-star-none h = let k = many in see-star-none (held 8 code count) m false t (flat (star m false t)) at (omega arith)
+  -- a star, whichever bit means another round
+  module _ {t u : Tree} {m : Label} {again : Bool} (e : t ≡ star m again u) (at : ℕ) where
+    as-star : (at : ℕ) → word-at code count t at ≡ word-at code count (star m again u) at
+    as-star i = ap (λ z. word-at code count z i) e
 
-    pub word-stop : at < count → bit-at 8 code at ≡ true → word-at code count (star m false t) at ≡ some ([], at + 1)
+    pub star-none-is : count ≤ at → word-at code count t at ≡ none
     unfolding word-at
-    word-stop h z = let k = many in see-stop (held 8 code count) m false t (flat (star m false t)) at (omega arith) (held-bit code count fit at h ∙ z)
+    star-none-is h = let k = many in as-star at ∙ see-star-none (held 8 code count) m again u (flat (star m again u)) at (omega arith)
 
-    pub word-round : at < count → bit-at 8 code at ≡ false
-        → word-at code count (star m false t) at ≡ word-then (word-at code count t (at + 1)) (word-at code count (star m false t))
+    pub stop-is : at < count → (b : Bool) → b ≡ bit-at 8 code at → b ≡ not again → word-at code count t at ≡ some ([], at + 1)
     unfolding word-at
-    word-round h z =
+    stop-is h b eb z =
         let k = many in
-        see-round (held 8 code count) m false t (flat (star m false t)) at _++_ (flat t) (flat (star m false t)) (λ v vs. refl) (omega arith) (held-bit code count fit at h ∙ z)
+        as-star at ∙ see-stop (held 8 code count) m again u (flat (star m again u)) at (omega arith) (held-bit code count fit at h ∙ sym eb ∙ z)
+
+    pub round-is : at < count → (b : Bool) → b ≡ bit-at 8 code at → b ≡ again
+        → word-at code count t at ≡ word-then (word-at code count u (at + 1)) (word-at code count t)
+    unfolding word-at
+    round-is h b eb z =
+        let k = many in
+        as-star at
+        ∙ see-round (held 8 code count) m again u (flat (star m again u)) at _++_ (flat u) (flat (star m again u)) (λ v vs. refl)
+        (omega arith) (held-bit code count fit at h ∙ sym eb ∙ z)
+        ∙ ap (λ z. word-then (word-at code count u (at + 1)) (word-at code count z)) (sym e)

@@ -1,9 +1,9 @@
--- `codes::walk::after` meets its contract.
-use Rattle.codes.specs.Walks.{more-went, more-failed}
+-- `walks::after` meets its contract.
+use Rattle.walks.specs.Walks.{more-went, more-failed}
 use borrow.Author.Tests.{not-true, not-false}
 use borrow.Author.Needs.{needs}
-use Rattle.codes.proofs.walk.after.Statement.{statement}
-use Rattle.codes.proofs.walk.after.Tie as tie
+use Rattle.walks.proofs.after.Statement.{statement}
+use Rattle.walks.proofs.after.Tie as tie
 
 returns : tie.Need-returns
 returns c = more-failed _ _ (not-true _ (c .if1 .taken))

@@ -1,11 +1,11 @@
--- `codes::walk::walk_range` meets its contract.
-use Rattle.codes.specs.Walks.{walk-is}
-use Rattle.codes.specs.Lines.{in-range-yes, in-range-low, in-range-high}
-use Rattle.codes.specs.Words.{word-short, word-range, word-outside}
+-- `walks::walk_range` meets its contract.
+use Rattle.walks.specs.Walks.{walk-is}
+use Rattle.walks.specs.Lines.{in-range-yes, in-range-low, in-range-high}
+use Rattle.walks.specs.Words.{word-short, word-range, word-outside}
 use native.Mathlib.Omega.{arith}
 use borrow.Author.Needs.{needs}
-use Rattle.codes.proofs.walk.walk_range.Statement.{statement}
-use Rattle.codes.proofs.walk.walk_range.Tie as tie
+use Rattle.walks.proofs.walk_range.Statement.{statement}
+use Rattle.walks.proofs.walk_range.Tie as tie
 
 sub-if1 : tie.Need-sub-if1
 sub-if1 c = search needs

@@ -8,8 +8,8 @@ use native.Mathlib.Omega.{arith}
 use lib.ListN.{length, length-append}
 use Rattle.syntax.specs.Letter.{letter-limit}
 use Rattle.syntax.specs.Tree.{Tree}
-use Rattle.codes.specs.declared.walk.Walked.{Walked}
-use Rattle.codes.specs.Words.{Word, word-at, word-join, word-then, word-stays}
+use Rattle.walks.specs.declared.Walked.{Walked}
+use Rattle.walks.specs.Words.{Word, word-at, word-join, word-then, word-stays}
 
 -- 3,601 stands for every number of letters above 3,600: a letter is spelled without a bit, so the number itself need not fit a machine word
 abbrev pub cap : ℕ → ℕ

@@ -1,17 +1,18 @@
 // One walk over a code, into parts. Rounds are a loop, so that calls go no deeper than the tree, however many rounds there are.
 ghost use mathlib.Core.Path.{_≡_};
 ghost use mathlib.Core.Bool.{true, cond};
-ghost use mathlib.Core.List.{List};
 ghost use Prim.Native.Nat.{ℕ, _+_, _*_, _≤_, _<_};
 ghost use lib.ListN.{length};
+ghost use Rattle.syntax.specs.Letter.{letter-limit};
 ghost use Rattle.syntax.specs.Table.{leaf-good};
 ghost use Rattle.syntax.specs.Tree.{Label, Tree};
 ghost use Rattle.syntax.specs.Trees.{made};
 ghost use Rattle.bits.specs.Bits.{bit-at};
-ghost use Rattle.table.specs.Columns.{Good, tree-in};
-ghost use Rattle.codes.specs.Lines.{leaf-node, range-node};
-ghost use Rattle.codes.specs.Walks.{cap, walked, more};
-ghost use Rattle.codes.specs.Measures.{no-measure, measured};
+ghost use Rattle.semantics.specs.Code.{code-limit};
+ghost use Rattle.table.specs.Cells.{Good, tree-in};
+ghost use Rattle.walks.specs.Lines.{leaf-node, range-node};
+ghost use Rattle.walks.specs.Walks.{cap, walked, more};
+ghost use Rattle.walks.specs.Measures.{no-measure, measured};
 use bits::bit_at;
 use bits::byte_at;
 use bits::handed_good;
@@ -26,17 +27,20 @@ pub struct Walked {
     pub letters: u32,
 }
 
-// The sum, where 3,601 stands for all that is more than 3,600.
+// Stands for every number of letters above `Pattern::MAX_LETTERS`.
+const MANY: u32 = 3601;
+
+// The sum, up to `MANY`.
 fn plus(x: u32, y: u32) -> u32
-    requires { ⌜ (x ≤ 3601) × (y ≤ 3601) ⌝ }
+    requires { ⌜ (x ≤ letter-limit + 1) × (y ≤ letter-limit + 1) ⌝ }
     ensures { λ r. ⌜ r ≡ cap (x + y) ⌝ }
 {
-    if x + y < 3601 { x + y } else { 3601 }
+    if x + y < MANY { x + y } else { MANY }
 }
 
 // So many letters more in front.
 fn after(letters: u32, walked: Walked) -> Walked
-    requires { ⌜ (letters ≤ 3601) × (walked .letters ≤ 3601) ⌝ }
+    requires { ⌜ (letters ≤ letter-limit + 1) × (walked .letters ≤ letter-limit + 1) ⌝ }
     ensures { λ r. ⌜ r ≡ more letters walked ⌝ }
 {
     if !walked.ok {
@@ -64,7 +68,7 @@ pub fn side_at(code: &[u8], at: u32, left: u8, right: u8) -> u8
 // A range takes eight bits, and only a letter of the range is a reading.
 fn walk_range(low: u8, high: u8, code: &[u8], count: u32, at: u32) -> Walked
     requires { ⌜ leaf-good (range-node low high) ≡ true ⌝ }
-    requires { ⌜ (at ≤ count) × (count ≤ 8 * length (now code)) × (count ≤ 524288) ⌝ }
+    requires { ⌜ (at ≤ count) × (count ≤ 8 * length (now code)) × (count ≤ code-limit) ⌝ }
     ensures { λ r. ⌜ ((m : Label) (f : ℕ → Tree) → r ≡ walked (now (code .entry)) count (made m f (leaf-node (range-node low high))) at) ⌝ }
 {
     if count - at < 8 {
@@ -98,7 +102,7 @@ fn walk_range(low: u8, high: u8, code: &[u8], count: u32, at: u32) -> Walked
 
 fn walk_leaf(leaf: Leaf, code: &[u8], count: u32, at: u32) -> Walked
     requires { ⌜ leaf-good leaf ≡ true ⌝ }
-    requires { ⌜ (at ≤ count) × (count ≤ 8 * length (now code)) × (count ≤ 524288) ⌝ }
+    requires { ⌜ (at ≤ count) × (count ≤ 8 * length (now code)) × (count ≤ code-limit) ⌝ }
     ensures { λ r. ⌜ ((m : Label) (f : ℕ → Tree) → r ≡ walked (now (code .entry)) count (made m f (leaf-node leaf)) at) ⌝ }
 {
     match leaf {
@@ -117,29 +121,21 @@ fn walk_leaf(leaf: Leaf, code: &[u8], count: u32, at: u32) -> Walked
 }
 
 // The bits of node l from `at` on.
-pub fn walk(
-    kind: &[u8; 64],
-    first: &[u8; 64],
-    second: &[u8; 64],
-    l: usize,
-    code: &[u8],
-    count: u32,
-    at: u32,
-) -> Walked
-    requires { ⌜ Good (now kind) (now first) (now second) ⌝ }
-    requires { ⌜ (l < 64) × (at ≤ count) × (count ≤ 8 * length (now code)) × (count ≤ 524288) ⌝ }
+pub fn walk(table: &[u64; 64], l: usize, code: &[u8], count: u32, at: u32) -> Walked
+    requires { ⌜ Good (now table) ⌝ }
+    requires { ⌜ (l < 64) × (at ≤ count) × (count ≤ 8 * length (now code)) × (count ≤ code-limit) ⌝ }
     ensures { λ r.
-        ⌜ ((account : List ℕ) → r ≡ walked (now (code .entry)) count (tree-in (now (kind .entry)) (now (first .entry)) (now (second .entry)) account l) at) ⌝ }
+        ⌜ r ≡ walked (now (code .entry)) count (tree-in (now (table .entry)) l) at ⌝ }
 {
-    let node = node_at(kind, first, second, l);
+    let node = node_at(table, l);
     match node {
         Node::Leaf(leaf) => walk_leaf(leaf, code, count, at),
         Node::Sequence(p, q) => {
-            let one = walk(kind, first, second, p as usize, code, count, at);
+            let one = walk(table, p as usize, code, count, at);
             if !one.ok {
                 return one;
             }
-            let two = walk(kind, first, second, q as usize, code, count, one.at);
+            let two = walk(table, q as usize, code, count, one.at);
             after(one.letters, two)
         }
         Node::Alternative(p, q) => {
@@ -151,7 +147,7 @@ pub fn walk(
                 };
             }
             let side = side_at(code, at, p, q);
-            walk(kind, first, second, side as usize, code, count, at + 1)
+            walk(table, side as usize, code, count, at + 1)
         }
         Node::Star(p) => {
             let mut here = at;
@@ -164,7 +160,7 @@ pub fn walk(
                         letters,
                     };
                 }
-                let one = walk(kind, first, second, p as usize, code, count, here + 1);
+                let one = walk(table, p as usize, code, count, here + 1);
                 if !one.ok {
                     return one;
                 }
@@ -196,23 +192,16 @@ fn no_measure() -> Measured
 }
 
 // All of a code is walked, at node l, before anything is said of its letters.
-pub fn measure(
-    kind: &[u8; 64],
-    first: &[u8; 64],
-    second: &[u8; 64],
-    l: usize,
-    code: &[u8],
-    count: u32,
-) -> Measured
-    requires { ⌜ Good (now kind) (now first) (now second) ⌝ }
+pub fn measure(table: &[u64; 64], l: usize, code: &[u8], count: u32) -> Measured
+    requires { ⌜ Good (now table) ⌝ }
     requires { ⌜ l < 64 ⌝ }
     ensures { λ r.
-        ⌜ ((account : List ℕ) → r ≡ measured (tree-in (now (kind .entry)) (now (first .entry)) (now (second .entry)) account l) (now (code .entry)) count) ⌝ }
+        ⌜ r ≡ measured (tree-in (now (table .entry)) l) (now (code .entry)) count ⌝ }
 {
     if !handed_good(code, count) {
         return no_measure();
     }
-    let walked = walk(kind, first, second, l, code, count, 0);
+    let walked = walk(table, l, code, count, 0);
     if !walked.ok {
         return no_measure();
     }

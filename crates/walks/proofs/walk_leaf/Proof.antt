@@ -1,12 +1,12 @@
--- `codes::walk::walk_leaf` meets its contract.
-use Rattle.codes.specs.Walks.{walk-is}
-use Rattle.codes.specs.Words.{word-nothing, word-letter}
+-- `walks::walk_leaf` meets its contract.
+use Rattle.walks.specs.Walks.{walk-is}
+use Rattle.walks.specs.Words.{word-nothing, word-letter}
 use Rattle.syntax.specs.Table.{leaf-good}
 use mathlib.Core.Path.{sym, ap, _∙_}
 use native.Mathlib.Omega.{arith}
 use borrow.Author.Needs.{needs}
-use Rattle.codes.proofs.walk.walk_leaf.Statement.{statement}
-use Rattle.codes.proofs.walk.walk_leaf.Tie as tie
+use Rattle.walks.proofs.walk_leaf.Statement.{statement}
+use Rattle.walks.proofs.walk_leaf.Tie as tie
 
 enum-told : tie.Need-enum-told
 enum-told c = search needs

@@ -1,0 +1,8 @@
+-- What must be believed: a whole code.
+pub mod Whole
+-- What a walk over a code gives at each node, and its laws.
+pub mod Handed
+pub mod Words
+pub mod Lines
+pub mod Walks
+pub mod Measures
