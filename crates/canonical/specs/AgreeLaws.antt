@@ -22,7 +22,8 @@ use Rattle.semantics.specs.Sweeps.{greedy}
 use Rattle.semantics.specs.GreedyLaws.{greedy-canonical}
 use Rattle.first_sweep.specs.StateSets.{words}
 use Rattle.first_sweep.specs.Meaning.{words-length}
-use Rattle.codes.specs.Flatten.{whole-code, letters-of, flatten-answer}
+use Rattle.walks.specs.Whole.{whole-code, letters-of}
+use Rattle.codes.specs.Flatten.{flatten-answer}
 use Rattle.parser.specs.Parse.{Reads-greedily}
 use Rattle.canonical.specs.declared.Canonicalized.{Canonicalized}
 use Rattle.canonical.specs.declared.Canonicalized.the-variants.{Bits, Refused}

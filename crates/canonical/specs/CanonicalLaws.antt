@@ -27,8 +27,9 @@ use Rattle.semantics.specs.LetterLaws.{Lettered, flat-letters}
 use Rattle.semantics.specs.VisitLaws.{All}
 use Rattle.codes.specs.declared.Flattened.{Flattened}
 use Rattle.codes.specs.declared.Flattened.the-variants.{Letters, Refused as Not-flattened}
-use Rattle.codes.specs.Flatten.{whole-code, letters-of, room-answer, too-long, no-code, bad-table, flatten-answer, flatten-tape, flattened-answer, Flattens}
-use Rattle.codes.specs.Measures.{whole-handed, whole-value, spells}
+use Rattle.walks.specs.Whole.{whole-code, letters-of}
+use Rattle.codes.specs.Flatten.{room-answer, too-long, no-code, bad-table, flatten-answer, flatten-tape, flattened-answer, Flattens}
+use Rattle.walks.specs.Measures.{whole-handed, whole-value, spells}
 use Rattle.parser.specs.declared.Parsed.{Parsed}
 use Rattle.parser.specs.declared.Parsed.the-variants.{Bits as Parsed-bits, Refused as Not-parsed}
 use Rattle.parser.specs.Parse.{parsed-answer, early, Parses-by, Parses}

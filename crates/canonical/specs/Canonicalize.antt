@@ -13,7 +13,8 @@ use Rattle.bits.specs.Bits.{in-front}
 use Rattle.first_sweep.specs.StateSets.{words}
 use Rattle.codes.specs.declared.Flattened.{Flattened}
 use Rattle.codes.specs.declared.Flattened.the-variants.{Letters, Refused as Not-flattened}
-use Rattle.codes.specs.Flatten.{letters-of, flatten-answer}
+use Rattle.walks.specs.Whole.{letters-of}
+use Rattle.codes.specs.Flatten.{flatten-answer}
 use Rattle.parser.specs.declared.Parsed.{Parsed}
 use Rattle.parser.specs.declared.Parsed.the-variants.{Bits as Parsed-bits, Refused as Not-parsed}
 use Rattle.parser.specs.Parse.{Reads-greedily}

@@ -13,7 +13,7 @@ use Rattle.syntax.specs.Table.{obeys}
 use Rattle.syntax.specs.Trees.{root}
 use Rattle.bits.specs.Bits.{Small, cell-count, held}
 use Rattle.semantics.specs.Code.{NoEmptyRound, Canonical, before}
-use Rattle.codes.specs.Flatten.{whole-code, letters-of}
+use Rattle.walks.specs.Whole.{whole-code, letters-of}
 use Rattle.canonical.specs.declared.Canonicalized.{Canonicalized}
 use Rattle.canonical.specs.Canonicalize.{canonicalized-answer, Canonicalizes}
 

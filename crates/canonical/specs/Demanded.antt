@@ -20,7 +20,7 @@ use Rattle.semantics.specs.CodeLaws.{is-code-iff, solid-iff}
 use Rattle.semantics.specs.Sweeps.{readable, greedy}
 use Rattle.semantics.specs.GreedyLaws.{greedy-canonical, hollow-greedy}
 use Rattle.semantics.specs.Promised.{greedy-code-iff}
-use Rattle.codes.specs.Flatten.{whole-code, letters-of}
+use Rattle.walks.specs.Whole.{whole-code, letters-of}
 use Rattle.parser.specs.ParseLaws.{root-choices}
 use Rattle.canonical.specs.CanonicalLaws.{settles}
 use Rattle.canonical.specs.RoundTrip.{canonical-code, canonical-whole, canonical-spells, letters-readable}

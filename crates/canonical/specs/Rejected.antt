@@ -18,7 +18,7 @@ use Rattle.bits.specs.Bits.{Small, bits-of, held, exact, handed-good}
 use Rattle.semantics.specs.Code.{NoEmptyRound, before}
 use Rattle.semantics.specs.Decode.{value-of, is-code, spelled, hollow}
 use Rattle.semantics.specs.CodeLaws.{solid-iff}
-use Rattle.codes.specs.Flatten.{whole-code, letters-of}
+use Rattle.walks.specs.Whole.{whole-code, letters-of}
 use Rattle.canonical.specs.Demand.{Is-code, Code, Run, Settled, bytes-of, Equal}
 use Rattle.canonical.specs.Demanded.{handed-back, empty-round-kept}
 

@@ -17,7 +17,7 @@ use Rattle.semantics.specs.Decode.{is-code, spelled}
 use Rattle.semantics.specs.CodeLaws.{is-code-iff}
 use Rattle.semantics.specs.Sweeps.{readable}
 use Rattle.semantics.specs.GreedyLaws.{canonical-greedy, code-readable, spelled-greedy}
-use Rattle.codes.specs.Flatten.{whole-code, letters-of}
+use Rattle.walks.specs.Whole.{whole-code, letters-of}
 use Rattle.parser.specs.ParseLaws.{greedy-few}
 
 module _ (p : Pattern) (good : obeys p ≡ true) (tape : List ℕ) (few : length tape ≤ letter-limit) (bits : List Bool) (k : Canonical (root p) tape bits) where

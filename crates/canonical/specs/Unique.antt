@@ -10,7 +10,8 @@ use Rattle.syntax.specs.declared.Pattern.{Pattern}
 use Rattle.refusals.specs.Refusals.{refused}
 use Rattle.refusals.specs.RefusalLaws.{refused-same}
 use Rattle.syntax.specs.Trees.{root}
-use Rattle.codes.specs.Flatten.{letters-of, flatten-answer}
+use Rattle.walks.specs.Whole.{letters-of}
+use Rattle.codes.specs.Flatten.{flatten-answer}
 use Rattle.parser.specs.Unique.{refused-some, greedily-one}
 use Rattle.canonical.specs.declared.Canonicalized.{Canonicalized}
 use Rattle.canonical.specs.declared.Canonicalized.the-variants.{Bits, Refused}

@@ -27,9 +27,9 @@ use Rattle.semantics.specs.Decode.{Read, read}
 use Rattle.semantics.specs.Positions.{Seen, see, seen, joined, and-then}
 use Rattle.semantics.specs.PositionLaws.{see-stays, see-nothing, see-letter, see-short, see-range, see-outside, see-seq, see-alt-none, see-left, see-right, see-star-none, see-stop, see-round}
 use Rattle.table.specs.Columns.{node-in, tree-in, Good}
-use Rattle.codes.specs.Handed.{held-length, held-bit, held-number}
-use Rattle.codes.specs.Words.{same-seen, then-some}
-use Rattle.codes.specs.Lines.{line-as}
+use Rattle.walks.specs.Handed.{held-length, held-bit, held-number}
+use Rattle.walks.specs.Words.{same-seen, then-some}
+use Rattle.walks.specs.Lines.{line-as}
 use Rattle.codes.specs.Spells.{leaf-tree, lt-or-ge}
 
 abbrev pub Entries : Type 0

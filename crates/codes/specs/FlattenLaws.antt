@@ -23,11 +23,12 @@ use Rattle.table.specs.Columns.{tree-in, Holds}
 use Rattle.table.specs.ColumnLaws.{holds-tree}
 use Rattle.codes.specs.declared.Flattened.{Flattened}
 use Rattle.codes.specs.declared.Flattened.the-variants.{Letters, Refused}
-use Rattle.codes.specs.declared.walk.Measured.{Measured}
+use Rattle.walks.specs.declared.Measured.{Measured}
 use Rattle.codes.specs.declared.spell.Spelled.{Spelled}
-use Rattle.codes.specs.Flatten.{whole-code, letters-of, room-answer, flatten-answer, flatten-tape, flattened-answer, Flattens}
-use Rattle.codes.specs.Words.{word-at, same-seen}
-use Rattle.codes.specs.Measures.{measured, measured-no, measured-yes, measured-letters, whole-word}
+use Rattle.walks.specs.Whole.{whole-code, letters-of}
+use Rattle.codes.specs.Flatten.{room-answer, flatten-answer, flatten-tape, flattened-answer, Flattens}
+use Rattle.walks.specs.Words.{word-at, same-seen}
+use Rattle.walks.specs.Measures.{measured, measured-no, measured-yes, measured-letters, whole-word}
 use Rattle.codes.specs.Spells.{Ready, Wrote}
 
 -- columns that hold the pattern, and what was measured at their root

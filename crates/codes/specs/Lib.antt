@@ -2,11 +2,6 @@
 pub mod Flatten
 pub mod Totals
 -- What a walk over a code gives at each node, and its laws.
-pub mod Handed
-pub mod Words
-pub mod Lines
-pub mod Walks
-pub mod Measures
 pub mod Spells
 pub mod Charges
 -- The services: one law for each way of the code.

@@ -22,8 +22,8 @@ use Rattle.semantics.specs.Decode.{Read, read}
 use Rattle.semantics.specs.Positions.{see, seen}
 use Rattle.table.specs.Columns.{node-in, tree-in, Good}
 use Rattle.codes.specs.declared.spell.Spelled.{Spelled}
-use Rattle.codes.specs.Lines.{line-as, alt-none-is, star-none-is}
-use Rattle.codes.specs.Words.{word-at, word-join, word-then, then-some, same-seen, word-stays, word-nothing, word-letter, word-short, word-range, word-outside}
+use Rattle.walks.specs.Lines.{line-as, alt-none-is, star-none-is}
+use Rattle.walks.specs.Words.{word-at, word-join, word-then, then-some, same-seen, word-stays, word-nothing, word-letter, word-short, word-range, word-outside}
 
 -- the bits from `at` on spell letters that a tape of `size` cells has room for from n on
 pub record Ready (code : List ℕ) (count : ℕ) (t : Tree) (at size n : ℕ) : Type 0 where

@@ -20,7 +20,8 @@ use Rattle.semantics.specs.Decode.{value-of}
 use Rattle.codes.specs.declared.TotalsOutcome.{TotalsOutcome}
 use Rattle.codes.specs.declared.TotalsOutcome.the-variants.{Added, Refused}
 use Rattle.codes.specs.declared.Totalled.{Totalled}
-use Rattle.codes.specs.Flatten.{whole-code, letters-of, bad-table, no-code, too-long}
+use Rattle.walks.specs.Whole.{whole-code, letters-of}
+use Rattle.codes.specs.Flatten.{bad-table, no-code, too-long}
 
 -- each letter with its account; the totals are a fold over this list, and other folds over it may follow
 abbrev pub entries-by : (t : Tree) → Option (Value t) → List (ℕ × ℕ)

@@ -29,12 +29,12 @@ use Rattle.table.specs.declared.Columns.{Columns}
 use Rattle.table.specs.Columns.{tree-in, Holds}
 use Rattle.table.specs.ColumnLaws.{holds-tree}
 use Rattle.codes.specs.declared.TotalsOutcome.the-variants.{Added, Refused}
-use Rattle.codes.specs.declared.walk.Measured.{Measured}
-use Rattle.codes.specs.Flatten.{whole-code, letters-of}
+use Rattle.walks.specs.declared.Measured.{Measured}
+use Rattle.walks.specs.Whole.{whole-code, letters-of}
 use Rattle.codes.specs.Totals.{entries-by, entries-of, totals-answer, totals-litres, no-litres, Totals}
-use Rattle.codes.specs.Words.{same-seen}
-use Rattle.codes.specs.Handed.{held-length}
-use Rattle.codes.specs.Measures.{measured, measured-no, measured-yes, measured-letters, handed-fit, value-see, whole-handed, whole-value, spells}
+use Rattle.walks.specs.Words.{same-seen}
+use Rattle.walks.specs.Handed.{held-length}
+use Rattle.walks.specs.Measures.{measured, measured-no, measured-yes, measured-letters, handed-fit, value-see, whole-handed, whole-value, spells}
 use Rattle.codes.specs.Charges.{Entries, entries-at, charge, charge-length, charge-total, Charging, Charged}
 
 -- ── the sums of a list of entries are its totals ──

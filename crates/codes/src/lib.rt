@@ -13,7 +13,7 @@ use syntax::Pattern;
 use syntax::obeys_rules;
 use table::columns_of;
 use total::charge;
-use walk::measure;
+use walks::measure;
 
 // What spelling answers: how many letters, or why not.
 pub enum Flattened {

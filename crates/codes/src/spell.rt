@@ -5,12 +5,12 @@ ghost use Prim.Native.Nat.{ℕ, _*_, _≤_, _<_};
 ghost use lib.ListN.{length};
 ghost use Rattle.table.specs.Columns.{Good, tree-in};
 ghost use Rattle.codes.specs.Spells.{Ready, Wrote, leaf-tree};
-use super::walk::side_at;
 use bits::bit_at;
 use bits::byte_at;
 use syntax::Leaf;
 use syntax::Node;
 use table::node_at;
+use walks::side_at;
 
 // The position behind the bits read, and the cell behind the letters written.
 pub struct Spelled {

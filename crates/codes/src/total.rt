@@ -8,12 +8,12 @@ ghost use Rattle.semantics.specs.Accounts.{litres};
 ghost use Rattle.table.specs.Columns.{Good, Accounted, tree-in};
 ghost use Rattle.codes.specs.Spells.{leaf-tree};
 ghost use Rattle.codes.specs.Charges.{charge-one, Charging, Charged};
-use super::walk::side_at;
 use bits::bit_at;
 use bits::byte_at;
 use syntax::Leaf;
 use syntax::Node;
 use table::node_at;
+use walks::side_at;
 
 // The account that a node hands down: its own, or the one from above if it has none.
 fn owner_of(own: u8, above: u8) -> u8

@@ -17,7 +17,7 @@ use Rattle.semantics.specs.Visits.{Visit, visit}
 use Rattle.semantics.specs.VisitLaws.{visit-shows}
 use Rattle.spans.specs.declared.Spanned.{Spanned}
 use Rattle.codes.specs.Flatten.{bad-table, no-code, too-long}
-use Rattle.codes.specs.Measures.{whole-handed, whole-value, spells}
+use Rattle.walks.specs.Measures.{whole-handed, whole-value, spells}
 use Rattle.spans.specs.Spans.{code-of-tape, visit-by, span-visit, visit-answer, span-answer, start-of, size-of, span-shown, piece-of, Spans}
 use Rattle.spans.specs.SpanLaws.{tape-whole, tape-letters}
 

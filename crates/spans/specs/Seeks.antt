@@ -25,11 +25,11 @@ use Rattle.semantics.specs.PositionLaws.{see-stays, see-as, see-nothing, see-le
 use Rattle.table.specs.Columns.{node-in, tree-in, Good}
 use Rattle.spans.specs.declared.find.Found.{Found}
 use Rattle.spans.specs.declared.find.Step.{Step}
-use Rattle.codes.specs.Handed.{held-length, held-bit, held-number}
-use Rattle.codes.specs.Words.{word-at}
-use Rattle.codes.specs.declared.walk.Walked.{Walked}
-use Rattle.codes.specs.Walks.{cap, walk-answer, walked}
-use Rattle.codes.specs.Lines.{line-as}
+use Rattle.walks.specs.Handed.{held-length, held-bit, held-number}
+use Rattle.walks.specs.Words.{word-at}
+use Rattle.walks.specs.declared.Walked.{Walked}
+use Rattle.walks.specs.Walks.{cap, walk-answer, walked}
+use Rattle.walks.specs.Lines.{line-as}
 use Rattle.codes.specs.Spells.{lt-or-ge}
 use Rattle.spans.specs.Traces.{Trace, letters-trace, trace-then, own, rounds-trace, rounds-visits, trace, trace-visits, trace-at, rounds-at, own-seen, hit, miss, found-in, found-first, found-second, found-own, found-inside}
 

@@ -27,10 +27,11 @@ use Rattle.table.specs.ColumnLaws.{holds-tree}
 use Rattle.spans.specs.declared.SpanOutcome.the-variants.{Shown}
 use Rattle.spans.specs.declared.find.Found.{Found}
 use Rattle.codes.specs.declared.Flattened.the-variants.{Letters, Refused as Flatten-refused}
-use Rattle.codes.specs.declared.walk.Measured.{Measured}
-use Rattle.codes.specs.Flatten.{whole-code, letters-of, too-long, no-code, flatten-answer, flatten-tape, Flattens}
+use Rattle.walks.specs.declared.Measured.{Measured}
+use Rattle.walks.specs.Whole.{whole-code, letters-of}
+use Rattle.codes.specs.Flatten.{too-long, no-code, flatten-answer, flatten-tape, Flattens}
 use Rattle.spans.specs.Spans.{same, code-of-tape, visit-by, span-visit, visit-answer, span-answer, start-of, size-of, span-shown, refused-span, Spans}
-use Rattle.codes.specs.Measures.{value-see, whole-handed, whole-value, spells, measured, measured-yes, measured-letters}
+use Rattle.walks.specs.Measures.{value-see, whole-handed, whole-value, spells, measured, measured-yes, measured-letters}
 use Rattle.spans.specs.Traces.{trace, trace-visits, trace-at, hit, found-by, found-in}
 use Rattle.spans.specs.Seeks.{Seeking, Finds, same-trace}
 

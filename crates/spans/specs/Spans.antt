@@ -21,7 +21,8 @@ use Rattle.semantics.specs.Decode.{value-of}
 use Rattle.spans.specs.declared.SpanOutcome.{SpanOutcome}
 use Rattle.spans.specs.declared.SpanOutcome.the-variants.{Shown, Refused}
 use Rattle.spans.specs.declared.Spanned.{Spanned}
-use Rattle.codes.specs.Flatten.{whole-code, letters-of, bad-table, no-code, too-long}
+use Rattle.walks.specs.Whole.{whole-code, letters-of}
+use Rattle.codes.specs.Flatten.{bad-table, no-code, too-long}
 
 abbrev pub same : (xs ys : List ℕ) → Bool
 same [] [] = true

@@ -24,9 +24,9 @@ use Rattle.semantics.specs.Positions.{Seen, see, seen, joined, and-then}
 use Rattle.semantics.specs.PositionLaws.{see-stays, see-as, see-nothing, see-letter, see-short, see-range, see-outside, see-seq, see-alt-none, see-left, see-right, see-star-none, see-stop, see-round}
 use Rattle.table.specs.Columns.{node-in, tree-in, Good}
 use Rattle.spans.specs.declared.find.Found.{Found}
-use Rattle.codes.specs.Handed.{held-length, held-bit, held-number}
-use Rattle.codes.specs.Words.{word-at, word-stays}
-use Rattle.codes.specs.Lines.{line-as}
+use Rattle.walks.specs.Handed.{held-length, held-bit, held-number}
+use Rattle.walks.specs.Words.{word-at, word-stays}
+use Rattle.walks.specs.Lines.{line-as}
 use Rattle.codes.specs.Spells.{lt-or-ge}
 
 abbrev pub Trace : Type 0

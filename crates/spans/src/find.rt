@@ -9,11 +9,11 @@ ghost use Rattle.table.specs.Columns.{Good, tree-in};
 ghost use Rattle.spans.specs.Traces.{trace-at, hit, miss};
 ghost use Rattle.spans.specs.Seeks.{step-of, Seeking, Finds};
 use bits::bit_at;
-use codes::walk::side_at;
-use codes::walk::walk;
 use syntax::Leaf;
 use syntax::Node;
 use table::node_at;
+use walks::side_at;
+use walks::walk;
 
 // A visit found; or the position behind the bits, the one on the tape, and how many visits are still to be passed.
 pub struct Found {

@@ -5,7 +5,6 @@ ghost use Rattle.spans.specs.Spans.{Spans, refused-span, span-shown, pie
 mod compare; // compare.rt: a tape against a code
 mod find; // find.rt: the walk that looks for a visit
 
-use codes::walk::measure;
 use compare::spells;
 use find::find;
 use refusals::Refusal;
@@ -13,6 +12,7 @@ use syntax::Pattern;
 use syntax::first_bad;
 use syntax::obeys_rules;
 use table::columns_of;
+use walks::measure;
 
 // What showing a piece answers: that it is shown, or why not.
 pub enum SpanOutcome {

@@ -1,6 +1,6 @@
 -- `codes::flatten` meets its contract.
 use Rattle.codes.specs.FlattenLaws.{measured-root, wrote-root, measured-ready, flatten-bad, flatten-not, flatten-long, flatten-short, flatten-done}
-use Rattle.codes.specs.Measures.{handed-fit, whole-handed, measured-yes}
+use Rattle.walks.specs.Measures.{handed-fit, whole-handed, measured-yes}
 use Rattle.bits.specs.Handed.{handed-count}
 use Rattle.table.specs.ColumnLaws.{holds-good}
 use Rattle.syntax.specs.TreeLaws.{obeys-iff}

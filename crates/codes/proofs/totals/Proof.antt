@@ -1,7 +1,7 @@
 -- `codes::totals` meets its contract.
 use Rattle.codes.specs.TotalsLaws.{totals-bad, totals-not, totals-long, totals-ready, totals-done}
 use Rattle.codes.specs.FlattenLaws.{measured-root}
-use Rattle.codes.specs.Measures.{handed-fit, whole-handed, measured-yes}
+use Rattle.walks.specs.Measures.{handed-fit, whole-handed, measured-yes}
 use Rattle.bits.specs.Handed.{handed-count}
 use Rattle.table.specs.ColumnLaws.{holds-good, holds-accounts}
 use Rattle.syntax.specs.TreeLaws.{obeys-iff}

@@ -1,7 +1,7 @@
 -- `spans::span` meets its contract.
 use Rattle.spans.specs.SpanLaws.{span-bad, span-long, span-byte, span-not, span-whole, span-none, span-found, span-letters, seek-ready, found-root}
 use Rattle.codes.specs.FlattenLaws.{measured-root}
-use Rattle.codes.specs.Measures.{handed-fit, whole-handed, measured-yes, measured-no}
+use Rattle.walks.specs.Measures.{handed-fit, whole-handed, measured-yes, measured-no}
 use Rattle.bits.specs.Handed.{handed-count}
 use Rattle.table.specs.ColumnLaws.{holds-good}
 use Rattle.syntax.specs.TreeLaws.{obeys-iff}

@@ -1,6 +1,6 @@
 -- `codes::spell::spell` meets its contract.
 use Rattle.codes.specs.Spells.{Turns, turns-start, turns-more, wrote-stays, is-wrote, first-ready, second-ready, both-wrote, same-ready, same-wrote, leaf-is, alt-in, star-in}
-use Rattle.codes.specs.Lines.{seq-is, side-is, side-lower, stop-is, round-is, first-lower, second-lower, star-lower}
+use Rattle.walks.specs.Lines.{seq-is, side-is, side-lower, stop-is, round-is, first-lower, second-lower, star-lower}
 use Rattle.table.specs.Columns.{tree-in}
 use Rattle.bits.specs.Bits.{bit-at}
 use mathlib.Core.List.{List, []}
@@ -15,7 +15,7 @@ use Rattle.codes.proofs.spell.spell.Kinds as spell-kinds
 use Rattle.codes.proofs.spell.+spell.Lts-spell as spell-lts
 use Rattle.bits.proofs.bit_at.Reads as bit-at-reads
 use Rattle.codes.proofs.spell.spell_leaf.Reads as spell-leaf-reads
-use Rattle.codes.proofs.walk.side_at.Reads as side-at-reads
+use Rattle.walks.proofs.side_at.Reads as side-at-reads
 use Rattle.table.proofs.node_at.Reads as node-at-reads
 use Rattle.codes.proofs.spell.+spell.{statement}
 use Rattle.codes.proofs.spell.+spell.Tie.{close}

@@ -1,6 +1,6 @@
 -- `codes::total::charge` meets its contract.
 use Rattle.codes.specs.Charges.{owner-few, charged-stays, first-charging, second-charging, both-charged, same-charging, same-charged, none-charged, charge-leaf-is, charge-seq-is, charge-side-is, charge-stop-is, charge-round-is, charge-alt-in, charge-star-in, Charge-turns, charge-turns-start, charge-turns-more}
-use Rattle.codes.specs.Lines.{side-lower, first-lower, second-lower, star-lower}
+use Rattle.walks.specs.Lines.{side-lower, first-lower, second-lower, star-lower}
 use Rattle.table.specs.Columns.{tree-in}
 use Rattle.bits.specs.Bits.{bit-at}
 use Prim.Native.Nat.{_<_, _+_, _*_, _-_}
@@ -15,7 +15,7 @@ use Rattle.codes.proofs.total.+charge.Lts-charge as charge-lts
 use Rattle.bits.proofs.bit_at.Reads as bit-at-reads
 use Rattle.codes.proofs.total.charge_leaf.Reads as charge-leaf-reads
 use Rattle.codes.proofs.total.owner_of.Reads as owner-of-reads
-use Rattle.codes.proofs.walk.side_at.Reads as side-at-reads
+use Rattle.walks.proofs.side_at.Reads as side-at-reads
 use Rattle.table.proofs.node_at.Reads as node-at-reads
 use Rattle.codes.proofs.total.+charge.{statement}
 use Rattle.codes.proofs.total.+charge.Tie.{close}

@@ -1,5 +1,5 @@
 use Rattle.spans.specs.Seeks.{trace-grows, rounds-grows, own-found, label-in, here-is, seek-leaf-is, letters-room, inside-seeking, inside-found, first-seeking, second-seeking, first-found, second-found, found-stays, seek-seq-is, seek-side-is, seek-star-is, seek-alt-in, seek-round-in, seek-stop-is, seek-round-is, missed, missed-none, Seek-turns, seek-turns-start, seek-turns-found, seek-turns-more}
-use Rattle.codes.specs.Lines.{side-lower, first-lower, second-lower, star-lower}
+use Rattle.walks.specs.Lines.{side-lower, first-lower, second-lower, star-lower}
 use Rattle.table.specs.Columns.{tree-in}
 use Rattle.bits.specs.Bits.{bit-at}
 use lib.ListN.{getD}
@@ -20,8 +20,8 @@ use Rattle.spans.proofs.find.is_here.Reads as is-here-reads
 use Rattle.spans.proofs.find.left_inside.Reads as left-inside-reads
 use Rattle.spans.proofs.find.not_found.Reads as not-found-reads
 use Rattle.spans.proofs.find.step_of.Reads as step-of-reads
-use Rattle.codes.proofs.walk.side_at.Reads as side-at-reads
-use Rattle.codes.proofs.walk.walk.Reads as walk-reads
+use Rattle.walks.proofs.side_at.Reads as side-at-reads
+use Rattle.walks.proofs.walk.Reads as walk-reads
 use Rattle.table.proofs.node_at.Reads as node-at-reads
 use Rattle.spans.proofs.find.+find.{statement}
 use Rattle.spans.proofs.find.+find.Tie.{close}
