@@ -11,8 +11,8 @@ use Rattle.syntax.specs.Tree.{Label, Tree, nothing, letter, range, seq, alt, st
 use Rattle.bits.specs.Bits.{bit-at, number-at, held}
 use Rattle.semantics.specs.Value.{Value, flat}
 use Rattle.semantics.specs.Positions.{Seen, see, joined, and-then}
-use Rattle.semantics.specs.PositionLaws.{see-stays, see-nothing, see-letter, see-short, see-range, see-outside, see-seq, see-alt-none, see-left, see-right, see-star-none, see-stop, see-round}
-use Rattle.walks.specs.Handed.{held-length, held-bit, held-number}
+use Rattle.walks.specs.Looks.{look-stays, look-nothing, look-letter, look-short, look-range, look-outside, look-seq, look-alt-none, look-left}
+use Rattle.walks.specs.Looks.{look-right, look-star-none, look-stop, look-round}
 
 abbrev pub Word : Type 0
 Word = Seen (List ℕ)
@@ -41,81 +41,68 @@ module _ {A : Type 0} where
   then-some (some p) f w j e = let (x, g, h) = join-some (p .0) (f (p .1)) w j e in (p .0, p .1, x, refl, g, h)
 
 module _ (code : List ℕ) (count : ℕ) (fit : count ≤ length code * 8) where
-  bs : List Bool
-  bs = held 8 code count
-
-  many : length (held 8 code count) ≡ count
-  many = held-length code count fit
-
   pub word-stays : (t : Tree) (at : ℕ) → at ≤ count → (w : List ℕ) (j : ℕ) → word-at code count t at ≡ some (w, j) → (at ≤ j) × (j ≤ count)
   unfolding word-at
-  word-stays t at le w j e = let m = many in let h = see-stays (held 8 code count) t (flat t) at (omega arith) w j e in (h .0, omega arith)
+  word-stays t at le w j e = look-stays code count fit t (flat t) at le w j e
 
   pub word-nothing : (m : Label) (at : ℕ) → at ≤ count → word-at code count (nothing m) at ≡ some ([], at)
   unfolding word-at
-  word-nothing m at le = let k = many in see-nothing (held 8 code count) m at (flat (nothing m)) (omega arith)
+  word-nothing m at le = look-nothing code count fit m at (flat (nothing m)) le
 
   pub word-letter : (m : Label) (c at : ℕ) → at ≤ count → word-at code count (letter m c) at ≡ some (c ∷ [], at)
   unfolding word-at
-  word-letter m c at le = let k = many in see-letter (held 8 code count) m at c (flat (letter m c)) (omega arith)
+  word-letter m c at le = look-letter code count fit m at c (flat (letter m c)) le
 
   module _ (m : Label) (low high at : ℕ) where
     pub word-short : count < at + 8 → word-at code count (range m low high) at ≡ none
     unfolding word-at
-    word-short h = let k = many in see-short (held 8 code count) m low high (flat (range m low high)) at (omega arith)
+    word-short h = look-short code count fit m low high (flat (range m low high)) at h
 
-    pub word-range : (c : ℕ) → at + 8 ≤ count → c ≡ number-at 8 code at 8 → in-range low high c ≡ true → word-at code count (range m low high) at ≡ some (c ∷ [], at + 8)
-    unfolding word-at
-    word-range c h e q =
-        let k = many in
-        let n = held-number code count fit at h ∙ sym e in
-        see-range (held 8 code count) m low high (flat (range m low high)) at (omega arith) (ap (in-range low high) n ∙ q) ∙ ap (λ z. some (z ∷ [], at + 8)) n
+    module _ (c : ℕ) (h : at + 8 ≤ count) (e : c ≡ number-at 8 code at 8) where
+      pub word-range : in-range low high c ≡ true → word-at code count (range m low high) at ≡ some (c ∷ [], at + 8)
+      unfolding word-at
+      word-range q = look-range code count fit m low high (flat (range m low high)) at c h e q
 
-    pub word-outside : (c : ℕ) → at + 8 ≤ count → c ≡ number-at 8 code at 8 → in-range low high c ≡ false → word-at code count (range m low high) at ≡ none
-    unfolding word-at
-    word-outside c h e q =
-        let k = many in
-        let n = held-number code count fit at h ∙ sym e in
-        see-outside (held 8 code count) m low high (flat (range m low high)) at (omega arith) (ap (in-range low high) n ∙ q)
+      pub word-outside : in-range low high c ≡ false → word-at code count (range m low high) at ≡ none
+      unfolding word-at
+      word-outside q = look-outside code count fit m low high (flat (range m low high)) at c h e q
 
-  pub word-seq : (m : Label) (t u : Tree) (at : ℕ) → at ≤ count → word-at code count (seq m t u) at ≡ word-then (word-at code count t at) (word-at code count u)
+  pub word-seq : (m : Label) (t u : Tree) (at : ℕ) → at ≤ count
+      → word-at code count (seq m t u) at ≡ word-then (word-at code count t at) (word-at code count u)
   unfolding word-at
-  word-seq m t u at le = let k = many in see-seq (held 8 code count) _++_ m t u (flat (seq m t u)) (flat t) (flat u) (λ v w. refl) at (omega arith)
+  word-seq m t u at le = look-seq code count fit _++_ m t u (flat (seq m t u)) (flat t) (flat u) (λ v w. refl) at le
 
   pub word-alt-none : (m : Label) (t u : Tree) (at : ℕ) → count ≤ at → word-at code count (alt m t u) at ≡ none
   unfolding word-at
-  word-alt-none m t u at h = let k = many in see-alt-none (held 8 code count) m t u (flat (alt m t u)) at (omega arith)
+  word-alt-none m t u at h = look-alt-none code count fit m t u (flat (alt m t u)) at h
 
-  pub word-side : (m : Label) (t u : Tree) (at : ℕ) → at < count → word-at code count (alt m t u) at ≡ word-at code count (cond (bit-at 8 code at) u t) (at + 1)
+  pub word-side : (m : Label) (t u : Tree) (at : ℕ) → at < count
+      → word-at code count (alt m t u) at ≡ word-at code count (cond (bit-at 8 code at) u t) (at + 1)
   unfolding word-at
-  word-side m t u at h = let k = many in go (omega arith) (bit-at 8 code at) (held-bit code count fit at h)
+  word-side m t u at h = go (bit-at 8 code at) refl
     where
-      go : at < length (held 8 code count) → (b : Bool) → getD (held 8 code count) at false ≡ b
+      go : (b : Bool) → bit-at 8 code at ≡ b
           → see (held 8 code count) (alt m t u) (flat (alt m t u)) at ≡ see (held 8 code count) (cond b u t) (flat (cond b u t)) (at + 1)
-      go l true e = see-right (held 8 code count) m t u (flat (alt m t u)) at l e
-      go l false e = see-left (held 8 code count) m t u (flat (alt m t u)) at l e
+      go true e = look-right code count fit m t u (flat (alt m t u)) at h e
+      go false e = look-left code count fit m t u (flat (alt m t u)) at h e
 
   -- a star, whichever bit means another round
   module _ {t u : Tree} {m : Label} {again : Bool} (e : t ≡ star m again u) (at : ℕ) where
-    as-star : (at : ℕ) → word-at code count t at ≡ word-at code count (star m again u) at
-    as-star i = ap (λ z. word-at code count z i) e
+    as-star : word-at code count t at ≡ word-at code count (star m again u) at
+    as-star = ap (λ z. word-at code count z at) e
 
     pub star-none-is : count ≤ at → word-at code count t at ≡ none
     unfolding word-at
-    star-none-is h = let k = many in as-star at ∙ see-star-none (held 8 code count) m again u (flat (star m again u)) at (omega arith)
+    star-none-is h = as-star ∙ look-star-none code count fit m again u (flat (star m again u)) at h
 
     pub stop-is : at < count → (b : Bool) → b ≡ bit-at 8 code at → b ≡ not again → word-at code count t at ≡ some ([], at + 1)
     unfolding word-at
-    stop-is h b eb z =
-        let k = many in
-        as-star at ∙ see-stop (held 8 code count) m again u (flat (star m again u)) at (omega arith) (held-bit code count fit at h ∙ sym eb ∙ z)
+    stop-is h b eb z = as-star ∙ look-stop code count fit m again u (flat (star m again u)) at h (sym eb ∙ z)
 
     pub round-is : at < count → (b : Bool) → b ≡ bit-at 8 code at → b ≡ again
         → word-at code count t at ≡ word-then (word-at code count u (at + 1)) (word-at code count t)
     unfolding word-at
     round-is h b eb z =
-        let k = many in
-        as-star at
-        ∙ see-round (held 8 code count) m again u (flat (star m again u)) at _++_ (flat u) (flat (star m again u)) (λ v vs. refl)
-        (omega arith) (held-bit code count fit at h ∙ sym eb ∙ z)
+        as-star
+        ∙ look-round code count fit m again u (flat (star m again u)) at _++_ (flat u) (flat (star m again u)) (λ v vs. refl) h (sym eb ∙ z)
         ∙ ap (λ z. word-then (word-at code count u (at + 1)) (word-at code count z)) (sym e)

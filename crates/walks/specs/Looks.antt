@@ -1,0 +1,87 @@
+-- What a walk makes of a code's bits from a position on, for any function of the value: one law for each way of a walk, in terms of the
+-- bytes handed in. The letters, the entries and the visits of a code are instances.
+use mathlib.Core.Path.{_≡_, sym, ap, subst, _∙_}
+use mathlib.Core.Bool.{Bool, true, false, not, Bool-set}
+use mathlib.Core.Logic.{inl, inr}
+use mathlib.Core.Option.{none, some}
+use mathlib.Core.List.{List, [], _∷_}
+use Prim.Native.Nat.{ℕ, _+_, _*_, _≤_, _<_}
+use native.Mathlib.Omega.{arith}
+use lib.ListN.{length}
+use Rattle.syntax.specs.Letter.{in-range}
+use Rattle.syntax.specs.Tree.{Label, Tree, nothing, letter, range, seq, alt, star}
+use Rattle.bits.specs.Bits.{bit-at, number-at, held}
+use Rattle.semantics.specs.Value.{Value}
+use Rattle.semantics.specs.Positions.{Seen, see, and-then}
+use Rattle.semantics.specs.PositionLaws.{see-stays, see-nothing, see-letter, see-short, see-range, see-outside, see-seq, see-alt-none, see-left, see-right}
+use Rattle.semantics.specs.PositionLaws.{see-star-none, see-stop, see-round}
+use Rattle.walks.specs.Handed.{held-length, held-bit, held-number}
+
+module _ (code : List ℕ) (count : ℕ) (fit : count ≤ length code * 8) where
+  many : length (held 8 code count) ≡ count
+  many = held-length code count fit
+
+  pub look-stays : {X : Type 0} (t : Tree) (f : Value t → X) (at : ℕ) → at ≤ count → (x : X) (j : ℕ)
+      → see (held 8 code count) t f at ≡ some (x, j) → (at ≤ j) × (j ≤ count)
+  look-stays t f at le x j e = let m = many in let h = see-stays (held 8 code count) t f at (omega arith) x j e in (h .0, omega arith)
+
+  module _ {X : Type 0} (m : Label) (at : ℕ) where
+    pub look-nothing : (f : Value (nothing m) → X) → at ≤ count → see (held 8 code count) (nothing m) f at ≡ some (f tt, at)
+    look-nothing f le = let k = many in see-nothing (held 8 code count) m at f (omega arith)
+
+    pub look-letter : (c : ℕ) (f : Value (letter m c) → X) → at ≤ count → see (held 8 code count) (letter m c) f at ≡ some (f tt, at)
+    look-letter c f le = let k = many in see-letter (held 8 code count) m at c f (omega arith)
+
+  module _ {X : Type 0} (m : Label) (low high : ℕ) (f : Value (range m low high) → X) (at : ℕ) where
+    pub look-short : count < at + 8 → see (held 8 code count) (range m low high) f at ≡ none
+    look-short h = let k = many in see-short (held 8 code count) m low high f at (omega arith)
+
+    module _ (c : ℕ) (h : at + 8 ≤ count) (e : c ≡ number-at 8 code at 8) where
+      pub look-range : (q : in-range low high c ≡ true) → see (held 8 code count) (range m low high) f at ≡ some (f (c, q), at + 8)
+      look-range q =
+          let k = many in
+          let n = held-number code count fit at h ∙ sym e in
+          see-range (held 8 code count) m low high f at (omega arith) (ap (in-range low high) n ∙ q) ∙ go _ (sym n) (ap (in-range low high) n ∙ q)
+        where
+          go : (d : ℕ) → c ≡ d → (p : in-range low high d ≡ true) → _≡_ {A = Seen X} (some (f (d, p), at + 8)) (some (f (c, q), at + 8))
+          go d g =
+              subst (λ x. (p : in-range low high x ≡ true) → _≡_ {A = Seen X} (some (f (x, p), at + 8)) (some (f (c, q), at + 8))) g
+              (λ p. ap (λ z. some (f (c, z), at + 8)) (Bool-set _ _ p q))
+
+      pub look-outside : in-range low high c ≡ false → see (held 8 code count) (range m low high) f at ≡ none
+      look-outside q =
+          let k = many in
+          see-outside (held 8 code count) m low high f at (omega arith) (ap (in-range low high) (held-number code count fit at h ∙ sym e) ∙ q)
+
+  pub look-seq : {X Y Z : Type 0} (op : X → Y → Z) (m : Label) (t u : Tree) (f : Value (seq m t u) → Z) (g : Value t → X) (h : Value u → Y)
+      → ((v : Value t) (x : Value u) → f (v, x) ≡ op (g v) (h x)) → (at : ℕ) → at ≤ count
+      → see (held 8 code count) (seq m t u) f at ≡ and-then op (see (held 8 code count) t g at) (see (held 8 code count) u h)
+  look-seq op m t u f g h s at le = let k = many in see-seq (held 8 code count) op m t u f g h s at (omega arith)
+
+  module _ {X : Type 0} (m : Label) (t u : Tree) (f : Value (alt m t u) → X) (at : ℕ) where
+    pub look-alt-none : count ≤ at → see (held 8 code count) (alt m t u) f at ≡ none
+    look-alt-none h = let k = many in see-alt-none (held 8 code count) m t u f at (omega arith)
+
+    pub look-left : at < count → bit-at 8 code at ≡ false
+        → see (held 8 code count) (alt m t u) f at ≡ see (held 8 code count) t (λ v. f (inl v)) (at + 1)
+    look-left h z = let k = many in see-left (held 8 code count) m t u f at (omega arith) (held-bit code count fit at h ∙ z)
+
+    pub look-right : at < count → bit-at 8 code at ≡ true
+        → see (held 8 code count) (alt m t u) f at ≡ see (held 8 code count) u (λ v. f (inr v)) (at + 1)
+    look-right h z = let k = many in see-right (held 8 code count) m t u f at (omega arith) (held-bit code count fit at h ∙ z)
+
+  -- a star, whichever bit means another round
+  module _ {Z : Type 0} (m : Label) (again : Bool) (t : Tree) (f : Value (star m again t) → Z) (at : ℕ) where
+    pub look-star-none : count ≤ at → see (held 8 code count) (star m again t) f at ≡ none
+    look-star-none h = let k = many in see-star-none (held 8 code count) m again t f at (omega arith)
+
+    pub look-stop : at < count → bit-at 8 code at ≡ not again → see (held 8 code count) (star m again t) f at ≡ some (f [], at + 1)
+    look-stop h z = let k = many in see-stop (held 8 code count) m again t f at (omega arith) (held-bit code count fit at h ∙ z)
+
+    pub look-round : {X Y : Type 0} (op : X → Y → Z) (g : Value t → X) (h : Value (star m again t) → Y)
+        → ((v : Value t) (vs : Value (star m again t)) → f (v ∷ vs) ≡ op (g v) (h vs)) → at < count → bit-at 8 code at ≡ again
+        → see (held 8 code count) (star m again t) f at
+        ≡ and-then op (see (held 8 code count) t g (at + 1)) (see (held 8 code count) (star m again t) h)
+    look-round op g h s lt z =
+        let k = many in
+        see-round (held 8 code count) m again t f at op g h s (omega arith) (held-bit code count fit at lt ∙ z)
