@@ -111,9 +111,11 @@ module _ {table : List ℕ} (good : Good table) (code : List ℕ) (count : ℕ) 
   pub alt-none-is : (p q : ℕ) → n ≡ Alternative p q → count ≤ at → word-at code count (T l) at ≡ none
   alt-none-is p q e h = word-as (Alternative p q) e ∙ word-alt-none code count fit m (T p) (T q) at h
 
-  pub side-is : (p q r : ℕ) → n ≡ Alternative p q → at < count → r ≡ cond (bit-at 8 code at) q p → word-at code count (T l) at ≡ word-at code count (T r) (at + 1)
+  pub side-is : (p q r : ℕ) → n ≡ Alternative p q → at < count → r ≡ cond (bit-at 8 code at) q p
+      → word-at code count (T l) at ≡ word-at code count (T r) (at + 1)
   side-is p q r e h er =
-      word-as (Alternative p q) e ∙ word-side code count fit m (T p) (T q) at h ∙ ap (λ t. word-at code count t (at + 1)) (pick (bit-at 8 code at) ∙ ap T (sym er))
+      word-as (Alternative p q) e ∙ word-side code count fit m (T p) (T q) at h
+      ∙ ap (λ t. word-at code count t (at + 1)) (pick (bit-at 8 code at) ∙ ap T (sym er))
     where
       pick : (b : Bool) → cond b (tree-in table q) (tree-in table p) ≡ tree-in table (cond b q p)
       pick true = refl

@@ -38,7 +38,8 @@ handed-fit code count g = exact-fits 8 (omega arith) code count (handed-exact co
 
 module _ (t : Tree) (code : List ℕ) (count : ℕ) where
   -- the value of what is handed in, for any function of it
-  pub value-see : {X : Type 0} (f : Value t → X) (v : Value t) → value-of t (held 8 code count) ≡ some v → see (held 8 code count) t f 0 ≡ some (f v, length (held 8 code count))
+  pub value-see : {X : Type 0} (f : Value t → X) (v : Value t) → value-of t (held 8 code count) ≡ some v
+      → see (held 8 code count) t f 0 ≡ some (f v, length (held 8 code count))
   value-see f v e =
       let b = value-of-sound t (held 8 code count) v e in
       ap (λ l. see l t f 0) (sym b) ∙ see-whole t f v ∙ ap (λ l. some (f v, length l)) b

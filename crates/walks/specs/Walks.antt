@@ -72,7 +72,8 @@ pub record Stays (at count next letters : ℕ) : Type 0 where
   pub few : letters ≤ letter-limit + 1
 
 module _ (code : List ℕ) (count : ℕ) where
-  pub walk-stays : (fit : count ≤ length code * 8) (t : Tree) (at : ℕ) (x : Walked) → x ≡ walked code count t at → at ≤ count → Stays at count (x .at) (x .letters)
+  pub walk-stays : (fit : count ≤ length code * 8) (t : Tree) (at : ℕ) (x : Walked) → x ≡ walked code count t at → at ≤ count
+      → Stays at count (x .at) (x .letters)
   unfolding walked
   walk-stays fit t at x ex le = rw ex (go (word-at code count t at) refl)
     where
@@ -85,12 +86,14 @@ module _ (code : List ℕ) (count : ℕ) where
   unfolding walked
   walk-is t at o e = ap (walk-answer count) (sym e)
 
-  pub walk-same : (t v : Tree) (at at' : ℕ) (x : Walked) → word-at code count v at ≡ word-at code count t at' → x ≡ walked code count t at' → x ≡ walked code count v at
+  pub walk-same : (t v : Tree) (at at' : ℕ) (x : Walked) → word-at code count v at ≡ word-at code count t at' → x ≡ walked code count t at'
+      → x ≡ walked code count v at
   unfolding walked
   walk-same t v at at' x e ex = ex ∙ ap (walk-answer count) (sym e)
 
   -- one after the other: parts of a pair, or a round and the rounds behind it
-  module _ (t u v : Tree) (at at' : ℕ) (x : Walked) (e : word-at code count v at ≡ word-then (word-at code count t at') (word-at code count u)) (ex : x ≡ walked code count t at') where
+  module _ (t u v : Tree) (at at' : ℕ) (x : Walked) (e : word-at code count v at ≡ word-then (word-at code count t at') (word-at code count u))
+      (ex : x ≡ walked code count t at') where
     pub first-no : x .ok ≡ false → x ≡ walked code count v at
     unfolding walked
     first-no f = sym (ap (walk-answer count) e ∙ go (word-at code count t at') (ap (λ w. w .ok) (sym ex) ∙ f) ∙ sym ex)
@@ -101,9 +104,12 @@ module _ (code : List ℕ) (count : ℕ) where
 
     pub both : x .ok ≡ true → walked code count v at ≡ more (x .letters) (walked code count u (x .at))
     unfolding walked
-    both f = ap (walk-answer count) e ∙ go (word-at code count t at') (ap (λ w. w .ok) (sym ex) ∙ f) ∙ ap (λ w. more (w .letters) (walk-answer count (word-at code count u (w .at)))) (sym ex)
+    both f = ap (walk-answer count) e ∙ go (word-at code count t at') (ap (λ w. w .ok) (sym ex) ∙ f)
+        ∙ ap (λ w. more (w .letters) (walk-answer count (word-at code count u (w .at)))) (sym ex)
       where
-        go : (o : Word) → walk-answer count o .ok ≡ true → walk-answer count (word-then o (word-at code count u)) ≡ more (walk-answer count o .letters) (walk-answer count (word-at code count u (walk-answer count o .at)))
+        go : (o : Word) → walk-answer count o .ok ≡ true
+            → walk-answer count (word-then o (word-at code count u)) ≡ more (walk-answer count o .letters)
+            (walk-answer count (word-at code count u (walk-answer count o .at)))
         go none g = absurd (false≢true g)
         go (some p) g = more-join count (p .0) (word-at code count u (p .1))
 
@@ -138,7 +144,8 @@ module _ (code : List ℕ) (count : ℕ) (t : Tree) (at : ℕ) where
     unfolding walked
     rounds-none e = sym (i .is ∙ ap (λ o. more n (walk-answer count o)) e)
 
-    module _ (u : Tree) (x : Walked) (h : here < count) (e : word-at code count t here ≡ word-then (word-at code count u (here + 1)) (word-at code count t)) (ex : x ≡ walked code count u (here + 1)) where
+    module _ (u : Tree) (x : Walked) (h : here < count)
+        (e : word-at code count t here ≡ word-then (word-at code count u (here + 1)) (word-at code count t)) (ex : x ≡ walked code count u (here + 1)) where
       pub rounds-no : x .ok ≡ false → x ≡ walked code count t at
       unfolding walked
       rounds-no f =
@@ -153,5 +160,6 @@ module _ (code : List ℕ) (count : ℕ) (t : Tree) (at : ℕ) where
             low = omega arith;
             high = s .high;
             few = omega arith;
-            is = i .is ∙ ap (more n) (both code count u t t here (here + 1) x e ex f) ∙ more-more n (x .letters) (walked code count t (x .at)) ∙ ap (λ k. more k (walked code count t (x .at))) (sym ej);
+            is = i .is ∙ ap (more n) (both code count u t t here (here + 1) x e ex f) ∙ more-more n (x .letters) (walked code count t (x .at))
+                ∙ ap (λ k. more k (walked code count t (x .at))) (sym ej);
           }

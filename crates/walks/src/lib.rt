@@ -11,7 +11,7 @@ ghost use Rattle.bits.specs.Bits.{bit-at};
 ghost use Rattle.semantics.specs.Code.{code-limit};
 ghost use Rattle.table.specs.Cells.{Good, tree-in};
 ghost use Rattle.walks.specs.Lines.{leaf-node, range-node};
-ghost use Rattle.walks.specs.Walks.{cap, walked, more};
+ghost use Rattle.walks.specs.Walks.{cap, went, failed, walked, more};
 ghost use Rattle.walks.specs.Measures.{no-measure, measured};
 use bits::bit_at;
 use bits::byte_at;
@@ -25,6 +25,27 @@ pub struct Walked {
     pub ok: bool,
     pub at: u32,
     pub letters: u32,
+}
+
+fn went(at: u32, letters: u32) -> Walked
+    ensures { λ r. ⌜ r ≡ went at letters ⌝ }
+{
+    Walked {
+        ok: true,
+        at,
+        letters,
+    }
+}
+
+// A walk that fails answers one value, whatever it had read.
+fn failed(count: u32) -> Walked
+    ensures { λ r. ⌜ r ≡ failed count ⌝ }
+{
+    Walked {
+        ok: false,
+        at: count,
+        letters: 0,
+    }
 }
 
 // Stands for every number of letters above `Pattern::MAX_LETTERS`.
@@ -44,17 +65,9 @@ fn after(letters: u32, walked: Walked) -> Walked
     ensures { λ r. ⌜ r ≡ more letters walked ⌝ }
 {
     if !walked.ok {
-        return Walked {
-            ok: false,
-            at: walked.at,
-            letters: 0,
-        };
+        return failed(walked.at);
     }
-    Walked {
-        ok: true,
-        at: walked.at,
-        letters: plus(letters, walked.letters),
-    }
+    went(walked.at, plus(letters, walked.letters))
 }
 
 // The part that the bit at `at` chooses: 0 for the left, 1 for the right.
@@ -72,32 +85,16 @@ fn walk_range(low: u8, high: u8, code: &[u8], count: u32, at: u32) -> Walked
     ensures { λ r. ⌜ ((m : Label) (f : ℕ → Tree) → r ≡ walked (now (code .entry)) count (made m f (leaf-node (range-node low high))) at) ⌝ }
 {
     if count - at < 8 {
-        return Walked {
-            ok: false,
-            at: count,
-            letters: 0,
-        };
+        return failed(count);
     }
     let c = byte_at(code, at);
     if c < low {
-        return Walked {
-            ok: false,
-            at: count,
-            letters: 0,
-        };
+        return failed(count);
     }
     if high < c {
-        return Walked {
-            ok: false,
-            at: count,
-            letters: 0,
-        };
+        return failed(count);
     }
-    Walked {
-        ok: true,
-        at: at + 8,
-        letters: 1,
-    }
+    went(at + 8, 1)
 }
 
 fn walk_leaf(leaf: Leaf, code: &[u8], count: u32, at: u32) -> Walked
@@ -106,16 +103,8 @@ fn walk_leaf(leaf: Leaf, code: &[u8], count: u32, at: u32) -> Walked
     ensures { λ r. ⌜ ((m : Label) (f : ℕ → Tree) → r ≡ walked (now (code .entry)) count (made m f (leaf-node leaf)) at) ⌝ }
 {
     match leaf {
-        Leaf::Nothing => Walked {
-            ok: true,
-            at,
-            letters: 0,
-        },
-        Leaf::Letter(_) => Walked {
-            ok: true,
-            at,
-            letters: 1,
-        },
+        Leaf::Nothing => went(at, 0),
+        Leaf::Letter(_) => went(at, 1),
         Leaf::Range(low, high) => walk_range(low, high, code, count, at),
     }
 }
@@ -140,11 +129,7 @@ pub fn walk(table: &[u64; 64], l: usize, code: &[u8], count: u32, at: u32) -> Wa
         }
         Node::Alternative(p, q) => {
             if count <= at {
-                return Walked {
-                    ok: false,
-                    at: count,
-                    letters: 0,
-                };
+                return failed(count);
             }
             let side = side_at(code, at, p, q);
             walk(table, side as usize, code, count, at + 1)
@@ -154,11 +139,7 @@ pub fn walk(table: &[u64; 64], l: usize, code: &[u8], count: u32, at: u32) -> Wa
             let mut letters: u32 = 0;
             while here < count {
                 if bit_at(code, here) {
-                    return Walked {
-                        ok: true,
-                        at: here + 1,
-                        letters,
-                    };
+                    return went(here + 1, letters);
                 }
                 let one = walk(table, p as usize, code, count, here + 1);
                 if !one.ok {
@@ -167,11 +148,7 @@ pub fn walk(table: &[u64; 64], l: usize, code: &[u8], count: u32, at: u32) -> Wa
                 letters = plus(letters, one.letters);
                 here = one.at;
             }
-            Walked {
-                ok: false,
-                at: count,
-                letters: 0,
-            }
+            failed(count)
         }
     }
 }

@@ -28,16 +28,24 @@ no-measure-requires-2 : tie.Need-no-measure-requires-2
 no-measure-requires-2 c κs = search needs
 
 returns-2 : tie.Need-returns-2
-returns-2 c = c .no-measure2 .ensures ∙ measure-not _ _ _ (sym (c .before .before .before .before .before .handed-good .ensures) ∙ not-false _ (c .before .before .before .before .if1 .left)) _ (c .before .before .before .walk .ensures) (not-true _ (c .before .if2 .taken))
+returns-2 c = c .no-measure2 .ensures ∙ measure-not _ _ _
+    (sym (c .before .before .before .before .before .handed-good .ensures) ∙ not-false _ (c .before .before .before .before .if1 .left)) _
+    (c .before .before .before .walk .ensures) (not-true _ (c .before .if2 .taken))
 
 no-measure-requires-3 : tie.Need-no-measure-requires-3
 no-measure-requires-3 c κs = search needs
 
 returns-3 : tie.Need-returns-3
-returns-3 c = c .no-measure3 .ensures ∙ measure-early _ _ _ (sym (c .before .before .before .before .before .before .before .handed-good .ensures) ∙ not-false _ (c .before .before .before .before .before .before .if1 .left)) _ (c .before .before .before .before .before .walk .ensures) (c .before .if3 .taken)
+returns-3 c = c .no-measure3 .ensures ∙ measure-early _ _ _
+    (sym (c .before .before .before .before .before .before .before .handed-good .ensures)
+    ∙ not-false _ (c .before .before .before .before .before .before .if1 .left)) _ (c .before .before .before .before .before .walk .ensures)
+    (c .before .if3 .taken)
 
 returns-4 : tie.Need-returns-4
-returns-4 c = measure-whole _ _ _ (sym (c .before .before .before .before .before .before .handed-good .ensures) ∙ not-false _ (c .before .before .before .before .before .if1 .left)) _ (c .before .before .before .before .walk .ensures) (not-false _ (c .before .before .if2 .left)) (c .if3 .left)
+returns-4 c = measure-whole _ _ _
+    (sym (c .before .before .before .before .before .before .handed-good .ensures)
+    ∙ not-false _ (c .before .before .before .before .before .if1 .left)) _ (c .before .before .before .before .walk .ensures)
+    (not-false _ (c .before .before .if2 .left)) (c .if3 .left)
 
 pub measure-spec : {M : Type 1} → statement M
 measure-spec =
