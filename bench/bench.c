@@ -18,7 +18,7 @@ static Table table;
 static Masks masks;
 static uint8_t text[8192], tape[LETTERS], unread[LETTERS], spelled[2][LETTERS], codes[2][BYTES + 8], settled[2][BYTES + 8];
 static uint64_t words[2][CELLS];
-static uint32_t litres[10], bits;
+static uint32_t litres[2][10], bits;
 static size_t size, n, bytes;
 static char expression[8192];
 static volatile uint64_t sink;
@@ -36,7 +36,9 @@ static void p_one(void) { sink = parse_of(unread, 1, CELLS); }
 static void p_one_tests(void) { sink = parse_of(unread, 1, 0); }
 static void p_walk(void) { sink = wumbyra_flatten(text, size, codes[0], bytes, bits, spelled[0], 0); }
 static void p_spell(void) { sink = wumbyra_flatten(text, size, codes[0], bytes, bits, spelled[0], LETTERS); }
-static void p_total(void) { sink = wumbyra_total(text, size, codes[0], bytes, bits, 1); }
+static void p_totals(void) { sink = wumbyra_totals(text, size, codes[0], bytes, bits, litres[0], 10); }
+// A visit that there is not: all of the code is searched, and the answer is 10.
+static void p_span(void) { sink = wumbyra_span(text, size, tape, n, codes[0], bytes, bits, 0, UINT32_MAX); }
 static void p_settle(void) {
   sink = wumbyra_canonicalize(text, size, codes[0], bytes, bits, spelled[0], LETTERS, words[0], CELLS, settled[0], BYTES);
 }
@@ -52,10 +54,10 @@ static void c_parse(void) {
 }
 static void c_walk(void) { sink = check_code(&table, codes[0], bytes, bits); }
 static void c_spell(void) { sink = spell(&table, codes[0], spelled[1]); }
-static void c_check_spell(void) { c_walk(), c_spell(); }
-static void c_total(void) { c_walk(), charge(&table, codes[0], litres); }
+static void c_flatten(void) { sink = flatten(&table, codes[0], bytes, bits, spelled[1], LETTERS); }
+static void c_totals(void) { sink = totals(&table, codes[0], bytes, bits, litres[1]); }
 static void c_settle(void) {
-  c_walk(), c_spell();
+  c_flatten();
   make_masks(&table, &masks);
   fill_words(&masks, spelled[1], n, words[1]);
   sink = write_code(&table, words[1], spelled[1], settled[1]);
@@ -151,9 +153,18 @@ static void compare(void) {
   same("C's walk", check_code(&table, codes[0], bytes, bits) == (int)n && check_code(&table, codes[0], bytes, bits - 1) < 0);
   p_spell();
   same("the letter count", sink == n && spell(&table, codes[0], spelled[1]) == n);
+  c_flatten();
+  same("C's letter count", sink == n);
+  same("C's causes 8 and 9", flatten(&table, codes[0], bytes, bits - 1, spelled[1], LETTERS) == 8ull << 32 &&
+                               flatten(&table, codes[0], bytes, bits, spelled[1], n - 1) == (9ull << 32) + n);
   same("letters", !memcmp(spelled[0], tape, n) && !memcmp(spelled[1], tape, n));
-  c_total();
-  for (int a = 0; a < 10; a++) same("litres", wumbyra_total(text, size, codes[0], bytes, bits, a) == litres[a]);
+  p_totals();
+  same("totals", sink == 0);
+  c_totals();
+  same("C's totals", sink == 0 && !memcmp(litres[0], litres[1], sizeof litres[0]));
+  for (int a = 0; a < 10; a++) same("litres", wumbyra_total(text, size, codes[0], bytes, bits, a) == litres[1][a]);
+  p_span();
+  same("cause 10", sink == 10ull << 32);
   p_settle();
   same("the settled bit count", sink == bits);
   c_settle();
@@ -170,11 +181,14 @@ static void row(const char *pattern, const char *work, Time p, Time c, double bo
   wanting += bound > 0 && ratio > bound;
 }
 
-static void against_c(const char *name, double fill_bound) {
-  enum { LOAD, PARSE, PARSE_C, UNREAD, FILL_C, TESTS, ONE, MASKS_C, ONE_TESTS, MASKS_FILL_C, WALK, WALK_C, SPELL, CHECK_SPELL_C, SPELL_C,
-         TOTAL, TOTAL_C, SETTLE, SETTLE_C, COUNT };
+// Bounds for every pattern, as ratios to C.
+static const double walk_bound = 3, flatten_bound = 2.2;
+
+static void against_c(const char *name, double fill_bound, double parse_bound) {
+  enum { LOAD, PARSE, PARSE_C, UNREAD, FILL_C, TESTS, ONE, MASKS_C, ONE_TESTS, MASKS_FILL_C, WALK, WALK_C, SPELL, FLATTEN_C, SPELL_C,
+         TOTALS, TOTALS_C, SETTLE, SETTLE_C, SPAN, COUNT };
   Job j[COUNT] = {{p_load}, {p_parse}, {c_parse}, {p_unread}, {c_fill}, {p_tests}, {p_one}, {c_masks}, {p_one_tests}, {c_masks_fill},
-                  {p_walk}, {c_walk}, {p_spell}, {c_check_spell}, {c_spell}, {p_total}, {c_total}, {p_settle}, {c_settle}};
+                  {p_walk}, {c_walk}, {p_spell}, {c_flatten}, {c_spell}, {p_totals}, {c_totals}, {p_settle}, {c_settle}, {p_span}};
   time_jobs(j, COUNT, 5e6);
   Time load = j[LOAD].time, masks_p = minus(j[ONE].time, j[ONE_TESTS].time), sweep = minus(j[UNREAD].time, j[TESTS].time);
   row(name, "first sweep, letters alone", minus(sweep, masks_p), j[FILL_C].time, fill_bound);
@@ -182,12 +196,13 @@ static void against_c(const char *name, double fill_bound) {
   row(name, "first sweep with masks", sweep, j[MASKS_FILL_C].time, 0);
   row(name, "first sweep with masks and tests", minus(j[UNREAD].time, load), j[MASKS_FILL_C].time, 0);
   row(name, "second sweep (C writes at once)", minus(j[PARSE].time, j[UNREAD].time), minus(j[PARSE_C].time, j[MASKS_FILL_C].time), 0);
-  row(name, "parse: both sweeps, masks, all tests", minus(j[PARSE].time, load), j[PARSE_C].time, 2);
-  row(name, "walk of a code", minus(j[WALK].time, load), j[WALK_C].time, 3);
-  row(name, "spell (C checks the code too)", minus(j[SPELL].time, load), j[CHECK_SPELL_C].time, 0);
-  row(name, "spell (C checks nothing)", minus(j[SPELL].time, load), j[SPELL_C].time, 0);
-  row(name, "totals (C checks the code too)", minus(j[TOTAL].time, load), j[TOTAL_C].time, 0);
-  row(name, "settle (C checks the code too)", minus(j[SETTLE].time, load), j[SETTLE_C].time, 0);
+  row(name, "parse: both sweeps, masks, all tests", minus(j[PARSE].time, load), j[PARSE_C].time, parse_bound);
+  row(name, "walk of a code", minus(j[WALK].time, load), j[WALK_C].time, walk_bound);
+  row(name, "flatten (C makes the same tests)", minus(j[SPELL].time, load), j[FLATTEN_C].time, flatten_bound);
+  row(name, "flatten (C tests nothing)", minus(j[SPELL].time, load), j[SPELL_C].time, 0);
+  row(name, "totals (C makes the same tests)", minus(j[TOTALS].time, load), j[TOTALS_C].time, 0);
+  row(name, "settle (C tests the code too)", minus(j[SETTLE].time, load), j[SETTLE_C].time, 0);
+  row(name, "span of a visit that there is not (C: one walk of the code)", minus(j[SPAN].time, load), j[WALK_C].time, 0);
 }
 
 static void matcher_row(const char *pattern, const char *matcher, Time parse, Time m, int bound) {
@@ -285,7 +300,7 @@ static void growth(const char *name, void (*pattern)(Table *, int)) {
 
 enum { STACK = 1 << 20, PAINT = 0xa5 };
 
-enum { STACK_BOUND = 8192 };  // bytes of a parse with the load before it
+enum { STACK_BOUND = 16384 };  // bytes of a parse with the load before it
 
 // The bytes of a painted stack that a call changes.
 static size_t stack_of(void (*call)(void)) {
@@ -308,20 +323,31 @@ static void no_call(void) {}
 static void stacks(const char *name) {
   size_t none = stack_of(no_call), parse = stack_of(p_parse) - none;
   wanting += parse > STACK_BOUND;
-  printf("| %s | %zu | %zu, %s | %zu | %zu | %zu | %zu | %zu |\n", name, stack_of(p_load) - none, parse, parse > STACK_BOUND ? "NOT MET" : "met",
-         stack_of(p_walk) - none, stack_of(p_spell) - none, stack_of(p_total) - none, stack_of(p_settle) - none, stack_of(c_parse) - none);
+  printf("| %s | %d | %zu | %zu, %s | %zu | %zu | %zu | %zu | %zu | %zu |\n", name, depth(&table), stack_of(p_load) - none, parse,
+         parse > STACK_BOUND ? "NOT MET" : "met", stack_of(p_walk) - none, stack_of(p_spell) - none, stack_of(p_totals) - none,
+         stack_of(p_settle) - none, stack_of(p_span) - none, stack_of(c_parse) - none);
 }
 
 static void meter(void) { meter_pattern(&table, 64); }
 static void hostile(void) { hostile_pattern(&table, 64); }
 static void stress(void) { stress_pattern(&table); }
+static void stars(void) { stars_pattern(&table); }
+static void left_chain(void) { chain_pattern(&table, 1); }
+static void right_chain(void) { chain_pattern(&table, 0); }
 
+// The first are timed; of all of them, the deepest too, the stack is measured. A bound of 0 is none: the time is printed without one.
+enum { TIMED = 3, PATTERNS = 6 };
 static const struct {
   const char *name;
   void (*make)(void);
-  double fill_bound;
   unsigned lefts;
-} patterns[] = {{"meter tape", meter, 2, 12}, {"hostile", hostile, 3, 12}, {"stress", stress, 2, 1}};
+  double fill_bound, parse_bound;
+} patterns[PATTERNS] = {{"meter tape", meter, 12, 2, 1.3},
+                        {"hostile", hostile, 12, 3, 1.3},
+                        {"stress", stress, 1, 2, 0},
+                        {"63 nested stars", stars, 12, 0, 0},
+                        {"31 sequences down to the left", left_chain, 12, 0, 0},
+                        {"31 sequences down to the right", right_chain, 12, 0, 0}};
 
 static void pattern(int k) {
   patterns[k].make();
@@ -339,6 +365,7 @@ static void never_closed(void) {
 }
 
 // For other tools: `bench text K` and `bench tape K` write pattern K's, `bench loop K` parses its tape for five seconds.
+// `bench stack` prints the table of the stack alone, `bench version` the library's version.
 static int single(const char *what, int k) {
   pattern(k);
   for (double start = now(); !strcmp(what, "loop") && now() - start < 5e6;) p_parse();
@@ -347,16 +374,32 @@ static int single(const char *what, int k) {
   return 0;
 }
 
+static int version(void) {
+  uint32_t v = wumbyra_version();
+  same("the version", v == WUMBYRA_VERSION_NUMBER);
+  printf("%u.%u.%u\n", v / 10000, v / 100 % 100, v % 100);
+  return 0;
+}
+
+static void print_stacks(void) {
+  puts("\n### Stack: bytes that a call changes, with the load before it\n");
+  printf("| Pattern | Depth | Load | Parse, at most %d | Walk | Flatten | Totals | Settle | Span | C's parse |\n", STACK_BOUND);
+  puts("|---|---|---|---|---|---|---|---|---|---|");
+  for (int k = 0; k < PATTERNS; k++) pattern(k), stacks(patterns[k].name);
+}
+
 int main(int argc, char **argv) {
-  if (argc > 2) return single(argv[1], atoi(argv[2]) % 3);
+  if (argc > 2) return single(argv[1], atoi(argv[2]) % PATTERNS);
+  if (argc > 1 && !strcmp(argv[1], "version")) return version();
+  if (argc > 1) return print_stacks(), 0;
   puts("### Against hand-written C: 64 nodes, 3,600 letters\n");
   puts("| Pattern | Work | Proved, µs | C, µs | Ratio | Bound |");
   puts("|---|---|---|---|---|---|");
-  for (int k = 0; k < 3; k++) pattern(k), against_c(patterns[k].name, patterns[k].fill_bound);
+  for (int k = 0; k < TIMED; k++) pattern(k), against_c(patterns[k].name, patterns[k].fill_bound, patterns[k].parse_bound);
   puts("\n### Against matchers: 64 nodes, 3,600 letters\n");
   puts("| Pattern | Matcher | Parse, µs | Matcher, µs | Ratio | Bound |");
   puts("|---|---|---|---|---|---|");
-  for (int k = 0; k < 3; k++) pattern(k), against_matchers(patterns[k].name, 1);
+  for (int k = 0; k < TIMED; k++) pattern(k), against_matchers(patterns[k].name, 1);
   never_closed();
   against_matchers("meter tape, restart never closed", 0);
   puts("\n### Growth of parsing\n");
@@ -364,10 +407,7 @@ int main(int argc, char **argv) {
   puts("|---|---|---|---|---|---|---|---|");
   growth("meter tape", meter_pattern);
   growth("hostile", hostile_pattern);
-  puts("\n### Stack: bytes that a call changes, with the load before it\n");
-  puts("| Pattern | Load | Parse, at most 8192 | Walk | Spell | Totals | Settle | C's parse |");
-  puts("|---|---|---|---|---|---|---|---|");
-  for (int k = 0; k < 3; k++) pattern(k), stacks(patterns[k].name);
+  print_stacks();
   printf("\nBounds not met: %d.\n", wanting);
   return 0;
 }

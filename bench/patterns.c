@@ -133,6 +133,36 @@ void stress_pattern(Table *t) {
   checked(t, 64);
 }
 
+void stars_pattern(Table *t) {
+  made = t;
+  t->count = 0;
+  int rest = range('a', 'b');
+  while (t->count < 64) rest = star(rest);
+  checked(t, 64);
+}
+
+void chain_pattern(Table *t, int left) {
+  made = t;
+  t->count = 0;
+  int rest = star(range('a', 'b'));
+  while (t->count < 64) {
+    int leaf = range('a', 'b');
+    rest = left ? then(rest, leaf) : then(leaf, rest);
+  }
+  checked(t, 64);
+}
+
+int depth(const Table *t) {
+  int below[64];
+  for (int l = 0; l < t->count; l++) {
+    Node d = t->node[l];
+    int parts = strchr("SA", d.kind) ? 2 : d.kind == 'K';
+    below[l] = 1 + (parts ? below[d.first] : 0);
+    if (parts == 2 && below[d.second] >= below[l]) below[l] = 1 + below[d.second];
+  }
+  return below[t->count - 1];
+}
+
 size_t write_text(const Table *t, char *text) {
   char *s = text;
   for (int l = 0; l < t->count; l++) {

@@ -300,3 +300,65 @@ void charge(const Table *t, const uint8_t *code, uint32_t litres[10]) {
   Charging w = {t->node, code, litres};
   charge_node(&w, t->count - 1, 0, 0);
 }
+
+static int is_letter(int c) { return c >= 33 && c <= 126; }
+
+// Notes a part of line l: it has to be below l and not noted before.
+static int name(uint64_t *named, int l, int part) {
+  if (part >= l || *named >> part & 1) return 0;
+  *named |= 1ull << part;
+  return 1;
+}
+
+static int good_node(uint64_t *named, int l, Node d) {
+  if (d.account > 9) return 0;
+  switch (d.kind) {
+    case 'E': return 1;
+    case 'L': return is_letter(d.first);
+    case 'R': return is_letter(d.first) && is_letter(d.second) && d.first <= d.second;
+    case 'S':
+    case 'A': return name(named, l, d.first) && name(named, l, d.second);
+    case 'K': return name(named, l, d.first);
+  }
+  return 0;
+}
+
+// The rules of a pattern: 1 to 64 lines, letters and accounts within their limits, every line but the last named exactly once, from above.
+static int obeys(const Table *t) {
+  uint64_t named = 0;
+  if (t->count < 1 || t->count > 64) return 0;
+  for (int l = 0; l < t->count; l++)
+    if (!good_node(&named, l, t->node[l])) return 0;
+  return named == (1ull << (t->count - 1)) - 1;
+}
+
+enum { MAX_LETTERS = 3600 };
+
+static uint64_t refused(uint64_t number, uint32_t value) { return number << 32 | value; }
+
+// The number of letters, or the cause that holds.
+static uint64_t tested(const Table *t, const uint8_t *code, size_t bytes, uint32_t count) {
+  if (!obeys(t)) return refused(2, 0);
+  int letters = check_code(t, code, bytes, count);
+  if (letters < 0) return refused(8, 0);
+  if (letters > MAX_LETTERS) return refused(3, 0);
+  return letters;
+}
+
+uint64_t flatten(const Table *t, const uint8_t *code, size_t bytes, uint32_t count, uint8_t *tape, size_t cells) {
+  uint64_t letters = tested(t, code, bytes, count);
+  if (letters > MAX_LETTERS) return letters;
+  if (cells < letters) return refused(9, letters);
+  spell(t, code, tape);
+  return letters;
+}
+
+uint64_t totals(const Table *t, const uint8_t *code, size_t bytes, uint32_t count, uint32_t litres[10]) {
+  uint64_t letters = tested(t, code, bytes, count);
+  if (letters > MAX_LETTERS) {
+    memset(litres, 0, 10 * sizeof *litres);
+    return letters;
+  }
+  charge(t, code, litres);
+  return 0;
+}

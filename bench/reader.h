@@ -35,7 +35,14 @@ uint32_t write_code(const Table *t, const uint64_t *words, const uint8_t *tape, 
 // One walk that tests everything about a code: bytes, padding, bits left, ranges, that all bits are used. The letters, or -1.
 int check_code(const Table *t, const uint8_t *code, size_t bytes, uint32_t count);
 
-// Walks over a code that is known to be whole.
+// Walks over a code that is known to be whole: they test nothing.
 uint32_t spell(const Table *t, const uint8_t *code, uint8_t *tape);
 void charge(const Table *t, const uint8_t *code, uint32_t litres[10]);
+
+// The services on codes with the tests that the proved ones make, in the same order and in the same two passes: the rules of the table
+// (cause 2); one walk over the whole code that tests everything and counts the letters (8); the limit of letters (3); for `flatten` the
+// cells of the tape (9). Only then does a second walk, which tests nothing, write letters or add litres. Answers are those of the C
+// interface: number << 32 | value, which is the number of letters for `flatten` and 0 for `totals`. Litres are zeros where it refuses.
+uint64_t flatten(const Table *t, const uint8_t *code, size_t bytes, uint32_t count, uint8_t *tape, size_t cells);
+uint64_t totals(const Table *t, const uint8_t *code, size_t bytes, uint32_t count, uint32_t litres[10]);
 #endif
