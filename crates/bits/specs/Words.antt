@@ -1,8 +1,9 @@
 -- Mark words as numbers, for any width: bit l has the value 2 to the power l.
 use mathlib.Core.Path.{_≡_, refl, sym, ap, ap₂, _∙_}
 use mathlib.Core.Bool.{Bool, true, false, _&&_, _||_}
+use mathlib.Core.List.{List}
 use Prim.Native.Nat.{ℕ, zero, suc, _+_, _-_, _*_, _/_, _%_, _^_, _≤_, _<_, min, max}
-use native.Mathlib.Nat.{mod-lt, mod-eq-of-lt}
+use native.Mathlib.Nat.{add-zero, mod-lt, mod-eq-of-lt}
 use native.Mathlib.Decide.{decLt}
 use native.Mathlib.Omega.{arith}
 use lib.Dec.{eqb}
@@ -10,6 +11,7 @@ use borrow.Author.Tests.{eqb-true, eqb-false}
 use lib.Pow.{pow-pos, pow-mono, pow-lt, split, shr-lt}
 use lib.Bits.{bitAnd, and-step, and-shr, and-lt, bitOr, or-step, or-shr, or-lt}
 use lib.Count.{ones, ones-cat}
+use lib.ListN.{getD}
 use Rattle.bits.specs.Bits.{bit, test-bit, word-of, count-below}
 use Rattle.bits.specs.Numbers.{bit-lt, bit-parity, test-high, test-low, test-small}
 
@@ -168,3 +170,13 @@ test-single p v l = go (eqb p l) refl
     go : (e : Bool) → eqb p l ≡ e → test-bit (bit v * 2 ^ p) l ≡ (e && v)
     go true e = ap (λ i. test-bit (bit v * 2 ^ i) l) (eqb-true p l e) ∙ ap (λ x. test-bit x l) (plus l) ∙ test-high v l 0 (pow-pos l)
     go false e = other e (decLt p l)
+
+-- ---- the two words of a position
+
+-- the word of flag 0, and behind it that of flag 1
+module _ (ws : List ℕ) (i : ℕ) (taken : Bool) (l : ℕ) where
+  pub word-one : taken ≡ true → test-bit (getD ws (2 * i + 1) 0) l ≡ test-bit (getD ws (2 * i + bit taken) 0) l
+  word-one e = ap (λ b. test-bit (getD ws (2 * i + bit b) 0) l) (sym e)
+
+  pub word-zero : taken ≡ false → test-bit (getD ws (2 * i) 0) l ≡ test-bit (getD ws (2 * i + bit taken) 0) l
+  word-zero e = ap (λ j. test-bit (getD ws j 0) l) (sym (add-zero (2 * i))) ∙ ap (λ b. test-bit (getD ws (2 * i + bit b) 0) l) (sym e)

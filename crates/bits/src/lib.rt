@@ -4,7 +4,7 @@
 ghost use mathlib.Core.Path.{_≡_};
 ghost use mathlib.Core.List.{[], _∷_};
 ghost use Prim.Native.Nat.{_+_, _*_, _<_, _≤_};
-ghost use lib.ListN.{length};
+ghost use lib.ListN.{length, getD};
 ghost use Rattle.bits.specs.Bits.{bit, test-bit, bits-of, bit-at, number-at, cell-count, high-bits, write, handed-good, count-below};
 use syntax::Pattern;
 
@@ -111,4 +111,16 @@ pub fn open_nodes(word: u64) -> u32
     ensures { λ r. ⌜ r ≡ count-below 64 (test-bit word) ⌝ }
 {
     u64::count_ones(word)
+}
+
+// Whether node l is open at position i with the flag: bit l of the flag's word of the position. A buffer of state sets holds two words a
+// position, that of flag 0 first.
+pub fn is_open(words: &[u64], i: usize, taken: bool, l: usize) -> bool
+    requires { ⌜ (2 * i + 1 < length (now words)) × (l < 64) ⌝ }
+    ensures { λ r. ⌜ r ≡ test-bit (getD (now (words .entry)) (2 * i + bit taken) 0) l ⌝ }
+{
+    if taken {
+        return (words[2 * i + 1] >> l) % 2 == 1;
+    }
+    (words[2 * i] >> l) % 2 == 1
 }

@@ -1,8 +1,8 @@
--- `sweep::is_open` meets its contract.
-use Rattle.second_sweep.specs.SweepLaws.{word-one, word-zero}
+-- `bits::is_open` meets its contract.
+use Rattle.bits.specs.Words.{word-one, word-zero}
 use borrow.Author.Needs.{needs}
-use Rattle.second_sweep.proofs.is_open.Statement.{statement}
-use Rattle.second_sweep.proofs.is_open.Tie as tie
+use Rattle.bits.proofs.is_open.Statement.{statement}
+use Rattle.bits.proofs.is_open.Tie as tie
 
 mul-result : tie.Need-mul-result
 mul-result c = search needs
