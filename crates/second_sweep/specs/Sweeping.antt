@@ -7,13 +7,11 @@ use lib.Dec.{leb}
 use lib.ListN.{length, getD, drop}
 use Rattle.syntax.specs.declared.Leaf.{Leaf}
 use Rattle.syntax.specs.declared.Leaf.the-variants.{Nothing, Letter, Range}
-use Rattle.syntax.specs.declared.Node.{Node}
-use Rattle.syntax.specs.declared.Node.the-variants.{Leaf as Leaf-node, Sequence, Alternative, Star}
 use Rattle.syntax.specs.Tree.{Label, Tree, nothing, letter, range, seq, alt, star, index}
 use Rattle.bits.specs.Bits.{bit, test-bit, write, bits-of}
-use Rattle.table.specs.Columns.{node-in, tree-in}
+use Rattle.table.specs.Cells.{tree-in}
+use Rattle.semantics.specs.Code.{code-limit}
 use Rattle.semantics.specs.Sweeps.{After, after-round, can}
-use Rattle.second_sweep.specs.declared.Spot.{Spot}
 use Rattle.second_sweep.specs.declared.Swept.{Swept}
 use Rattle.second_sweep.specs.Parts.{Sweeps}
 
@@ -21,7 +19,7 @@ use Rattle.second_sweep.specs.Parts.{Sweeps}
 unfoldable pub put : (code : List ℕ) → (at : ℕ) → List Bool → List ℕ
 put xs at cs = cond (leb (at + length cs) (8 * length xs)) (write 8 xs at cs) xs
 
--- what the words say of a node, at every position with either flag
+-- what the state sets say of a node, at every position with either flag
 abbrev pub Own : (words tape : List ℕ) → Tree → After → Type 0
 Own ws tape t k = (i : ℕ) → i ≤ length tape → (b : Bool) → test-bit (getD ws (2 * i + bit b) 0) (index t) ≡ can t k b (drop i tape)
 
@@ -32,7 +30,8 @@ Knows ws tape (letter m c) k = Unit {0}
 Knows ws tape (range m low high) k = Unit {0}
 Knows ws tape (seq m t u) k = Knows ws tape t (can u k) × Knows ws tape u k
 Knows ws tape (alt m t u) k = Own ws tape t k × (Knows ws tape t k × Knows ws tape u k)
-Knows ws tape (star m again t) k = Own ws tape t (after-round (can (star m again t) k)) × Knows ws tape t (after-round (can (star m again t) k))
+Knows ws tape (star m again t) k =
+    Own ws tape t (after-round (can (star m again t) k)) × Knows ws tape t (after-round (can (star m again t) k))
 
 -- what was swept: the position behind the letters, the bit behind the bits, and the bits in the code if they fit
 pub record Wrote (i at : ℕ) (letters : List ℕ) (bits : List Bool) (code code-now : List ℕ) (r : Swept) : Type 0 where
@@ -49,7 +48,7 @@ pub record Can-sweep (words tape : List ℕ) (t : Tree) (i : ℕ) (taken : Bool)
   pub knows : Knows words tape t after
   pub sweeps : Sweeps t after taken (drop i tape) letters bits
   pub within : i ≤ length tape
-  pub few : at + length bits ≤ 524288
+  pub few : at + length bits ≤ code-limit
 
 abbrev pub leaf-tree : Label → Leaf → Tree
 leaf-tree m Nothing = nothing m
@@ -64,41 +63,14 @@ pub record Leaf-ready (leaf : Leaf) (tape : List ℕ) (i at : ℕ) : Type 0 wher
 
 abbrev pub Leaf-swept : Leaf → (tape : List ℕ) → (i at : ℕ) → (code code-now : List ℕ) → Swept → Type 0
 Leaf-swept leaf tape i at xs ys r =
-    (m : Label) (words : List ℕ) (taken : Bool) (c : Can-sweep words tape (leaf-tree m leaf) i taken at) → Wrote i at (c .letters) (c .bits) xs ys r
+    (m : Label) (words : List ℕ) (taken : Bool) (c : Can-sweep words tape (leaf-tree m leaf) i taken at) →
+    Wrote i at (c .letters) (c .bits) xs ys r
 
--- node l of columns
-pub record Ready (kind first second words tape : List ℕ) (l i : ℕ) (taken : Bool) (at : ℕ) : Type 0 where
-  pub account : List ℕ
-  pub it : Can-sweep words tape (tree-in kind first second account l) i taken at
+-- node l of a table
+pub record Ready (table words tape : List ℕ) (l i : ℕ) (taken : Bool) (at : ℕ) : Type 0 where
+  pub it : Can-sweep words tape (tree-in table l) i taken at
   pub enough : 2 * length tape + 1 < length words
 
-abbrev pub Swept-all : (kind first second words tape : List ℕ) → (l i : ℕ) → (taken : Bool) → (at : ℕ) → (code code-now : List ℕ) → Swept → Type 0
-Swept-all kind first second words tape l i taken at xs ys r =
-    (s : Ready kind first second words tape l i taken at) → Wrote i at (s .it .letters) (s .it .bits) xs ys r
-
-abbrev pub is-choice : Node → Bool
-is-choice (Leaf-node x) = false
-is-choice (Sequence p q) = false
-is-choice (Alternative p q) = true
-is-choice (Star p) = false
-
--- a sweep of node l that has come to the spot r: what is there can be swept, and when it is, what was to be swept from l on is done
-pub record Led {kind first second words tape : List ℕ} {l i : ℕ} {taken : Bool} {at : ℕ} (s : Ready kind first second words tape l i taken at) (code₀ code : List ℕ) (r : Spot) : Type 0 where
-  pub ready : Ready kind first second words tape (r .node) (r .position) (r .taken) (r .at)
-  pub done : (zs : List ℕ) (w : Swept) → Wrote (r .position) (r .at) (ready .it .letters) (ready .it .bits) code zs w → Wrote i at (s .it .letters) (s .it .bits) code₀ zs w
-  pub on : i ≤ r .position
-  pub further : at ≤ r .at
-
--- what a move leaves: it goes down, from an alternative in any case
-pub record Moves (kind first second words tape : List ℕ) (l i : ℕ) (taken : Bool) (at : ℕ) (code₀ code : List ℕ) (r : Spot) : Type 0 where
-  pub down : r .node ≤ l
-  pub falls : is-choice (node-in kind first second l) ≡ true → r .node < l
-  pub led : (s : Ready kind first second words tape l i taken at) → Led s code₀ code r
-  pub as-long : length code ≡ length code₀
-
--- and what all moves leave: no alternative is left
-pub record Advanced (kind first second words tape : List ℕ) (l i : ℕ) (taken : Bool) (at : ℕ) (code₀ code : List ℕ) (r : Spot) : Type 0 where
-  pub down : r .node ≤ l
-  pub no-choice : is-choice (node-in kind first second (r .node)) ≡ false
-  pub led : (s : Ready kind first second words tape l i taken at) → Led s code₀ code r
-  pub as-long : length code ≡ length code₀
+abbrev pub Swept-all : (table words tape : List ℕ) → (l i : ℕ) → (taken : Bool) → (at : ℕ) → (code code-now : List ℕ) → Swept → Type 0
+Swept-all table words tape l i taken at xs ys r =
+    (s : Ready table words tape l i taken at) → Wrote i at (s .it .letters) (s .it .bits) xs ys r
