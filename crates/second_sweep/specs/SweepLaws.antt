@@ -12,7 +12,7 @@ use lib.Seq.{drop-drop, getD-drop}
 use Rattle.syntax.specs.declared.Leaf.{Leaf}
 use Rattle.syntax.specs.declared.Leaf.the-variants.{Nothing, Letter, Range}
 use Rattle.syntax.specs.Tree.{Label, Tree, range, seq, alt, star, index}
-use Rattle.bits.specs.Bits.{bit, test-bit, write, bits-of}
+use Rattle.bits.specs.Bits.{write, bits-of}
 use Rattle.bits.specs.Numbers.{length-bits-of}
 use Rattle.bits.specs.Writing.{write-write, length-write}
 use Rattle.semantics.specs.Code.{code-limit}
@@ -20,7 +20,7 @@ use Rattle.semantics.specs.Value.{nonempty}
 use Rattle.semantics.specs.Sweeps.{After, after-round, can, another}
 use Rattle.second_sweep.specs.declared.Swept.{Swept}
 use Rattle.second_sweep.specs.Parts.{whole, short, seq-sweeps, side-sweeps, round-sweeps, stop-sweeps, nothing-sweeps, letter-sweeps, range-sweeps}
-use Rattle.second_sweep.specs.Sweeping.{put, Knows, Wrote, Can-sweep, Leaf-ready, Leaf-swept}
+use Rattle.second_sweep.specs.Sweeping.{put, is-open, Chooses, Knows, Wrote, Can-sweep, Leaf-ready, Leaf-swept}
 
 -- ── writing ──
 module _ (xs : List ℕ) (at : ℕ) (cs : List Bool) where
@@ -42,6 +42,14 @@ module _ (xs : List ℕ) (at : ℕ) (cs : List Bool) where
 write-nothing : (xs : List ℕ) (at : ℕ) → write 8 xs at [] ≡ xs
 unfolding write
 write-nothing xs at = refl
+
+-- a choice by what was asked of the left side
+pub chose : (o left v : Bool) (p q at : ℕ) (xs ys : List ℕ) → left ≡ o → left ≡ v → ys ≡ put xs at (not left ∷ []) →
+    Chooses o p q at xs ys (cond v p q)
+chose o left v p q at xs ys e f w = record {
+  side-is = ap (λ b. cond b p q) (sym f ∙ e);
+  written = w ∙ ap (λ b. put xs at (not b ∷ [])) e;
+}
 
 -- ── what was written, put together ──
 pub wrote-none : (i at : ℕ) (xs : List ℕ) → Wrote i at [] [] xs xs (record { position = i; at = at })
@@ -159,10 +167,7 @@ module _ (words tape : List ℕ) (i : ℕ) (taken : Bool) (at : ℕ) where
     pub letters-are : c .letters ≡ one .letters
     pub bits-are : c .bits ≡ sign ∷ one .bits
 
-  abbrev pub open-here : Bool → Tree → Bool
-  open-here b t = test-bit (getD words (2 * i + bit b) 0) (index t)
-
-  pub side-way : (m : Label) (u v t : Tree) → t ≡ alt m u v → (left : Bool) → open-here taken u ≡ left →
+  pub side-way : (m : Label) (u v t : Tree) → t ≡ alt m u v → (left : Bool) → is-open words i taken (index u) ≡ left →
       (c : Can-sweep words tape t i taken at) → Side-way t (cond left u v) (not left) c
   side-way m u v t e left o =
       subst (λ x. (c : Can-sweep words tape x i taken at) → Side-way x (cond left u v) (not left) c) (sym e) go
@@ -200,7 +205,7 @@ module _ (words tape : List ℕ) (i : ℕ) (taken : Bool) (at : ℕ) where
 
   module _ (m : Label) (again : Bool) (u t : Tree) (e : t ≡ star m again u) where
     abbrev decided : {x : Tree} → Can-sweep words tape x i taken at → Bool
-    decided c = another again (open-here false u) (c .after taken (drop i tape))
+    decided c = another again (is-open words i false (index u)) (c .after taken (drop i tape))
 
     -- the state sets say of a round what the first sweep does
     says : (c : Can-sweep words tape (star m again u) i taken at) (o : Bool) → decided c ≡ o →

@@ -1,14 +1,14 @@
 -- What the functions of the second sweep ask and leave.
 use mathlib.Core.Path.{_≡_}
-use mathlib.Core.Bool.{Bool, true, false, cond}
-use mathlib.Core.List.{List, [], _∷_, _++_}
+use mathlib.Core.Bool.{Bool, true, not, cond}
+use mathlib.Core.List.{List, [], _∷_}
 use Prim.Native.Nat.{ℕ, _+_, _*_, _≤_, _<_}
 use lib.Dec.{leb}
 use lib.ListN.{length, getD, drop}
 use Rattle.syntax.specs.declared.Leaf.{Leaf}
 use Rattle.syntax.specs.declared.Leaf.the-variants.{Nothing, Letter, Range}
 use Rattle.syntax.specs.Tree.{Label, Tree, nothing, letter, range, seq, alt, star, index}
-use Rattle.bits.specs.Bits.{bit, test-bit, write, bits-of}
+use Rattle.bits.specs.Bits.{bit, test-bit, write}
 use Rattle.table.specs.Cells.{tree-in}
 use Rattle.semantics.specs.Code.{code-limit}
 use Rattle.semantics.specs.Sweeps.{After, after-round, can}
@@ -19,9 +19,23 @@ use Rattle.second_sweep.specs.Parts.{Sweeps}
 unfoldable pub put : (code : List ℕ) → (at : ℕ) → List Bool → List ℕ
 put xs at cs = cond (leb (at + length cs) (8 * length xs)) (write 8 xs at cs) xs
 
+-- a choice: the left side where it is open, with the bit 0, else the right one, with 1
+pub record Chooses (left : Bool) (p q at : ℕ) (code code-now : List ℕ) (side : ℕ) : Type 0 where
+  pub side-is : side ≡ cond left p q
+  pub written : code-now ≡ put code at (not left ∷ [])
+
+-- the end of a star, with the bit 1
+pub record Stops (i at : ℕ) (code code-now : List ℕ) (r : Swept) : Type 0 where
+  pub result-is : r ≡ record { position = i; at = at + 1 }
+  pub written : code-now ≡ put code at (true ∷ [])
+
+-- a node's bit in the word of a position with the flag
+abbrev pub is-open : (words : List ℕ) → (i : ℕ) → (taken : Bool) → (l : ℕ) → Bool
+is-open ws i b l = test-bit (getD ws (2 * i + bit b) 0) l
+
 -- what the state sets say of a node, at every position with either flag
 abbrev pub Own : (words tape : List ℕ) → Tree → After → Type 0
-Own ws tape t k = (i : ℕ) → i ≤ length tape → (b : Bool) → test-bit (getD ws (2 * i + bit b) 0) (index t) ≡ can t k b (drop i tape)
+Own ws tape t k = (i : ℕ) → i ≤ length tape → (b : Bool) → is-open ws i b (index t) ≡ can t k b (drop i tape)
 
 -- and what the sweep asks of them: the left side of each alternative, and the round of each star
 abbrev pub Knows : (words tape : List ℕ) → Tree → After → Type 0

@@ -6,7 +6,7 @@ use Prim.Native.Nat.{ℕ, _+_, _*_, _≤_, _<_}
 use native.Mathlib.Omega.{arith}
 use borrow.Author.Tests.{lt-ltb, le-ltb}
 use lib.Dec.{ltb}
-use lib.ListN.{length, getD}
+use lib.ListN.{length}
 use Rattle.syntax.specs.declared.Leaf.{Leaf}
 use Rattle.syntax.specs.declared.Leaf.the-variants.{Nothing, Letter, Range}
 use Rattle.syntax.specs.declared.Node.{Node}
@@ -14,13 +14,12 @@ use Rattle.syntax.specs.declared.Node.the-variants.{Leaf as Leaf-node, Sequence
 use Rattle.syntax.specs.Tree.{Label, Tree, index}
 use Rattle.syntax.specs.Trees.{made}
 use Rattle.syntax.specs.TreeLaws.{Below}
-use Rattle.bits.specs.Bits.{bit, test-bit}
 use Rattle.table.specs.Cells.{node-in, account-in, tree-in, Good}
 use Rattle.table.specs.CellLaws.{line-tree, line-lower, line-index}
 use Rattle.semantics.specs.Value.{nonempty}
 use Rattle.second_sweep.specs.declared.Swept.{Swept}
-use Rattle.second_sweep.specs.Sweeping.{put, Wrote, Can-sweep, leaf-tree, Leaf-ready, Leaf-swept, Ready, Swept-all}
-use Rattle.second_sweep.specs.SweepLaws.{wrote-then, wrote-put, wrote-same, wrote-none, put-long, Seq-way, seq-way, side-way, Round-way, round-way, stop-way}
+use Rattle.second_sweep.specs.Sweeping.{put, is-open, Chooses, Stops, Wrote, Can-sweep, leaf-tree, Leaf-ready, Leaf-swept, Ready, Swept-all}
+use Rattle.second_sweep.specs.SweepLaws.{wrote-then, wrote-put, wrote-same, wrote-none, put-long, Seq-way, seq-way, Side-way, side-way, Round-way, round-way, stop-way}
 
 leaf-made : (m : Label) (f : ℕ → Tree) (x : Leaf) → made m f (Leaf-node x) ≡ leaf-tree m x
 leaf-made m f Nothing = refl
@@ -66,7 +65,7 @@ abbrev label-in : (table : List ℕ) → (l : ℕ) → Label
 label-in table l = record { index = l; account = account-in table l }
 
 -- the tree of a chosen side
-side-tree : (table : List ℕ) (left : Bool) (p q side : ℕ) → side ≡ cond left p q → tree-in table side ≡ cond left (tree-in table p) (tree-in table q)
+pub side-tree : (table : List ℕ) (left : Bool) (p q side : ℕ) → side ≡ cond left p q → tree-in table side ≡ cond left (tree-in table p) (tree-in table q)
 side-tree table true p q side e = ap (tree-in table) e
 side-tree table false p q side e = ap (tree-in table) e
 
@@ -79,8 +78,8 @@ module _ {table : List ℕ} {l : ℕ} {n : Node} (a : Line-node table l n) where
   pub lower : {k : Node} → n ≡ k → Below l k
   lower e = subst (λ k. Below l k) e (line-lower (a .good) l (a .low) n (a .is))
 
-  pub side-lower : {p q : ℕ} → n ≡ Alternative p q → (left : Bool) {side : ℕ} → side ≡ cond left p q → side < l
-  side-lower {p} {q} e left es = rw es (go left (lower e))
+  pub side-lower : {p q at side : ℕ} {left : Bool} {xs ys : List ℕ} → n ≡ Alternative p q → Chooses left p q at xs ys side → side < l
+  side-lower {p} {q} {left = left} e c = rw (c .side-is) (go left (lower e))
     where
       go : (b : Bool) → (p < l) × (q < l) → cond b p q < l
       go true x = x .0
@@ -102,7 +101,7 @@ module _ {table : List ℕ} {l : ℕ} {n : Node} (a : Line-node table l n) where
     pub leaf-done : {xs ys : List ℕ} {r : Swept} → Leaf-swept x tape i at xs ys r → Swept-all table words tape l i taken at xs ys r
     leaf-done {xs} {ys} {r} f s =
         subst (λ t. (c : Can-sweep words tape t i taken at) → Wrote i at (c .letters) (c .bits) xs ys r)
-        (sym (leaf-is e)) (λ c. f (label-in table l) words taken c) (s .it)
+        (sym (leaf-is e)) (f (label-in table l) words taken) (s .it)
 
   -- ── sequence ──
   module _ {words tape : List ℕ} {i : ℕ} {taken : Bool} {at : ℕ} {p q : ℕ} (e : n ≡ Sequence p q) where
@@ -137,39 +136,34 @@ module _ {table : List ℕ} {l : ℕ} {n : Node} (a : Line-node table l n) where
           (wrote-then (v .one .letters) (v .two .letters) (v .one .bits) (v .two .bits) (f (seq-first s)) (g (seq-second s)))
 
   -- ── the words at a part ──
-  open-part : (p : ℕ) → p < l → (words : List ℕ) (j : ℕ) (b : Bool) {o : Bool} → o ≡ test-bit (getD words (2 * j + bit b) 0) p →
-      test-bit (getD words (2 * j + bit b) 0) (index (tree-in table p)) ≡ o
-  open-part p h words j b eo =
-      ap (test-bit (getD words (2 * j + bit b) 0)) (line-index (a .good) p (omega (arith, a .low))) ∙ sym eo
+  open-part : (p : ℕ) → p < l → (words : List ℕ) (j : ℕ) (b : Bool) → is-open words j b (index (tree-in table p)) ≡ is-open words j b p
+  open-part p h words j b = ap (is-open words j b) (line-index (a .good) p (omega (arith, a .low)))
 
   -- ── alternative ──
-  module _ {words tape : List ℕ} {i : ℕ} {taken : Bool} {at : ℕ} {p q : ℕ} (e : n ≡ Alternative p q)
-      {left : Bool} (eo : left ≡ test-bit (getD words (2 * i + bit taken) 0) p) {side : ℕ} (es : side ≡ cond left p q) where
-    pub record Chosen (s : Ready table words tape l i taken at) : Type 0 where
-      pub ready : Ready table words tape side i taken (at + 1)
-      pub letters-are : s .it .letters ≡ ready .it .letters
-      pub bits-are : s .it .bits ≡ not left ∷ ready .it .bits
+  abbrev pub side-of : (left : Bool) → (p q : ℕ) → Tree
+  side-of left p q = cond left (tree-in table p) (tree-in table q)
 
-    pub chosen : (s : Ready table words tape l i taken at) → Chosen s
-    chosen s =
-        let w = side-way words tape i taken at (label-in table l) (tree-in table p) (tree-in table q) (tree-in table l)
-        (tree (Alternative p q) e) left (open-part p (lower e .0) words i taken eo) (s .it) in
-        record {
-          ready = record { it = regrown (cond left (tree-in table p) (tree-in table q)) (tree-in table side) (side-tree table left p q side es) (w .one); enough = s .enough };
-          letters-are = w .letters-are;
-          bits-are = w .bits-are;
-        }
+  module _ {words tape : List ℕ} {i : ℕ} {taken : Bool} {at : ℕ} {p q : ℕ} (e : n ≡ Alternative p q) {xs ys : List ℕ} {side : ℕ}
+      (h : Chooses (is-open words i taken p) p q at xs ys side) (s : Ready table words tape l i taken at) where
+    pub chosen : Side-way words tape i taken at (tree-in table l) (side-of (is-open words i taken p) p q) (not (is-open words i taken p)) (s .it)
+    chosen =
+        side-way words tape i taken at (label-in table l) (tree-in table p) (tree-in table q) (tree-in table l)
+        (tree (Alternative p q) e) (is-open words i taken p) (open-part p (lower e .0) words i taken) (s .it)
 
-    pub side-ready : Ready table words tape l i taken at → Ready table words tape side i taken (at + 1)
-    side-ready s = chosen s .ready
+    abbrev pub side-ready : Ready table words tape side i taken (at + 1)
+    side-ready = record {
+      it = regrown (side-of (is-open words i taken p) p q) (tree-in table side)
+          (side-tree table (is-open words i taken p) p q side (h .side-is)) (chosen .one);
+      enough = s .enough;
+    }
 
-    pub side-done : {xs ys zs : List ℕ} {r : Swept} → ys ≡ put xs at (not left ∷ []) →
-        Swept-all table words tape side i taken (at + 1) ys zs r → Swept-all table words tape l i taken at xs zs r
-    side-done ey g s =
-        let c = chosen s in
-        let t = c .ready .it in
-        wrote-same (t .letters) (s .it .letters) (not left ∷ t .bits) (s .it .bits) (c .letters-are) (c .bits-are)
-        (wrote-put (not left) (t .letters) (t .bits) ey (g (c .ready)))
+    pub side-done : {zs : List ℕ} {r : Swept} → Swept-all table words tape side i taken (at + 1) ys zs r →
+        Wrote i at (s .it .letters) (s .it .bits) xs zs r
+    side-done g =
+        let o = not (is-open words i taken p) in
+        let t = side-ready .it in
+        wrote-same (t .letters) (s .it .letters) (o ∷ t .bits) (s .it .bits) (chosen .letters-are) (chosen .bits-are)
+        (wrote-put o (t .letters) (t .bits) (h .written) (g side-ready))
 
 -- ── star ──
 -- what is left to do from here gives what was to be done from the start
@@ -189,18 +183,17 @@ going-start {taken = taken} s code = record { flag = taken; now = s .it; done = 
 module _ {table : List ℕ} {l : ℕ} {n : Node} (a : Line-node table l n) {p : ℕ} (e : n ≡ Star p)
     {words tape : List ℕ} {i : ℕ} {taken : Bool} {at : ℕ} (s : Ready table words tape l i taken at)
     {code₀ code : List ℕ} {j to : ℕ} (g : Going s code₀ code j to)
-    {o : Bool} (eo : o ≡ test-bit (getD words (2 * j + bit false) 0) p) where
-  opened : test-bit (getD words (2 * j + bit false) 0) (index (tree-in table p)) ≡ o
-  opened = open-part a p (lower a e) words j false eo
+    {o : Bool} (eo : o ≡ is-open words j false p) where
+  opened : is-open words j false (index (tree-in table p)) ≡ o
+  opened = open-part a p (lower a e) words j false ∙ sym eo
 
-  pub star-stop : o ≡ false → {zs : List ℕ} → zs ≡ put code to (true ∷ []) →
-      Wrote i at (s .it .letters) (s .it .bits) code₀ zs (record { position = j; at = to + 1 })
-  star-stop f {zs} ez =
+  pub star-stop : o ≡ false → {zs : List ℕ} {r : Swept} → Stops j to code zs r → Wrote i at (s .it .letters) (s .it .bits) code₀ zs r
+  star-stop f {zs} {r} h =
       let (x, y) = stop-way words tape j (g .flag) to (label-in table l) false (tree-in table p) (tree-in table l)
       (tree a (Star p) e) (g .now) (opened ∙ f) in
       g .done
       (wrote-same [] (g .now .letters) (true ∷ []) (g .now .bits) x y
-      (wrote-put true [] [] ez (wrote-none j (to + 1) zs)))
+      (rw (h .result-is) (wrote-put true [] [] (h .written) (wrote-none j (to + 1) zs))))
 
   module _ (f : o ≡ true) where
     pub turn : Round-way words tape j (g .flag) to false (tree-in table l) (tree-in table p) (g .now)

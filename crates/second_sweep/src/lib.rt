@@ -1,13 +1,14 @@
 // The second sweep: the bits of the greedy parse, from the state sets of the first. It asks the state sets only and never backs up.
 ghost use mathlib.Core.Path.{_≡_};
-ghost use mathlib.Core.Bool.{_||_, cond};
+ghost use mathlib.Core.Bool.{_||_};
 ghost use mathlib.Core.List.{[], _∷_};
 ghost use lib.Dec.{ltb};
-ghost use Prim.Native.Nat.{_≤_, _<_};
+ghost use Prim.Native.Nat.{_+_, _*_, _≤_, _<_};
+ghost use lib.ListN.{length};
 ghost use Rattle.bits.specs.Bits.{bits-of};
 ghost use Rattle.semantics.specs.Code.{code-limit};
 ghost use Rattle.table.specs.Cells.{Good};
-ghost use Rattle.second_sweep.specs.Sweeping.{put, Leaf-ready, Leaf-swept, Ready, Swept-all};
+ghost use Rattle.second_sweep.specs.Sweeping.{put, is-open, Chooses, Stops, Leaf-ready, Leaf-swept, Ready, Swept-all};
 use bits::is_open;
 use bits::set_bit;
 use bits::set_byte;
@@ -60,11 +61,26 @@ fn sweep_leaf(leaf: Leaf, tape: &[u8], i: usize, code: &mut [u8], at: u32) -> Sw
     }
 }
 
-// The side that is read: the left one where it can be.
-fn side_of(left: bool, p: u8, q: u8) -> u8
-    ensures { λ r. ⌜ r ≡ cond left p q ⌝ }
+// Writes which side of an alternative is read, and gives it: the left one where it can be.
+fn choose(words: &[u64], i: usize, taken: bool, p: u8, q: u8, code: &mut [u8], at: u32) -> u8
+    requires { ⌜ (2 * i + 1 < length (now words)) × (p < 64) × (at ≤ code-limit) ⌝ }
+    ensures { λ r. ⌜ Chooses (is-open (now (words .entry)) i taken p) p q at (now (code .entry)) (now (code .exit)) r ⌝ }
 {
+    let left = is_open(words, i, taken, p as usize);
+    put_bit(code, at, !left);
     if left { p } else { q }
+}
+
+// Writes that a star ends at position i.
+fn stop(i: usize, code: &mut [u8], at: u32) -> Swept
+    requires { ⌜ at ≤ code-limit ⌝ }
+    ensures { λ r. ⌜ Stops i at (now (code .entry)) (now (code .exit)) r ⌝ }
+{
+    put_bit(code, at, true);
+    Swept {
+        position: i,
+        at: at + 1,
+    }
 }
 
 // The flag behind a part: whether it, or what was before it in the round, took a letter.
@@ -90,29 +106,18 @@ pub fn sweep(
     at: u32,
 ) -> Swept
     requires { ⌜ Good (now table) × (l < 64) × Ready (now table) (now words) (now tape) l i taken at ⌝ }
-    ensures { λ r.
-        ⌜ Swept-all (now (table .entry)) (now (words .entry)) (now (tape .entry)) l i taken at (now (code .entry)) (now (code .exit)) r ⌝ }
+    ensures { λ r. ⌜ Swept-all (now (table .entry)) (now (words .entry)) (now (tape .entry)) l i taken at (now (code .entry)) (now (code .exit)) r ⌝ }
 {
     match node_at(table, l) {
         Node::Leaf(leaf) => sweep_leaf(leaf, tape, i, code, at),
         Node::Sequence(p, q) => {
             let one = sweep(table, words, tape, p as usize, i, taken, code, at);
-            let flag = flag_behind(taken, i, one.position);
-            sweep(
-                table,
-                words,
-                tape,
-                q as usize,
-                one.position,
-                flag,
-                code,
-                one.at,
-            )
+            let j = one.position;
+            let flag = flag_behind(taken, i, j);
+            sweep(table, words, tape, q as usize, j, flag, code, one.at)
         }
         Node::Alternative(p, q) => {
-            let left = is_open(words, i, taken, p as usize);
-            put_bit(code, at, !left);
-            let side = side_of(left, p, q);
+            let side = choose(words, i, taken, p, q, code, at);
             sweep(table, words, tape, side as usize, i, taken, code, at + 1)
         }
         Node::Star(p) => {
@@ -124,11 +129,7 @@ pub fn sweep(
                 j = one.position;
                 bit = one.at;
             }
-            put_bit(code, bit, true);
-            Swept {
-                position: j,
-                at: bit + 1,
-            }
+            stop(j, code, bit)
         }
     }
 }

@@ -1,0 +1,254 @@
+-- `second_sweep::sweep` meets its contract.
+use mathlib.Core.Path.{_∙_}
+use Prim.Native.Nat.{ℕ, _+_, _*_, _-_, _<_}
+use native.Mathlib.Omega.{arith}
+use lib.ListN.{length}
+use Rattle.syntax.specs.declared.Node.the-variants.{Sequence, Star}
+use Rattle.syntax.specs.TreeLaws.{Below}
+use Rattle.semantics.specs.Code.{code-limit}
+use Rattle.second_sweep.specs.Sweeping.{Ready}
+use Rattle.second_sweep.specs.Ways.{Line-node, Going, lower, side-lower, leaf-ready, leaf-done, seq-first, seq-second, seq-done, side-ready, side-done}
+use Rattle.second_sweep.specs.Ways.{going-start, star-stop, round-ready, round-less, round-done}
+use borrow.Author.Needs.{needs}
+use borrow.Fn.Kinds.{In}
+use borrow.Fn.PlainCycle.{Measures, is, falls, and}
+use Rattle.second_sweep.proofs.sweep.Reads as sweep
+use Rattle.second_sweep.proofs.sweep.Kinds as sweep-kinds
+use Rattle.second_sweep.proofs.+sweep.Lts-sweep as sweep-lts
+use Rattle.bits.proofs.is_open.Reads as is-open-reads
+use Rattle.second_sweep.proofs.choose.Reads as choose-reads
+use Rattle.second_sweep.proofs.flag_behind.Reads as flag-behind-reads
+use Rattle.second_sweep.proofs.put_bit.Reads as put-bit-reads
+use Rattle.second_sweep.proofs.stop.Reads as stop-reads
+use Rattle.second_sweep.proofs.sweep_leaf.Reads as sweep-leaf-reads
+use Rattle.table.proofs.node_at.Reads as node-at-reads
+use Rattle.second_sweep.proofs.+sweep.{statement}
+use Rattle.second_sweep.proofs.+sweep.Tie.{close}
+
+-- 01's pair, the bits that are left and the node's place, as one number
+abbrev μ-sweep : Measures 4 sweep-kinds.ps ℕ
+μ-sweep κs a = (code-limit - a .1 .1 .1 .1 .1 .1 .1 .0) * 64 + a .1 .1 .1 .0
+
+abbrev sweep-at : ℕ → In 4 sweep-kinds.ps
+sweep-at t = and 4 sweep-kinds.ps (is 4 sweep-kinds.ps μ-sweep t) sweep.Pre
+
+abbrev sweep-below : ℕ → In 4 sweep-kinds.ps
+sweep-below t = and 4 sweep-kinds.ps (falls 4 sweep-kinds.ps _<_ μ-sweep t) sweep.Pre
+
+-- what the callees promise, and `sweep` itself below the measure t
+abbrev given : ℕ → sweep-lts.Claims
+given t = (node-at-reads.Asked, node-at-reads.Learnt, sweep-leaf-reads.Asked, sweep-leaf-reads.Learnt, sweep-below t, sweep.Post, flag-behind-reads.Asked, flag-behind-reads.Learnt, choose-reads.Asked, choose-reads.Learnt, is-open-reads.Asked, is-open-reads.Learnt, put-bit-reads.Asked, put-bit-reads.Learnt, stop-reads.Asked, stop-reads.Learnt)
+
+abbrev sweep-Inv-loop : sweep-lts.InvT-loop
+sweep-Inv-loop table words tape l i taken code₀ at p j₀ bit₀ code j bit = (s : Ready table words tape l i taken at) → Going s code₀ code j bit
+
+abbrev sweep-μ-loop : sweep-lts.MeasureT-loop
+sweep-μ-loop table words tape l i taken code₀ at p j₀ bit₀ code j bit = length tape - j
+
+-- the line's node
+abbrev line : (t : ℕ) (c : sweep-lts.After-node-at (given t) (sweep-at t) sweep.Post sweep-Inv-loop sweep-μ-loop) →
+    Line-node (c .before .before .before .before .args .table .now) (c .before .before .before .before .args .l) (c .node-at .result)
+line t c =
+    let start = c .before .before .before .before in
+    record { good = start .pre .1 .0; low = start .pre .1 .1; is = c .node-at .ensures }
+
+-- a sequence's parts lie below it, and so does a star's child
+parts-lower : (t : ℕ) (c : sweep-lts.After-p (given t) (sweep-at t) sweep.Post sweep-Inv-loop sweep-μ-loop) →
+    Below (c .before .before .before .before .before .before .args .l) (Sequence (c .p .given .0 .0) (c .p .given .0 .1 .0))
+parts-lower t c = lower (line t (c .before .before)) (c .p .given .1)
+
+child-lower : (t : ℕ) (c : sweep-lts.After-p3 (given t) (sweep-at t) sweep.Post sweep-Inv-loop sweep-μ-loop) →
+    c .p3 .given .0 .0 < c .before .before .before .before .before .before .args .l
+child-lower t c = lower (line t (c .before .before)) (c .p3 .given .1)
+
+-- what is left of the rounds gives them all
+going : (t : ℕ) (c : sweep-lts.At-loop (given t) (sweep-at t) sweep.Post sweep-Inv-loop sweep-μ-loop) →
+    let start = c .before .before .before .before .before .before .before .before in
+    Going (start .pre .1 .2) (start .args .code .now) (c .loop .code) (c .loop .j) (c .loop .bit)
+going t c =
+    let start = c .before .before .before .before .before .before .before .before in
+    c .loop .inv (start .pre .1 .2)
+
+sweep-node-at-requires : (t : ℕ) → sweep-lts.Need-node-at-requires (given t) (sweep-at t) sweep.Post sweep-Inv-loop sweep-μ-loop
+sweep-node-at-requires t c κs = search needs
+
+sweep-enum-known-leaf : (t : ℕ) → sweep-lts.Need-enum-known-leaf (given t) (sweep-at t) sweep.Post sweep-Inv-loop sweep-μ-loop
+sweep-enum-known-leaf t c = search needs
+
+sweep-sweep-leaf-requires : (t : ℕ) → sweep-lts.Need-sweep-leaf-requires (given t) (sweep-at t) sweep.Post sweep-Inv-loop sweep-μ-loop
+sweep-sweep-leaf-requires t c κs =
+    let start = c .before .before .before .before .before .before .before .before in
+    leaf-ready (line t (c .before .before .before .before)) (c .before .before .leaf .given .1) (start .pre .1 .2)
+
+sweep-enum-known-p : (t : ℕ) → sweep-lts.Need-enum-known-p (given t) (sweep-at t) sweep.Post sweep-Inv-loop sweep-μ-loop
+sweep-enum-known-p t c = search needs
+
+sweep-cast-sweep : (t : ℕ) → sweep-lts.Need-cast-sweep (given t) (sweep-at t) sweep.Post sweep-Inv-loop sweep-μ-loop
+sweep-cast-sweep t c = omega (arith, parts-lower t (c .before), line t (c .before .before .before) .low)
+
+sweep-sweep-requires : (t : ℕ) → sweep-lts.Need-sweep-requires (given t) (sweep-at t) sweep.Post sweep-Inv-loop sweep-μ-loop
+sweep-sweep-requires t c κs =
+    let n = line t (c .before .before .before .before) in
+    let start = c .before .before .before .before .before .before .before .before in
+    let h = parts-lower t (c .before .before) in
+    (omega (arith, start .pre .0), (n .good, omega (arith, n .low), seq-first n (c .before .before .p .given .1) (start .pre .1 .2)))
+
+sweep-flag-behind-requires : (t : ℕ) → sweep-lts.Need-flag-behind-requires (given t) (sweep-at t) sweep.Post sweep-Inv-loop sweep-μ-loop
+sweep-flag-behind-requires t c κs = search needs
+
+sweep-cast-sweep-2 : (t : ℕ) → sweep-lts.Need-cast-sweep-2 (given t) (sweep-at t) sweep.Post sweep-Inv-loop sweep-μ-loop
+sweep-cast-sweep-2 t c = omega (arith, parts-lower t (c .before .before .before .before .before .before), line t (c .before .before .before .before .before .before .before .before) .low)
+
+sweep-sweep-requires-2 : (t : ℕ) → sweep-lts.Need-sweep-requires-2 (given t) (sweep-at t) sweep.Post sweep-Inv-loop sweep-μ-loop
+sweep-sweep-requires-2 t c κs =
+    let n = line t (c .before .before .before .before .before .before .before .before .before) in
+    let start = c .before .before .before .before .before .before .before .before .before .before .before .before .before in
+    let e = c .before .before .before .before .before .before .before .p .given .1 in
+    let one = c .before .before .before .before .sweep .ensures in
+    let h = parts-lower t (c .before .before .before .before .before .before .before) in
+    let further = one (seq-first n e (start .pre .1 .2)) .at-is in
+    (omega (arith, start .pre .0), (n .good, omega (arith, n .low), seq-second n e one (c .before .flag-behind .ensures) (start .pre .1 .2)))
+
+sweep-enum-known-p-2 : (t : ℕ) → sweep-lts.Need-enum-known-p-2 (given t) (sweep-at t) sweep.Post sweep-Inv-loop sweep-μ-loop
+sweep-enum-known-p-2 t c = search needs
+
+sweep-choose-requires : (t : ℕ) → sweep-lts.Need-choose-requires (given t) (sweep-at t) sweep.Post sweep-Inv-loop sweep-μ-loop
+sweep-choose-requires t c κs =
+    let n = line t (c .before .before .before .before) in
+    let s = c .before .before .before .before .before .before .before .before .pre .1 .2 in
+    let h = lower n (c .before .before .p2 .given .1) in
+    (omega (arith, s .enough, s .it .within), omega (arith, n .low), omega (arith, s .it .few))
+
+sweep-cast-sweep-3 : (t : ℕ) → sweep-lts.Need-cast-sweep-3 (given t) (sweep-at t) sweep.Post sweep-Inv-loop sweep-μ-loop
+sweep-cast-sweep-3 t c =
+    let n = line t (c .before .before .before .before .before .before .before) in
+    omega (arith, side-lower n (c .before .before .before .before .before .p2 .given .1) (c .before .before .choose .ensures), n .low)
+
+sweep-add-sweep : (t : ℕ) → sweep-lts.Need-add-sweep (given t) (sweep-at t) sweep.Post sweep-Inv-loop sweep-μ-loop
+sweep-add-sweep t c = omega (arith, c .before .before .before .before .before .before .before .before .before .before .before .before .pre .1 .2 .it .few)
+
+sweep-sweep-requires-3 : (t : ℕ) → sweep-lts.Need-sweep-requires-3 (given t) (sweep-at t) sweep.Post sweep-Inv-loop sweep-μ-loop
+sweep-sweep-requires-3 t c κs =
+    let n = line t (c .before .before .before .before .before .before .before .before) in
+    let start = c .before .before .before .before .before .before .before .before .before .before .before .before in
+    let e = c .before .before .before .before .before .before .p2 .given .1 in
+    let side = c .before .before .before .choose .ensures in
+    let h = side-lower n e side in
+    (omega (arith, start .pre .0), (n .good, omega (arith, n .low), side-ready n e side (start .pre .1 .2)))
+
+sweep-enum-known-p-3 : (t : ℕ) → sweep-lts.Need-enum-known-p-3 (given t) (sweep-at t) sweep.Post sweep-Inv-loop sweep-μ-loop
+sweep-enum-known-p-3 t c = search needs
+
+sweep-loop-holds : (t : ℕ) → sweep-lts.Need-loop-holds (given t) (sweep-at t) sweep.Post sweep-Inv-loop sweep-μ-loop
+sweep-loop-holds t c = λ s. going-start s _
+
+sweep-cast-is-open : (t : ℕ) → sweep-lts.Need-cast-is-open (given t) (sweep-at t) sweep.Post sweep-Inv-loop sweep-μ-loop
+sweep-cast-is-open t c = omega (arith, child-lower t (c .before .before), line t (c .before .before .before .before) .low)
+
+sweep-is-open-requires : (t : ℕ) → sweep-lts.Need-is-open-requires (given t) (sweep-at t) sweep.Post sweep-Inv-loop sweep-μ-loop
+sweep-is-open-requires t c κs =
+    let s = c .before .before .before .before .before .before .before .before .pre .1 .2 in
+    (omega (arith, s .enough, going t c .now .within), omega (arith, child-lower t (c .before .before), line t (c .before .before .before .before) .low))
+
+sweep-put-bit-requires : (t : ℕ) → sweep-lts.Need-put-bit-requires (given t) (sweep-at t) sweep.Post sweep-Inv-loop sweep-μ-loop
+sweep-put-bit-requires t c κs = omega (arith, going t (c .before .before .before) .now .few)
+
+sweep-cast-sweep-4 : (t : ℕ) → sweep-lts.Need-cast-sweep-4 (given t) (sweep-at t) sweep.Post sweep-Inv-loop sweep-μ-loop
+sweep-cast-sweep-4 t c = omega (arith, child-lower t (c .before .before .before .before .before .before .before .before), line t (c .before .before .before .before .before .before .before .before .before .before) .low)
+
+sweep-add-sweep-2 : (t : ℕ) → sweep-lts.Need-add-sweep-2 (given t) (sweep-at t) sweep.Post sweep-Inv-loop sweep-μ-loop
+sweep-add-sweep-2 t c = omega (arith, going t (c .before .before .before .before .before .before .before) .now .few)
+
+sweep-sweep-requires-4 : (t : ℕ) → sweep-lts.Need-sweep-requires-4 (given t) (sweep-at t) sweep.Post sweep-Inv-loop sweep-μ-loop
+sweep-sweep-requires-4 t c κs =
+    let n = line t (c .before .before .before .before .before .before .before .before .before .before .before) in
+    let start = c .before .before .before .before .before .before .before .before .before .before .before .before .before .before .before in
+    let h = child-lower t (c .before .before .before .before .before .before .before .before .before) in
+    let g = going t (c .before .before .before .before .before .before .before) in
+    let ready = round-ready n (c .before .before .before .before .before .before .before .before .before .p3 .given .1) (start .pre .1 .2) g (c .before .before .before .before .before .before .is-open .ensures) (c .before .before .before .before .before .if1 .taken) in
+    (omega (arith, start .pre .0, g .further), (n .good, omega (arith, n .low), ready))
+
+sweep-loop-less : (t : ℕ) → sweep-lts.Need-loop-less (given t) (sweep-at t) sweep.Post sweep-Inv-loop sweep-μ-loop
+sweep-loop-less t c =
+    let n = line t (c .before .before .before .before .before .before .before .before .before .before .before .before .before .before) in
+    let s = c .before .before .before .before .before .before .before .before .before .before .before .before .before .before .before .before .before .before .pre .1 .2 in
+    let g = going t (c .before .before .before .before .before .before .before .before .before .before) in
+    let asked = c .before .before .before .before .before .before .before .before .before .is-open .ensures in
+    let less = round-less n (c .before .before .before .before .before .before .before .before .before .before .before .before .p3 .given .1) s g asked (c .before .before .before .before .before .before .before .before .if1 .taken) (c .before .before .before .before .before .before .put-bit .ensures) (c .before .before .sweep4 .ensures) in
+    omega arith
+
+sweep-loop-again : (t : ℕ) → sweep-lts.Need-loop-again (given t) (sweep-at t) sweep.Post sweep-Inv-loop sweep-μ-loop
+sweep-loop-again t c = λ s.
+    let n = line t (c .before .before .before .before .before .before .before .before .before .before .before .before .before .before) in
+    let g = c .before .before .before .before .before .before .before .before .before .before .loop .inv s in
+    let asked = c .before .before .before .before .before .before .before .before .before .is-open .ensures in
+    round-done n (c .before .before .before .before .before .before .before .before .before .before .before .before .p3 .given .1) s g asked (c .before .before .before .before .before .before .before .before .if1 .taken) (c .before .before .before .before .before .before .put-bit .ensures) (c .before .before .sweep4 .ensures)
+
+sweep-stop-requires : (t : ℕ) → sweep-lts.Need-stop-requires (given t) (sweep-at t) sweep.Post sweep-Inv-loop sweep-μ-loop
+sweep-stop-requires t c κs = omega (arith, going t (c .before .before .before) .now .few)
+
+sweep-returns : (t : ℕ) → sweep-lts.Need-returns (given t) (sweep-at t) sweep.Post sweep-Inv-loop sweep-μ-loop
+sweep-returns t c = leaf-done (line t (c .before .before .before .before .before .before .before)) (c .before .before .before .before .before .leaf .given .1) (c .before .before .sweep-leaf .ensures)
+
+sweep-same-length : (t : ℕ) → sweep-lts.Need-same-length (given t) (sweep-at t) sweep.Post sweep-Inv-loop sweep-μ-loop
+sweep-same-length t c = sweep-returns t c (c .before .before .before .before .before .before .before .before .before .before .before .pre .1 .2) .as-long
+
+sweep-returns-2 : (t : ℕ) → sweep-lts.Need-returns-2 (given t) (sweep-at t) sweep.Post sweep-Inv-loop sweep-μ-loop
+sweep-returns-2 t c = seq-done (line t (c .before .before .before .before .before .before .before .before .before .before .before .before)) (c .before .before .before .before .before .before .before .before .before .before .p .given .1) (c .before .before .before .before .before .before .before .sweep .ensures) (c .before .before .before .before .flag-behind .ensures) (c .before .before .sweep2 .ensures)
+
+sweep-same-length-2 : (t : ℕ) → sweep-lts.Need-same-length-2 (given t) (sweep-at t) sweep.Post sweep-Inv-loop sweep-μ-loop
+sweep-same-length-2 t c = sweep-returns-2 t c (c .before .before .before .before .before .before .before .before .before .before .before .before .before .before .before .before .pre .1 .2) .as-long
+
+sweep-returns-3 : (t : ℕ) → sweep-lts.Need-returns-3 (given t) (sweep-at t) sweep.Post sweep-Inv-loop sweep-μ-loop
+sweep-returns-3 t c = λ s. side-done (line t (c .before .before .before .before .before .before .before .before .before .before .before)) (c .before .before .before .before .before .before .before .before .before .p2 .given .1) (c .before .before .before .before .before .before .choose .ensures) s (c .before .before .sweep3 .ensures)
+
+sweep-same-length-3 : (t : ℕ) → sweep-lts.Need-same-length-3 (given t) (sweep-at t) sweep.Post sweep-Inv-loop sweep-μ-loop
+sweep-same-length-3 t c = sweep-returns-3 t c (c .before .before .before .before .before .before .before .before .before .before .before .before .before .before .before .pre .1 .2) .as-long
+
+sweep-returns-4 : (t : ℕ) → sweep-lts.Need-returns-4 (given t) (sweep-at t) sweep.Post sweep-Inv-loop sweep-μ-loop
+sweep-returns-4 t c = λ s.
+    let g = c .before .before .before .before .before .before .loop .inv s in
+    star-stop (line t (c .before .before .before .before .before .before .before .before .before .before)) (c .before .before .before .before .before .before .before .before .p3 .given .1) s g (c .before .before .before .before .before .is-open .ensures) (c .before .before .before .before .if1 .left) (c .before .before .stop .ensures)
+
+sweep-same-length-4 : (t : ℕ) → sweep-lts.Need-same-length-4 (given t) (sweep-at t) sweep.Post sweep-Inv-loop sweep-μ-loop
+sweep-same-length-4 t c = sweep-returns-4 t c (c .before .before .before .before .before .before .before .before .before .before .before .before .before .before .pre .1 .2) .as-long
+
+pub +sweep-spec : {M : Type 1} → statement M
++sweep-spec = close μ-sweep λ t. sweep-lts.spec (given t)
+    (sweep-at t)
+    sweep.Post
+    sweep-Inv-loop
+    sweep-μ-loop
+    (sweep-node-at-requires t)
+    (sweep-enum-known-leaf t)
+    (sweep-sweep-leaf-requires t)
+    (sweep-enum-known-p t)
+    (sweep-cast-sweep t)
+    (sweep-sweep-requires t)
+    (sweep-flag-behind-requires t)
+    (sweep-cast-sweep-2 t)
+    (sweep-sweep-requires-2 t)
+    (sweep-enum-known-p-2 t)
+    (sweep-choose-requires t)
+    (sweep-cast-sweep-3 t)
+    (sweep-add-sweep t)
+    (sweep-sweep-requires-3 t)
+    (sweep-enum-known-p-3 t)
+    (sweep-loop-holds t)
+    (sweep-cast-is-open t)
+    (sweep-is-open-requires t)
+    (sweep-put-bit-requires t)
+    (sweep-cast-sweep-4 t)
+    (sweep-add-sweep-2 t)
+    (sweep-sweep-requires-4 t)
+    (sweep-loop-less t)
+    (sweep-loop-again t)
+    (sweep-stop-requires t)
+    (sweep-same-length t)
+    (sweep-returns t)
+    (sweep-same-length-2 t)
+    (sweep-returns-2 t)
+    (sweep-same-length-3 t)
+    (sweep-returns-3 t)
+    (sweep-same-length-4 t)
+    (sweep-returns-4 t)
