@@ -19,7 +19,8 @@ use Rattle.table.specs.CellLaws.{line-tree, line-lower, line-index}
 use Rattle.semantics.specs.Value.{nonempty}
 use Rattle.second_sweep.specs.declared.Swept.{Swept}
 use Rattle.second_sweep.specs.Sweeping.{put, is-open, Chooses, Stops, Wrote, Can-sweep, leaf-tree, Leaf-ready, Leaf-swept, Ready, Swept-all}
-use Rattle.second_sweep.specs.SweepLaws.{wrote-then, wrote-put, wrote-same, wrote-none, put-long, Seq-way, seq-way, Side-way, side-way, Round-way, round-way, stop-way}
+use Rattle.second_sweep.specs.SweepLaws.{wrote-then, wrote-put, wrote-same, wrote-none, put-long}
+use Rattle.second_sweep.specs.SweepLaws.{Seq-way, seq-way, Side-way, side-way, Round-way, round-way, stop-way}
 
 leaf-made : (m : Label) (f : ℕ → Tree) (x : Leaf) → made m f (Leaf-node x) ≡ leaf-tree m x
 leaf-made m f Nothing = refl

@@ -20,7 +20,9 @@ shr-result : tie.Need-shr-result
 shr-result c = search needs
 
 returns : tie.Need-returns
-returns c = word-one (c .before .before .args .words .now) (c .before .before .args .i) (c .before .before .args .taken) (c .before .before .args .l) (c .before .if1 .taken)
+returns c =
+    let c2 = c .before .before in
+    word-one (c2 .args .words .now) (c2 .args .i) (c2 .args .taken) (c2 .args .l) (c .before .if1 .taken)
 
 mul-result-3 : tie.Need-mul-result-3
 mul-result-3 c = search needs
@@ -35,7 +37,9 @@ shr-result-2 : tie.Need-shr-result-2
 shr-result-2 c = search needs
 
 returns-2 : tie.Need-returns-2
-returns-2 c = word-zero (c .before .before .args .words .now) (c .before .before .args .i) (c .before .before .args .taken) (c .before .before .args .l) (c .before .if1 .left)
+returns-2 c =
+    let c2 = c .before .before in
+    word-zero (c2 .args .words .now) (c2 .args .i) (c2 .args .taken) (c2 .args .l) (c .before .if1 .left)
 
 pub is-open-spec : {M : Type 1} → statement M
 is-open-spec =

@@ -37,7 +37,24 @@ sweep-below t = and 4 sweep-kinds.ps (falls 4 sweep-kinds.ps _<_ μ-sweep t) swe
 
 -- what the callees promise, and `sweep` itself below the measure t
 abbrev given : ℕ → sweep-lts.Claims
-given t = (node-at-reads.Asked, node-at-reads.Learnt, sweep-leaf-reads.Asked, sweep-leaf-reads.Learnt, sweep-below t, sweep.Post, flag-behind-reads.Asked, flag-behind-reads.Learnt, choose-reads.Asked, choose-reads.Learnt, is-open-reads.Asked, is-open-reads.Learnt, put-bit-reads.Asked, put-bit-reads.Learnt, stop-reads.Asked, stop-reads.Learnt)
+given t = (
+  node-at-reads.Asked,
+  node-at-reads.Learnt,
+  sweep-leaf-reads.Asked,
+  sweep-leaf-reads.Learnt,
+  sweep-below t,
+  sweep.Post,
+  flag-behind-reads.Asked,
+  flag-behind-reads.Learnt,
+  choose-reads.Asked,
+  choose-reads.Learnt,
+  is-open-reads.Asked,
+  is-open-reads.Learnt,
+  put-bit-reads.Asked,
+  put-bit-reads.Learnt,
+  stop-reads.Asked,
+  stop-reads.Learnt,
+)
 
 abbrev sweep-Inv-loop : sweep-lts.InvT-loop
 sweep-Inv-loop table words tape l i taken code₀ at p j₀ bit₀ code j bit = (s : Ready table words tape l i taken at) → Going s code₀ code j bit
@@ -47,7 +64,8 @@ sweep-μ-loop table words tape l i taken code₀ at p j₀ bit₀ code j bit = l
 
 -- the line's node
 abbrev line : (t : ℕ) (c : sweep-lts.After-node-at (given t) (sweep-at t) sweep.Post sweep-Inv-loop sweep-μ-loop) →
-    Line-node (c .before .before .before .before .args .table .now) (c .before .before .before .before .args .l) (c .node-at .result)
+    let start = c .before .before .before .before in
+    Line-node (start .args .table .now) (start .args .l) (c .node-at .result)
 line t c =
     let start = c .before .before .before .before in
     record { good = start .pre .1 .0; low = start .pre .1 .1; is = c .node-at .ensures }
@@ -77,8 +95,9 @@ sweep-enum-known-leaf t c = search needs
 
 sweep-sweep-leaf-requires : (t : ℕ) → sweep-lts.Need-sweep-leaf-requires (given t) (sweep-at t) sweep.Post sweep-Inv-loop sweep-μ-loop
 sweep-sweep-leaf-requires t c κs =
-    let start = c .before .before .before .before .before .before .before .before in
-    leaf-ready (line t (c .before .before .before .before)) (c .before .before .leaf .given .1) (start .pre .1 .2)
+    let kind = c .before .before in
+    let node = kind .before .before in
+    leaf-ready (line t node) (kind .leaf .given .1) (node .before .before .before .before .pre .1 .2)
 
 sweep-enum-known-p : (t : ℕ) → sweep-lts.Need-enum-known-p (given t) (sweep-at t) sweep.Post sweep-Inv-loop sweep-μ-loop
 sweep-enum-known-p t c = search needs
@@ -88,51 +107,67 @@ sweep-cast-sweep t c = omega (arith, parts-lower t (c .before), line t (c .befor
 
 sweep-sweep-requires : (t : ℕ) → sweep-lts.Need-sweep-requires (given t) (sweep-at t) sweep.Post sweep-Inv-loop sweep-μ-loop
 sweep-sweep-requires t c κs =
-    let n = line t (c .before .before .before .before) in
-    let start = c .before .before .before .before .before .before .before .before in
-    let h = parts-lower t (c .before .before) in
-    (omega (arith, start .pre .0), (n .good, omega (arith, n .low), seq-first n (c .before .before .p .given .1) (start .pre .1 .2)))
+    let kind = c .before .before in
+    let node = kind .before .before in
+    let n = line t node in
+    let start = node .before .before .before .before in
+    let h = parts-lower t kind in
+    (omega (arith, start .pre .0), (n .good, omega (arith, n .low), seq-first n (kind .p .given .1) (start .pre .1 .2)))
 
 sweep-flag-behind-requires : (t : ℕ) → sweep-lts.Need-flag-behind-requires (given t) (sweep-at t) sweep.Post sweep-Inv-loop sweep-μ-loop
 sweep-flag-behind-requires t c κs = search needs
 
 sweep-cast-sweep-2 : (t : ℕ) → sweep-lts.Need-cast-sweep-2 (given t) (sweep-at t) sweep.Post sweep-Inv-loop sweep-μ-loop
-sweep-cast-sweep-2 t c = omega (arith, parts-lower t (c .before .before .before .before .before .before), line t (c .before .before .before .before .before .before .before .before) .low)
+sweep-cast-sweep-2 t c =
+    let kind = c .before .before .before .before .before .before in
+    omega (arith, parts-lower t kind, line t (kind .before .before) .low)
 
 sweep-sweep-requires-2 : (t : ℕ) → sweep-lts.Need-sweep-requires-2 (given t) (sweep-at t) sweep.Post sweep-Inv-loop sweep-μ-loop
 sweep-sweep-requires-2 t c κs =
-    let n = line t (c .before .before .before .before .before .before .before .before .before) in
-    let start = c .before .before .before .before .before .before .before .before .before .before .before .before .before in
-    let e = c .before .before .before .before .before .before .before .p .given .1 in
-    let one = c .before .before .before .before .sweep .ensures in
-    let h = parts-lower t (c .before .before .before .before .before .before .before) in
-    let further = one (seq-first n e (start .pre .1 .2)) .at-is in
-    (omega (arith, start .pre .0), (n .good, omega (arith, n .low), seq-second n e one (c .before .flag-behind .ensures) (start .pre .1 .2)))
+    let one = c .before .before .before .before in
+    let kind = one .before .before .before in
+    let node = kind .before .before in
+    let n = line t node in
+    let start = node .before .before .before .before in
+    let e = kind .p .given .1 in
+    let h = parts-lower t kind in
+    let further = one .sweep .ensures (seq-first n e (start .pre .1 .2)) .at-is in
+    let ready = seq-second n e (one .sweep .ensures) (c .before .flag-behind .ensures) (start .pre .1 .2) in
+    (omega (arith, start .pre .0), (n .good, omega (arith, n .low), ready))
 
 sweep-enum-known-p-2 : (t : ℕ) → sweep-lts.Need-enum-known-p-2 (given t) (sweep-at t) sweep.Post sweep-Inv-loop sweep-μ-loop
 sweep-enum-known-p-2 t c = search needs
 
 sweep-choose-requires : (t : ℕ) → sweep-lts.Need-choose-requires (given t) (sweep-at t) sweep.Post sweep-Inv-loop sweep-μ-loop
 sweep-choose-requires t c κs =
-    let n = line t (c .before .before .before .before) in
-    let s = c .before .before .before .before .before .before .before .before .pre .1 .2 in
-    let h = lower n (c .before .before .p2 .given .1) in
+    let kind = c .before .before in
+    let node = kind .before .before in
+    let n = line t node in
+    let s = node .before .before .before .before .pre .1 .2 in
+    let h = lower n (kind .p2 .given .1) in
     (omega (arith, s .enough, s .it .within), omega (arith, n .low), omega (arith, s .it .few))
 
 sweep-cast-sweep-3 : (t : ℕ) → sweep-lts.Need-cast-sweep-3 (given t) (sweep-at t) sweep.Post sweep-Inv-loop sweep-μ-loop
 sweep-cast-sweep-3 t c =
-    let n = line t (c .before .before .before .before .before .before .before) in
-    omega (arith, side-lower n (c .before .before .before .before .before .p2 .given .1) (c .before .before .choose .ensures), n .low)
+    let chosen = c .before .before in
+    let kind = chosen .before .before .before in
+    let n = line t (kind .before .before) in
+    omega (arith, side-lower n (kind .p2 .given .1) (chosen .choose .ensures), n .low)
 
 sweep-add-sweep : (t : ℕ) → sweep-lts.Need-add-sweep (given t) (sweep-at t) sweep.Post sweep-Inv-loop sweep-μ-loop
-sweep-add-sweep t c = omega (arith, c .before .before .before .before .before .before .before .before .before .before .before .before .pre .1 .2 .it .few)
+sweep-add-sweep t c =
+    let start = c .before .before .before .before .before .before .before .before .before .before .before .before in
+    omega (arith, start .pre .1 .2 .it .few)
 
 sweep-sweep-requires-3 : (t : ℕ) → sweep-lts.Need-sweep-requires-3 (given t) (sweep-at t) sweep.Post sweep-Inv-loop sweep-μ-loop
 sweep-sweep-requires-3 t c κs =
-    let n = line t (c .before .before .before .before .before .before .before .before) in
-    let start = c .before .before .before .before .before .before .before .before .before .before .before .before in
-    let e = c .before .before .before .before .before .before .p2 .given .1 in
-    let side = c .before .before .before .choose .ensures in
+    let chosen = c .before .before .before in
+    let kind = chosen .before .before .before in
+    let node = kind .before .before in
+    let n = line t node in
+    let start = node .before .before .before .before in
+    let e = kind .p2 .given .1 in
+    let side = chosen .choose .ensures in
     let h = side-lower n e side in
     (omega (arith, start .pre .0), (n .good, omega (arith, n .low), side-ready n e side (start .pre .1 .2)))
 
@@ -147,71 +182,112 @@ sweep-cast-is-open t c = omega (arith, child-lower t (c .before .before), line t
 
 sweep-is-open-requires : (t : ℕ) → sweep-lts.Need-is-open-requires (given t) (sweep-at t) sweep.Post sweep-Inv-loop sweep-μ-loop
 sweep-is-open-requires t c κs =
-    let s = c .before .before .before .before .before .before .before .before .pre .1 .2 in
-    (omega (arith, s .enough, going t c .now .within), omega (arith, child-lower t (c .before .before), line t (c .before .before .before .before) .low))
+    let node = c .before .before .before .before in
+    let s = node .before .before .before .before .pre .1 .2 in
+    (omega (arith, s .enough, going t c .now .within), omega (arith, child-lower t (c .before .before), line t node .low))
 
 sweep-put-bit-requires : (t : ℕ) → sweep-lts.Need-put-bit-requires (given t) (sweep-at t) sweep.Post sweep-Inv-loop sweep-μ-loop
 sweep-put-bit-requires t c κs = omega (arith, going t (c .before .before .before) .now .few)
 
 sweep-cast-sweep-4 : (t : ℕ) → sweep-lts.Need-cast-sweep-4 (given t) (sweep-at t) sweep.Post sweep-Inv-loop sweep-μ-loop
-sweep-cast-sweep-4 t c = omega (arith, child-lower t (c .before .before .before .before .before .before .before .before), line t (c .before .before .before .before .before .before .before .before .before .before) .low)
+sweep-cast-sweep-4 t c =
+    let kind = c .before .before .before .before .before .before .before .before in
+    omega (arith, child-lower t kind, line t (kind .before .before) .low)
 
 sweep-add-sweep-2 : (t : ℕ) → sweep-lts.Need-add-sweep-2 (given t) (sweep-at t) sweep.Post sweep-Inv-loop sweep-μ-loop
 sweep-add-sweep-2 t c = omega (arith, going t (c .before .before .before .before .before .before .before) .now .few)
 
 sweep-sweep-requires-4 : (t : ℕ) → sweep-lts.Need-sweep-requires-4 (given t) (sweep-at t) sweep.Post sweep-Inv-loop sweep-μ-loop
 sweep-sweep-requires-4 t c κs =
-    let n = line t (c .before .before .before .before .before .before .before .before .before .before .before) in
-    let start = c .before .before .before .before .before .before .before .before .before .before .before .before .before .before .before in
-    let h = child-lower t (c .before .before .before .before .before .before .before .before .before) in
-    let g = going t (c .before .before .before .before .before .before .before) in
-    let ready = round-ready n (c .before .before .before .before .before .before .before .before .before .p3 .given .1) (start .pre .1 .2) g (c .before .before .before .before .before .before .is-open .ensures) (c .before .before .before .before .before .if1 .taken) in
+    let test = c .before .before .before .before .before in
+    let turn = test .before .before in
+    let kind = turn .before .before in
+    let node = kind .before .before in
+    let n = line t node in
+    let start = node .before .before .before .before in
+    let h = child-lower t kind in
+    let g = going t turn in
+    let ready = round-ready n (kind .p3 .given .1) (start .pre .1 .2) g (test .before .is-open .ensures) (test .if1 .taken) in
     (omega (arith, start .pre .0, g .further), (n .good, omega (arith, n .low), ready))
 
 sweep-loop-less : (t : ℕ) → sweep-lts.Need-loop-less (given t) (sweep-at t) sweep.Post sweep-Inv-loop sweep-μ-loop
 sweep-loop-less t c =
-    let n = line t (c .before .before .before .before .before .before .before .before .before .before .before .before .before .before) in
-    let s = c .before .before .before .before .before .before .before .before .before .before .before .before .before .before .before .before .before .before .pre .1 .2 in
-    let g = going t (c .before .before .before .before .before .before .before .before .before .before) in
-    let asked = c .before .before .before .before .before .before .before .before .before .is-open .ensures in
-    let less = round-less n (c .before .before .before .before .before .before .before .before .before .before .before .before .p3 .given .1) s g asked (c .before .before .before .before .before .before .before .before .if1 .taken) (c .before .before .before .before .before .before .put-bit .ensures) (c .before .before .sweep4 .ensures) in
+    let one = c .before .before in
+    let put = one .before .before .before .before in
+    let test = put .before .before in
+    let turn = test .before .before in
+    let kind = turn .before .before in
+    let node = kind .before .before in
+    let asked = test .before .is-open .ensures in
+    let s = node .before .before .before .before .pre .1 .2 in
+    let e = kind .p3 .given .1 in
+    let less = round-less (line t node) e s (going t turn) asked (test .if1 .taken) (put .put-bit .ensures) (one .sweep4 .ensures) in
     omega arith
 
 sweep-loop-again : (t : ℕ) → sweep-lts.Need-loop-again (given t) (sweep-at t) sweep.Post sweep-Inv-loop sweep-μ-loop
-sweep-loop-again t c = λ s.
-    let n = line t (c .before .before .before .before .before .before .before .before .before .before .before .before .before .before) in
-    let g = c .before .before .before .before .before .before .before .before .before .before .loop .inv s in
-    let asked = c .before .before .before .before .before .before .before .before .before .is-open .ensures in
-    round-done n (c .before .before .before .before .before .before .before .before .before .before .before .before .p3 .given .1) s g asked (c .before .before .before .before .before .before .before .before .if1 .taken) (c .before .before .before .before .before .before .put-bit .ensures) (c .before .before .sweep4 .ensures)
+sweep-loop-again t c =
+    let one = c .before .before in
+    let put = one .before .before .before .before in
+    let test = put .before .before in
+    let turn = test .before .before in
+    let kind = turn .before .before in
+    let node = kind .before .before in
+    let asked = test .before .is-open .ensures in
+    λ s. round-done (line t node) (kind .p3 .given .1) s (turn .loop .inv s) asked (test .if1 .taken) (put .put-bit .ensures) (one .sweep4 .ensures)
 
 sweep-stop-requires : (t : ℕ) → sweep-lts.Need-stop-requires (given t) (sweep-at t) sweep.Post sweep-Inv-loop sweep-μ-loop
 sweep-stop-requires t c κs = omega (arith, going t (c .before .before .before) .now .few)
 
 sweep-returns : (t : ℕ) → sweep-lts.Need-returns (given t) (sweep-at t) sweep.Post sweep-Inv-loop sweep-μ-loop
-sweep-returns t c = leaf-done (line t (c .before .before .before .before .before .before .before)) (c .before .before .before .before .before .leaf .given .1) (c .before .before .sweep-leaf .ensures)
+sweep-returns t c =
+    let leaf = c .before .before in
+    let kind = leaf .before .before .before in
+    leaf-done (line t (kind .before .before)) (kind .leaf .given .1) (leaf .sweep-leaf .ensures)
 
 sweep-same-length : (t : ℕ) → sweep-lts.Need-same-length (given t) (sweep-at t) sweep.Post sweep-Inv-loop sweep-μ-loop
-sweep-same-length t c = sweep-returns t c (c .before .before .before .before .before .before .before .before .before .before .before .pre .1 .2) .as-long
+sweep-same-length t c =
+    let start = c .before .before .before .before .before .before .before .before .before .before .before in
+    sweep-returns t c (start .pre .1 .2) .as-long
 
 sweep-returns-2 : (t : ℕ) → sweep-lts.Need-returns-2 (given t) (sweep-at t) sweep.Post sweep-Inv-loop sweep-μ-loop
-sweep-returns-2 t c = seq-done (line t (c .before .before .before .before .before .before .before .before .before .before .before .before)) (c .before .before .before .before .before .before .before .before .before .before .p .given .1) (c .before .before .before .before .before .before .before .sweep .ensures) (c .before .before .before .before .flag-behind .ensures) (c .before .before .sweep2 .ensures)
+sweep-returns-2 t c =
+    let two = c .before .before in
+    let flag = two .before .before in
+    let one = flag .before .before .before in
+    let kind = one .before .before .before in
+    seq-done (line t (kind .before .before)) (kind .p .given .1) (one .sweep .ensures) (flag .flag-behind .ensures) (two .sweep2 .ensures)
 
 sweep-same-length-2 : (t : ℕ) → sweep-lts.Need-same-length-2 (given t) (sweep-at t) sweep.Post sweep-Inv-loop sweep-μ-loop
-sweep-same-length-2 t c = sweep-returns-2 t c (c .before .before .before .before .before .before .before .before .before .before .before .before .before .before .before .before .pre .1 .2) .as-long
+sweep-same-length-2 t c =
+    let start = c .before .before .before .before .before .before .before .before .before .before .before .before .before .before .before .before in
+    sweep-returns-2 t c (start .pre .1 .2) .as-long
 
 sweep-returns-3 : (t : ℕ) → sweep-lts.Need-returns-3 (given t) (sweep-at t) sweep.Post sweep-Inv-loop sweep-μ-loop
-sweep-returns-3 t c = λ s. side-done (line t (c .before .before .before .before .before .before .before .before .before .before .before)) (c .before .before .before .before .before .before .before .before .before .p2 .given .1) (c .before .before .before .before .before .before .choose .ensures) s (c .before .before .sweep3 .ensures)
+sweep-returns-3 t c =
+    let swept = c .before .before in
+    let chosen = swept .before .before .before .before in
+    let kind = chosen .before .before .before in
+    λ s. side-done (line t (kind .before .before)) (kind .p2 .given .1) (chosen .choose .ensures) s (swept .sweep3 .ensures)
 
 sweep-same-length-3 : (t : ℕ) → sweep-lts.Need-same-length-3 (given t) (sweep-at t) sweep.Post sweep-Inv-loop sweep-μ-loop
-sweep-same-length-3 t c = sweep-returns-3 t c (c .before .before .before .before .before .before .before .before .before .before .before .before .before .before .before .pre .1 .2) .as-long
+sweep-same-length-3 t c =
+    let start = c .before .before .before .before .before .before .before .before .before .before .before .before .before .before .before in
+    sweep-returns-3 t c (start .pre .1 .2) .as-long
 
 sweep-returns-4 : (t : ℕ) → sweep-lts.Need-returns-4 (given t) (sweep-at t) sweep.Post sweep-Inv-loop sweep-μ-loop
-sweep-returns-4 t c = λ s.
-    let g = c .before .before .before .before .before .before .loop .inv s in
-    star-stop (line t (c .before .before .before .before .before .before .before .before .before .before)) (c .before .before .before .before .before .before .before .before .p3 .given .1) s g (c .before .before .before .before .before .is-open .ensures) (c .before .before .before .before .if1 .left) (c .before .before .stop .ensures)
+sweep-returns-4 t c =
+    let stopped = c .before .before in
+    let test = stopped .before .before in
+    let turn = test .before .before in
+    let kind = turn .before .before in
+    let n = line t (kind .before .before) in
+    let asked = test .before .is-open .ensures in
+    λ s. star-stop n (kind .p3 .given .1) s (turn .loop .inv s) asked (test .if1 .left) (stopped .stop .ensures)
 
 sweep-same-length-4 : (t : ℕ) → sweep-lts.Need-same-length-4 (given t) (sweep-at t) sweep.Post sweep-Inv-loop sweep-μ-loop
-sweep-same-length-4 t c = sweep-returns-4 t c (c .before .before .before .before .before .before .before .before .before .before .before .before .before .before .pre .1 .2) .as-long
+sweep-same-length-4 t c =
+    let start = c .before .before .before .before .before .before .before .before .before .before .before .before .before .before in
+    sweep-returns-4 t c (start .pre .1 .2) .as-long
 
 pub +sweep-spec : {M : Type 1} → statement M
 +sweep-spec = close μ-sweep λ t. sweep-lts.spec (given t)

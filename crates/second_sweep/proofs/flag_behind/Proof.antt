@@ -1,4 +1,4 @@
--- `sweep::flag_behind` meets its contract.
+-- `second_sweep::flag_behind` meets its contract.
 use borrow.Author.Needs.{needs}
 use Rattle.second_sweep.proofs.flag_behind.Statement.{statement}
 use Rattle.second_sweep.proofs.flag_behind.Tie as tie

@@ -1,4 +1,4 @@
--- `sweep::put_bit` meets its contract.
+-- `second_sweep::put_bit` meets its contract.
 use mathlib.Core.List.{[], _∷_}
 use native.Mathlib.Omega.{arith}
 use mathlib.Core.Path.{_∙_}
@@ -14,10 +14,15 @@ same-length : tie.Need-same-length
 same-length c = search needs
 
 returns : tie.Need-returns
-returns c = c .before .before .set-bit .ensures ∙ put-fits (c .before .before .before .before .before .before .args .code .now) (c .before .before .before .before .before .before .args .at) (c .before .before .before .before .before .before .args .value ∷ []) (omega arith)
+returns c =
+    let put = c .before .before in
+    let args = put .before .before .before .before .args in
+    put .set-bit .ensures ∙ put-fits (args .code .now) (args .at) (args .value ∷ []) (omega arith)
 
 returns-2 : tie.Need-returns-2
-returns-2 c = put-not (c .before .before .args .code .now) (c .before .before .args .at) (c .before .before .args .value ∷ []) (omega arith)
+returns-2 c =
+    let args = c .before .before .args in
+    put-not (args .code .now) (args .at) (args .value ∷ []) (omega arith)
 
 pub put-bit-spec : {M : Type 1} → statement M
 put-bit-spec = tie.close (tie.spec set-bit-requires same-length returns returns-2)

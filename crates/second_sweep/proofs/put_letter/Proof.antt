@@ -1,4 +1,4 @@
--- `sweep::put_letter` meets its contract.
+-- `second_sweep::put_letter` meets its contract.
 use Rattle.bits.specs.Numbers.{length-bits-of}
 use Rattle.bits.specs.Bits.{bits-of}
 use native.Mathlib.Omega.{arith}
@@ -18,10 +18,16 @@ same-length : tie.Need-same-length
 same-length c = search needs
 
 returns : tie.Need-returns
-returns c = c .before .before .set-byte .ensures ∙ put-fits (c .before .before .before .before .before .before .args .code .now) (c .before .before .before .before .before .before .args .at) (bits-of 8 (c .before .before .before .before .before .before .args .value)) (omega (arith, length-bits-of 8 (c .before .before .before .before .before .before .args .value)))
+returns c =
+    let put = c .before .before in
+    let args = put .before .before .before .before .args in
+    let bits = bits-of 8 (args .value) in
+    put .set-byte .ensures ∙ put-fits (args .code .now) (args .at) bits (omega (arith, length-bits-of 8 (args .value)))
 
 returns-2 : tie.Need-returns-2
-returns-2 c = put-not (c .before .before .args .code .now) (c .before .before .args .at) (bits-of 8 (c .before .before .args .value)) (omega (arith, length-bits-of 8 (c .before .before .args .value)))
+returns-2 c =
+    let args = c .before .before .args in
+    put-not (args .code .now) (args .at) (bits-of 8 (args .value)) (omega (arith, length-bits-of 8 (args .value)))
 
 pub put-letter-spec : {M : Type 1} → statement M
 put-letter-spec = tie.close (tie.spec add-if1 set-byte-requires same-length returns returns-2)

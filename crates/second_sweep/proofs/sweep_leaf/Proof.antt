@@ -1,5 +1,4 @@
--- `sweep::sweep_leaf` meets its contract.
-use mathlib.Core.Path.{ap}
+-- `second_sweep::sweep_leaf` meets its contract.
 use Rattle.second_sweep.specs.SweepLaws.{leaf-nothing, leaf-letter, leaf-range, range-few}
 use borrow.Author.Needs.{needs}
 use Rattle.second_sweep.proofs.sweep_leaf.Statement.{statement}
@@ -18,7 +17,11 @@ enum-told-3 : tie.Need-enum-told-3
 enum-told-3 c = search needs
 
 shared-slice-read-put-letter : tie.Need-shared-slice-read-put-letter
-shared-slice-read-put-letter c = range-few (c .before .before .before .before .before .before .args .tape .now) (c .before .before .before .before .before .before .args .i) (c .before .before .before .before .before .before .args .at) (c .before .before .before .before .before .before .args .code .now) _ _ (rw (c .before .before .enum-told3 .given .1) at (c .before .before .before .before .before .before .pre)) .0
+shared-slice-read-put-letter c =
+    let kind = c .before .before in
+    let start = kind .before .before .before .before in
+    let ready = rw (kind .enum-told3 .given .1) at (start .pre) in
+    range-few (start .args .tape .now) (start .args .i) (start .args .at) (start .args .code .now) _ _ ready .0
 
 put-letter-requires : tie.Need-put-letter-requires
 put-letter-requires c κs = search needs
@@ -39,7 +42,12 @@ same-length : tie.Need-same-length
 same-length c = search needs
 
 returns-3 : tie.Need-returns-3
-returns-3 c = rw (c .before .before .before .before .before .enum-told3 .given .1, c .before .before .put-letter .ensures) (leaf-range (c .before .before .before .before .before .before .before .before .before .args .tape .now) (c .before .before .before .before .before .before .before .before .before .args .i) (c .before .before .before .before .before .before .before .before .before .args .at) (c .before .before .before .before .before .before .before .before .before .args .code .now) _ _)
+returns-3 c =
+    let put = c .before .before in
+    let kind = put .before .before .before in
+    let args = kind .before .before .before .before .args in
+    rw (kind .enum-told3 .given .1, put .put-letter .ensures)
+    (leaf-range (args .tape .now) (args .i) (args .at) (args .code .now) _ _)
 
 pub sweep-leaf-spec : {M : Type 1} → statement M
 sweep-leaf-spec =
