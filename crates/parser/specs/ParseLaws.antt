@@ -1,5 +1,5 @@
 -- Laws of reading a tape: one for each way of the code.
-use mathlib.Core.Path.{_≡_, refl, sym, ap, _∙_}
+use mathlib.Core.Path.{_≡_, refl, sym, ap, subst, _∙_}
 use mathlib.Core.Bool.{Bool, true, false, true≢false, false≢true}
 use mathlib.Core.Logic.{_↔_}
 use mathlib.Core.List.{List, [], _∷_, _++_, append-nil}
@@ -17,13 +17,12 @@ use Rattle.syntax.specs.Tree.{Tree, nothing, letter, range, seq, alt, star, ind
 use Rattle.syntax.specs.Trees.{root, tree-of}
 use Rattle.syntax.specs.TreeLaws.{Rules, obeys-iff, weight, sum-to, root-weight, tree-line, made-index}
 use Rattle.syntax.specs.LetterLaws.{all-letters}
-use Rattle.bits.specs.Bits.{bit, test-bit, cell-count, in-front, write}
+use Rattle.bits.specs.Bits.{bit, test-bit, cell-count, in-front, byte-limit}
 use Rattle.bits.specs.Writing.{write-start}
-use Rattle.table.specs.declared.Columns.{Columns}
-use Rattle.table.specs.Columns.{Holds}
-use Rattle.table.specs.ColumnLaws.{holds-tree}
+use Rattle.table.specs.Cells.{Holds}
+use Rattle.table.specs.CellLaws.{holds-tree}
 use Rattle.semantics.specs.Value.{Value, flat}
-use Rattle.semantics.specs.Code.{Canonical, code, choices}
+use Rattle.semantics.specs.Code.{Canonical, code, choices, code-limit}
 use Rattle.semantics.specs.Automaton.{Location, top, fst, snd, lft, rgt, rnd}
 use Rattle.semantics.specs.Sweeps.{can, at-end, readable, greedy}
 use Rattle.semantics.specs.AutomatonLaws.{after}
@@ -36,13 +35,13 @@ use Rattle.first_sweep.specs.Meaning.{words-length, words-at}
 use Rattle.first_sweep.specs.Fill.{Fillable}
 use Rattle.second_sweep.specs.declared.Swept.{Swept}
 use Rattle.second_sweep.specs.Parts.{Sweeps}
-use Rattle.second_sweep.specs.Sweeping.{Knows, Ready, Wrote}
+use Rattle.second_sweep.specs.Sweeping.{Own, Knows, Wrote}
 use Rattle.parser.specs.declared.Parsed.{Parsed}
 use Rattle.parser.specs.declared.Parsed.the-variants.{Bits, Refused}
 use Rattle.parser.specs.Parse.{parsed-answer, early, Reads-greedily, Parses-by, Parses}
-use Rattle.parser.specs.Writing.{missing, Missing, Writable, Writes}
+use Rattle.parser.specs.Writing.{First-swept, missing, Writable, Writes}
 
--- ── the marks of a position ──
+-- ── the state sets of a position ──
 pub filled-at : (p : Pattern) (tape ws : List ℕ) (i : ℕ) → i ≤ length tape → (b : Bool) → getD (in-front (words p tape) ws) (2 * i + bit b) 0 ≡ state-set p b (drop i tape)
 unfolding in-front
 filled-at p tape ws i l b = List·getD-append (words p tape) (drop (length (words p tape)) ws) 0 (2 * i + bit b) (below b) ∙ words-at p tape i b l
@@ -84,7 +83,7 @@ pub root-choices : (p : Pattern) → obeys p ≡ true → choices (root p) ≤ 6
 root-choices p h = let r = obeys-iff p .0 h in omega (arith, choices-nodes (root p), root-nodes p r, r .few)
 
 -- no code of a tape within the limit passes 65,536 bytes
-pub greedy-few : (p : Pattern) → obeys p ≡ true → (tape : List ℕ) → length tape ≤ letter-limit → readable (root p) tape ≡ true → length (greedy (root p) tape) ≤ 524288
+pub greedy-few : (p : Pattern) → obeys p ≡ true → (tape : List ℕ) → length tape ≤ letter-limit → readable (root p) tape ≡ true → length (greedy (root p) tape) ≤ code-limit
 greedy-few p h tape few reads =
     let c = greedy-canonical (root p) tape reads in
     rw (c .written) at (code-fits (root p) (c .value) (root-choices p h) (c .greedy .solid) (rw (c .greedy .spells) few))
@@ -96,18 +95,23 @@ greedy-bound p h tape reads =
     rw (c .written) at (rw (c .greedy .spells) at (bits-bound (root p) (c .value) (root-choices p h) (c .greedy .solid)))
 
 -- ── what is missing in a code buffer ──
-module _ (bits : List Bool) (n size : ℕ) where
-  pub missing-none : 17 * n + 8 ≤ size → Missing bits n size 0
-  unfolding missing
-  missing-none h few = rw (le-ltb size (cell-count 8 (length bits)) (omega arith)) refl
+module _ {table words tape : List ℕ} {l : ℕ} (s : Writable table words tape l) (size : ℕ) where
+  abbrev pub needed-bits : ℕ
+  needed-bits = length (s .ready .it .bits)
 
-  pub missing-some : (at : ℕ) → at ≡ 0 + length bits → size < (at + 7) / 8 → Missing bits n size ((at + 7) / 8)
+  pub missing-none : 17 * length tape + 8 ≤ size → 0 ≡ missing needed-bits size
   unfolding missing
-  missing-some at e h few = let q : at ≡ length bits = omega arith in rw q (rw (lt-ltb size (cell-count 8 (length bits)) (omega arith)) refl)
+  missing-none h = let b = s .bound in rw (le-ltb size (cell-count 8 needed-bits) (omega arith))
 
-  pub missing-enough : (at : ℕ) → at ≡ 0 + length bits → (at + 7) / 8 ≤ size → Missing bits n size 0
+  pub missing-some : (at : ℕ) → at ≡ 0 + needed-bits → size < (at + 7) / 8 → (at + 7) / 8 ≡ missing needed-bits size
   unfolding missing
-  missing-enough at e h few = rw (le-ltb size (cell-count 8 (length bits)) (omega arith)) refl
+  missing-some at e h =
+      let q : at ≡ needed-bits = omega arith in
+      rw q (rw (lt-ltb size (cell-count 8 needed-bits) (omega arith)))
+
+  pub missing-enough : (at : ℕ) → at ≡ 0 + needed-bits → (at + 7) / 8 ≤ size → 0 ≡ missing needed-bits size
+  unfolding missing
+  missing-enough at e h = rw (le-ltb size (cell-count 8 needed-bits) (omega arith))
 
 missing-is : (k size m : ℕ) → m ≡ missing k size → 0 < m → (size < cell-count 8 k) × (m ≡ cell-count 8 k)
 unfolding missing
@@ -125,12 +129,33 @@ missing-not k size m e h = go (decLt size (cell-count 8 k))
     go (yes l) = absurd (let q : m ≡ cell-count 8 k = rw (lt-ltb size (cell-count 8 k) l) at e in omega arith)
     go (no l) = omega arith
 
+-- ── the ways of writing ──
+module _ {table words tape : List ℕ} {l : ℕ} (s : Writable table words tape l) (xs : List ℕ)
+    {needed : ℕ} (e : needed ≡ missing (length (s .ready .it .bits)) (length xs)) where
+  pub needed-small : 0 < needed → needed ≤ byte-limit
+  needed-small h = omega (arith, missing-is (length (s .ready .it .bits)) (length xs) needed e h .1, s .ready .it .few)
+
+  pub write-short : 0 < needed → Writes (s .ready .it .bits) xs xs (Refused (CodeTooShort needed))
+  write-short h =
+      let q = missing-is (length (s .ready .it .bits)) (length xs) needed e h in
+      record { fits = λ f. absurd (omega (arith, q .0)); short = λ f. (ap (λ n. Refused (CodeTooShort n)) (q .1), refl) }
+
+  pub write-fits : {ys : List ℕ} {r : Swept} → needed ≤ 0 → Wrote 0 0 (s .ready .it .letters) (s .ready .it .bits) xs ys r →
+      Writes (s .ready .it .bits) xs ys (Bits (r .at))
+  write-fits {r = r} h v =
+      let a : r .at ≡ length (s .ready .it .bits) = omega (arith, v .at-is) in
+      let q = missing-not (length (s .ready .it .bits)) (length xs) needed e h in
+      record {
+        fits = λ f. (ap Bits a, v .written (omega (arith, q)) ∙ write-start 8 (omega arith) xs (s .ready .it .bits));
+        short = λ f. absurd (omega (arith, q));
+      }
+
 -- ── what the sweep needs to know ──
-module _ (p : Pattern) (tape ws : List ℕ) (h : Writable p tape ws) where
+module _ (p : Pattern) (tape ws : List ℕ) (h : First-swept p tape ws) where
   rules : Rules p
   rules = obeys-iff p .0 (h .good)
 
-  own : (t : Tree) (s : Location (root p) t) (i : ℕ) → i ≤ length tape → (b : Bool) → test-bit (getD ws (2 * i + bit b) 0) (index t) ≡ can t (after s) b (drop i tape)
+  own : (t : Tree) (s : Location (root p) t) → Own ws tape t (after s)
   own t s i l b = ap (λ x. test-bit x (index t)) (h .filled i l b) ∙ state-bit p rules b (drop i tape) t s
 
   pub knows : (t : Tree) (s : Location (root p) t) → Knows ws tape t (after s)
@@ -146,25 +171,23 @@ module _ (p : Pattern) (tape ws : List ℕ) (h : Writable p tape ws) where
   unfolding readable greedy
   swept =
       let w = wrote (root p) at-end true tape (h .reads) in
+      let v = w .0 .it in
       record {
         best = w .0;
-        spells = sym (w .0 .spells ∙ ap (λ r. flat (root p) (w .0 .it) ++ r) (ended true (w .0 .rest) (w .0 .goes)) ∙ append-nil (flat (root p) (w .0 .it)));
-        writes = sym (w .1 (λ b x. []) ∙ append-nil (code (root p) (w .0 .it)));
+        spells = sym
+            (w .0 .spells ∙ ap (λ r. flat (root p) v ++ r) (ended true (w .0 .rest) (w .0 .goes)) ∙ append-nil (flat (root p) v));
+        writes = sym (w .1 (λ b x. []) ∙ append-nil (code (root p) v));
       }
     where
       ended : (b : Bool) (r : List ℕ) → at-end b r ≡ true → r ≡ []
       ended b [] e = refl
       ended b (x ∷ r) e = absurd (false≢true e)
 
-  pub few-bits : length (greedy (root p) tape) ≤ 524288
-  few-bits = greedy-few p (h .good) tape (h .few) (h .reads)
-
-  module _ (c : Columns) (hc : Holds p c) where
-    abbrev pub root-ready : Ready (c .kind) (c .first) (c .second) ws tape (p .count - 1) 0 true 0
-    root-ready =
-        let e = holds-tree p c (h .good) hc in
-        record {
-          account = c .account;
+  abbrev pub root-writable : (table : List ℕ) → Holds p table → Writable table ws tape (p .count - 1)
+  root-writable table hc =
+      let e = holds-tree p table (h .good) hc in
+      record {
+        ready = record {
           it = record {
             after = at-end;
             letters = tape;
@@ -172,50 +195,25 @@ module _ (p : Pattern) (tape ws : List ℕ) (h : Writable p tape ws) where
             knows = rw e (knows (root p) top);
             sweeps = rw e swept;
             within = omega arith;
-            few = omega (arith, few-bits);
+            few = omega (arith, greedy-few p (h .good) tape (h .few) (h .reads));
           };
           enough = h .room;
-        }
+        };
+        few = h .few;
+        bound = greedy-bound p (h .good) tape (h .reads);
+      }
 
-    -- written, if no byte is missing
-    module _ (xs : List ℕ) (needed : ℕ) (m : Missing (greedy (root p) tape) (length tape) (length xs) needed) where
-      is-missing : needed ≡ missing (length (greedy (root p) tape)) (length xs)
-      is-missing = m (greedy-bound p (h .good) tape (h .reads))
-
-      spelled : ((v : Value (root p)) → flat (root p) v ≡ tape → ⊥) → ⊥
-      spelled f = let q = readable-iff (root p) tape .0 (h .reads) in f (q .0) (q .1)
-
-      same : (bits : List Bool) → Canonical (root p) tape bits → length bits ≡ length (greedy (root p) tape)
-      same bits k = ap length (sym (canonical-greedy (root p) tape bits k .1))
-
-      pub needed-small : needed ≤ 65536
-      needed-small = go (decLt 0 needed)
-        where
-          go : Dec (0 < needed) → needed ≤ 65536
-          go (yes l) = omega (arith, missing-is (length (greedy (root p) tape)) (length xs) needed is-missing l .1, few-bits)
-          go (no l) = omega arith
-
-      pub write-short : 0 < needed → Writes p tape xs xs (Refused (CodeTooShort needed))
-      write-short l =
-          let q = missing-is (length (greedy (root p) tape)) (length xs) needed is-missing l in
-          record {
-            unreadable = λ f. absurd (spelled f);
-            fits = λ bits k le. absurd (omega (arith, q .0, same bits k));
-            short = λ bits k l. (ap (λ n. refused (CodeTooShort n)) (q .1 ∙ ap (cell-count 8) (sym (same bits k))), refl);
-          }
-
-      pub write-done : (ys : List ℕ) (r : Swept) → needed ≤ 0 → Wrote 0 0 tape (greedy (root p) tape) xs ys r → Writes p tape xs ys (Bits (r .at))
-      write-done ys r l v =
-          let q = missing-not (length (greedy (root p) tape)) (length xs) needed is-missing l in
-          let a : r .at ≡ length (greedy (root p) tape) = omega (arith, v .at-is) in
-          record {
-            unreadable = λ f. absurd (spelled f);
-            fits = λ bits k l. (
-              ap (λ n. answer 0 n) (a ∙ sym (same bits k)),
-              v .written (omega (arith, q)) ∙ ap (write 8 xs 0) (canonical-greedy (root p) tape bits k .1) ∙ write-start 8 (omega arith) xs bits,
-            );
-            short = λ bits k l. absurd (omega (arith, q, same bits k));
-          }
+  -- the code of the greedy value, written or not, is what reading promises
+  pub reads-greedily : {xs ys : List ℕ} {r : Parsed} → Writes (greedy (root p) tape) xs ys r →
+      Reads-greedily (root p) tape xs ys (parsed-answer r)
+  reads-greedily {xs} {ys} {r} w = record {
+    unreadable = λ f. let q = readable-iff (root p) tape .0 (h .reads) in absurd (f (q .0) (q .1));
+    fits = λ bits k l. let (a, b) = of bits k .fits l in (ap parsed-answer a, b);
+    short = λ bits k l. let (a, b) = of bits k .short l in (ap parsed-answer a, b);
+  }
+    where
+      of : (bits : List Bool) → Canonical (root p) tape bits → Writes bits xs ys r
+      of bits k = subst (λ b. Writes b xs ys r) (canonical-greedy (root p) tape bits k .1) w
 
 -- ── the ways of reading ──
 module _ (p : Pattern) (tape ws xs : List ℕ) where
@@ -238,54 +236,66 @@ module _ (p : Pattern) (tape ws xs : List ℕ) where
         unfolding Parses early
         parse-words needed e h = rw (good, le-ltb letter-limit (length tape) few, le-ltb (first-bad tape) (length tape) letters, ← e, lt-ltb (length ws) needed h) (refl, refl, refl)
 
-        module _ (room : 2 * (length tape + 1) ≤ length ws) where
-          pub fillable : Fillable p tape ws
-          fillable = record { rules = obeys-iff p .0 good; few = few; letters = all-letters tape letters; room = room }
+-- the tests in front of the first sweep are passed
+pub record Tested (p : Pattern) (tape ws : List ℕ) : Type 0 where
+  pub good : obeys p ≡ true
+  pub few : length tape ≤ letter-limit
+  pub letters : length tape ≤ first-bad tape
+  pub room : 2 * (length tape + 1) ≤ length ws
 
-          on : (us ys : List ℕ) (a : Parsed) → us ≡ in-front (words p tape) ws → Reads-greedily (root p) tape xs ys (parsed-answer a) → Parses p tape ws us xs ys a
-          unfolding Parses early
-          on us ys a e r = rw (good, le-ltb letter-limit (length tape) few, le-ltb (first-bad tape) (length tape) letters, le-ltb (length ws) (2 * (length tape + 1)) room) (e, r)
+module _ {p : Pattern} {tape ws : List ℕ} (d : Tested p tape ws) where
+  pub fillable : Fillable p tape ws
+  fillable = record { rules = obeys-iff p .0 (d .good); few = d .few; letters = all-letters tape (d .letters); room = d .room }
 
-          module _ (us : List ℕ) (filled : us ≡ in-front (words p tape) ws) (o : Bool) (eo : o ≡ test-bit (getD us (2 * 0 + bit true) 0) (p .count - 1)) where
-            -- the root's mark says whether the tape is readable
-            marked : o ≡ readable (root p) tape
-            unfolding readable
-            marked =
-                eo ∙ ap (λ l. test-bit (getD us (2 * 0 + bit true) 0) l) (sym (root-index p good))
-                ∙ ap (λ x. test-bit x (index (root p))) (ap (λ v. getD v (2 * 0 + bit true) 0) filled ∙ filled-at p tape ws 0 (omega arith) true)
-                ∙ state-bit p (obeys-iff p .0 good) true tape (root p) top
+  on : (us xs ys : List ℕ) (a : Parsed) → us ≡ in-front (words p tape) ws → Reads-greedily (root p) tape xs ys (parsed-answer a) →
+      Parses p tape ws us xs ys a
+  unfolding Parses early
+  on us xs ys a e r =
+      let few = le-ltb letter-limit (length tape) (d .few) in
+      let letters = le-ltb (first-bad tape) (length tape) (d .letters) in
+      rw (d .good, few, letters, le-ltb (length ws) (2 * (length tape + 1)) (d .room)) (e, r)
 
-            pub parse-unreadable : o ≡ false → Parses p tape ws us xs xs (Refused Unreadable)
-            parse-unreadable f = on us xs (Refused Unreadable) filled
-                (record {
-                  unreadable = λ n. (refl, refl);
-                  fits = λ bits k l. absurd (true≢false (sym (canonical-greedy (root p) tape bits k .0) ∙ sym marked ∙ f));
-                  short = λ bits k l. absurd (true≢false (sym (canonical-greedy (root p) tape bits k .0) ∙ sym marked ∙ f));
-                })
+  module _ {us : List ℕ} (filled : us ≡ in-front (words p tape) ws) where
+    pub filled-long : length us ≡ length ws
+    filled-long = ap length filled ∙ in-front-long p tape ws (d .room)
 
-            pub writable : o ≡ true → Writable p tape us
-            writable f = record {
-              good = good;
-              few = few;
-              room = rw filled (long (in-front-long p tape ws room));
-              filled = λ i l b. ap (λ v. getD v (2 * i + bit b) 0) filled ∙ filled-at p tape ws i l b;
-              reads = sym marked ∙ f;
-            }
-              where
-                long : length (in-front (words p tape) ws) ≡ length ws → 2 * length tape + 1 < length (in-front (words p tape) ws)
-                long e = omega arith
+    module _ {o : Bool} (eo : o ≡ test-bit (getD us (2 * 0 + bit true) 0) (p .count - 1)) where
+      -- the root's bit says whether the tape is readable
+      marked : o ≡ readable (root p) tape
+      unfolding readable
+      marked =
+          eo ∙ ap (λ l. test-bit (getD us (2 * 0 + bit true) 0) l) (sym (root-index p (d .good)))
+          ∙ ap (λ x. test-bit x (index (root p))) (ap (λ v. getD v (2 * 0 + bit true) 0) filled ∙ filled-at p tape ws 0 (omega arith) true)
+          ∙ state-bit p (obeys-iff p .0 (d .good)) true tape (root p) top
 
-            pub parse-done : (ys : List ℕ) (r : Parsed) → Writes p tape xs ys r → Parses p tape ws us xs ys r
-            parse-done ys r w = on us ys r filled w
+      pub parse-unreadable : (xs : List ℕ) → o ≡ false → Parses p tape ws us xs xs (Refused Unreadable)
+      parse-unreadable xs f =
+          let none : (bits : List Bool) → Canonical (root p) tape bits → ⊥ =
+          λ bits k. true≢false (sym (canonical-greedy (root p) tape bits k .0) ∙ sym marked ∙ f) in
+          on us xs xs (Refused Unreadable) filled
+          (record {
+            unreadable = λ n. (refl, refl);
+            fits = λ bits k l. absurd (none bits k);
+            short = λ bits k l. absurd (none bits k);
+          })
 
-pub rules-one : (p : Pattern) (tape ws : List ℕ) → Writable p tape ws → (1 ≤ p .count) × (p .count ≤ 64)
-rules-one p tape ws h = let r = obeys-iff p .0 (h .good) in (r .one, r .few)
+      pub first-swept : o ≡ true → First-swept p tape us
+      first-swept f =
+          let long = filled-long in
+          let room = d .room in
+          record {
+            good = d .good;
+            few = d .few;
+            room = omega arith;
+            filled = λ i l b. ap (λ v. getD v (2 * i + bit b) 0) filled ∙ filled-at p tape ws i l b;
+            reads = sym marked ∙ f;
+          }
+
+      pub parse-done : {xs ys : List ℕ} {r : Parsed} → o ≡ true → Writes (greedy (root p) tape) xs ys r → Parses p tape ws us xs ys r
+      parse-done {xs} {ys} {r} f w = on us xs ys r filled (reads-greedily p tape us (first-swept f) w)
 
 pub obeys-few : (p : Pattern) → obeys p ≡ true → (1 ≤ p .count) × (p .count ≤ 64)
 obeys-few p h = let r = obeys-iff p .0 h in (r .one, r .few)
-
-pub filled-long : (p : Pattern) (tape ws us : List ℕ) → 2 * (length tape + 1) ≤ length ws → us ≡ in-front (words p tape) ws → length us ≡ length ws
-filled-long p tape ws us room e = ap length e ∙ in-front-long p tape ws room
 
 -- ── laws of the promise ──
 module _ (p : Pattern) (tape ws us xs ys : List ℕ) (r : Parsed) (h : Parses p tape ws us xs ys r) where

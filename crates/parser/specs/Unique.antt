@@ -7,10 +7,8 @@ use native.Mathlib.Omega.{arith}
 use native.Mathlib.Decide.{decLe}
 use lib.ListN.{length}
 use Rattle.syntax.specs.declared.Pattern.{Pattern}
-use Rattle.refusals.specs.declared.Refusal.{Refusal}
-use Rattle.refusals.specs.declared.Refusal.the-variants.{LineForm, Tree as Tree-fault, TapeTooLong, TapeByte, Unreadable, WordsTooShort, CodeTooShort, NotACode, TapeTooShort, NoSuchVisit}
 use Rattle.refusals.specs.Refusals.{Answer, answer, refused}
-use Rattle.refusals.specs.RefusalLaws.{refused-same}
+use Rattle.refusals.specs.RefusalLaws.{refused-same, number-positive}
 use Rattle.syntax.specs.Tree.{Tree}
 use Rattle.bits.specs.Bits.{cell-count}
 use Rattle.semantics.specs.Value.{Value, flat}
@@ -37,24 +35,11 @@ greedily-one t tape xs ys zs a b f g = go (readable t tape) refl
         let none : (v : Value t) → flat t v ≡ tape → ⊥ = λ v q. true≢false (sym (readable-iff t tape .1 (v, q)) ∙ e) in
         both _ _ (f .unreadable none) (g .unreadable none)
 
--- a cause's number is not 0
-pub refused-some : (r : Refusal) → 1 ≤ refused r .number
-refused-some (LineForm l) = omega arith
-refused-some (Tree-fault l) = omega arith
-refused-some TapeTooLong = omega arith
-refused-some (TapeByte i) = omega arith
-refused-some Unreadable = omega arith
-refused-some (WordsTooShort n) = omega arith
-refused-some (CodeTooShort n) = omega arith
-refused-some NotACode = omega arith
-refused-some (TapeTooShort n) = omega arith
-refused-some NoSuchVisit = omega arith
-
 -- number and value fix the answer
 pub parsed-same : (r s : Parsed) → parsed-answer r ≡ parsed-answer s → r ≡ s
 parsed-same (Bits n) (Bits m) e = ap (λ a. Bits (a .value)) e
-parsed-same (Bits n) (Refused s) e = let z : 0 ≡ refused s .number = ap (λ a. a .number) e in absurd (omega (arith, refused-some s))
-parsed-same (Refused r) (Bits m) e = let z : refused r .number ≡ 0 = ap (λ a. a .number) e in absurd (omega (arith, refused-some r))
+parsed-same (Bits n) (Refused s) e = let z : 0 ≡ refused s .number = ap (λ a. a .number) e in absurd (omega (arith, number-positive s))
+parsed-same (Refused r) (Bits m) e = let z : refused r .number ≡ 0 = ap (λ a. a .number) e in absurd (omega (arith, number-positive r))
 parsed-same (Refused r) (Refused s) e = ap Refused (refused-same r s e)
 
 pub parses-one : (p : Pattern) (tape ws us vs xs ys zs : List ℕ) (r s : Parsed) → Parses p tape ws us xs ys r → Parses p tape ws vs xs zs s → (r ≡ s) × (us ≡ vs) × (ys ≡ zs)

@@ -1,21 +1,18 @@
 // Reading a tape: the tests, the first sweep, and the bits of the greedy parse by the second.
 ghost use mathlib.Core.Path.{_≡_};
-ghost use mathlib.Core.Bool.{true};
-ghost use Prim.Native.Nat.{_≤_, _<_};
+ghost use Prim.Native.Nat.{_<_};
 ghost use lib.ListN.{length};
-ghost use Rattle.syntax.specs.Letter.{letter-limit};
-ghost use Rattle.table.specs.Columns.{Good};
-ghost use Rattle.second_sweep.specs.Sweeping.{Ready};
+ghost use Rattle.table.specs.Cells.{Good};
 ghost use Rattle.parser.specs.Parse.{Parses};
-ghost use Rattle.parser.specs.Writing.{Missing, Writable, Writes};
+ghost use Rattle.parser.specs.Writing.{missing, Writable, Writes};
+use bits::is_open;
 use first_sweep::fill;
 use refusals::Refusal;
-use second_sweep::is_open;
 use second_sweep::sweep;
 use syntax::Pattern;
 use syntax::first_bad;
 use syntax::obeys_rules;
-use table::columns_of;
+use table::table_of;
 
 // What reading a tape answers: the bit count of its code, or why it is refused.
 pub enum Parsed {
@@ -25,26 +22,16 @@ pub enum Parsed {
 
 // How many bytes the code of node l needs where a buffer has fewer, else 0. Bits are counted only where the buffer might not hold them: with
 // at most 64 choices no code of n letters takes more than 17n + 8 bytes.
-fn bytes_missing(
-    kind: &[u8; 64],
-    first: &[u8; 64],
-    second: &[u8; 64],
-    words: &[u64],
-    tape: &[u8],
-    l: usize,
-    size: usize,
-) -> usize
-    requires { ⌜ Good (now kind) (now first) (now second) ⌝ }
-    requires { ⌜ (l < 64) × (length (now tape) ≤ letter-limit) ⌝ }
-    requires { ⌜ Ready (now kind) (now first) (now second) (now words) (now tape) l 0 true 0 ⌝ }
+fn bytes_missing(table: &[u64; 64], words: &[u64], tape: &[u8], l: usize, size: usize) -> usize
+    requires { ⌜ Good (now table) × (l < 64) × Writable (now table) (now words) (now tape) l ⌝ }
     ensures { λ r.
-        ⌜ ((s : Ready (now (kind .entry)) (now (first .entry)) (now (second .entry)) (now (words .entry)) (now (tape .entry)) l 0 true 0) → Missing (s .it .bits) (length (now (tape .entry))) size r) ⌝ }
+        ⌜ ((s : Writable (now (table .entry)) (now (words .entry)) (now (tape .entry)) l) → r ≡ missing (length (s .ready .it .bits)) size) ⌝ }
 {
     if 17 * tape.len() + 8 <= size {
         return 0;
     }
     let mut none: [u8; 1] = [0; 1];
-    let count = sweep(kind, first, second, words, tape, l, 0, true, &mut none, 0);
+    let count = sweep(table, words, tape, l, 0, true, &mut none, 0);
     let needed = (count.at as usize + 7) / 8;
     if size < needed {
         return needed;
@@ -53,20 +40,16 @@ fn bytes_missing(
 }
 
 // A code buffer that is too short is found before a bit is written, so that it is left as it was.
-fn write_code(p: Pattern, tape: &[u8], words: &[u64], code: &mut [u8]) -> Parsed
-    requires { ⌜ Writable p (now tape) (now words) ⌝ }
-    ensures { λ r. ⌜ Writes p (now (tape .entry)) (now (code .entry)) (now (code .exit)) r ⌝ }
+fn write_code(table: &[u64; 64], words: &[u64], tape: &[u8], l: usize, code: &mut [u8]) -> Parsed
+    requires { ⌜ Good (now table) × (l < 64) × Writable (now table) (now words) (now tape) l ⌝ }
+    ensures { λ r.
+        ⌜ ((s : Writable (now (table .entry)) (now (words .entry)) (now (tape .entry)) l) → Writes (s .ready .it .bits) (now (code .entry)) (now (code .exit)) r) ⌝ }
 {
-    let root = p.count - 1;
-    let columns = columns_of(p);
-    let kind = columns.kind;
-    let first = columns.first;
-    let second = columns.second;
-    let needed = bytes_missing(&kind, &first, &second, words, tape, root, code.len());
+    let needed = bytes_missing(table, words, tape, l, code.len());
     if 0 < needed {
         return Parsed::Refused(Refusal::CodeTooShort(needed as u32));
     }
-    let swept = sweep(&kind, &first, &second, words, tape, root, 0, true, code, 0);
+    let swept = sweep(table, words, tape, l, 0, true, code, 0);
     Parsed::Bits(swept.at)
 }
 
@@ -94,5 +77,6 @@ pub fn parse(p: Pattern, tape: &[u8], words: &mut [u64], code: &mut [u8]) -> Par
     if !is_open(words, 0, true, root) {
         return Parsed::Refused(Refusal::Unreadable);
     }
-    write_code(p, tape, words, code)
+    let table = table_of(p);
+    write_code(&table, words, tape, root, code)
 }

@@ -11,13 +11,15 @@ add-if1 : tie.Need-add-if1
 add-if1 c = search needs
 
 returns : tie.Need-returns
-returns c = λ s. missing-none (s .it .bits) _ _ (c .if1 .taken)
+returns c = λ s. missing-none s _ (c .if1 .taken)
 
 slice-aggregate-sweep : tie.Need-slice-aggregate-sweep
 slice-aggregate-sweep c = search needs
 
 sweep-requires : tie.Need-sweep-requires
-sweep-requires c κs = search needs
+sweep-requires c κs =
+    let pre = c .before .before .before .before .pre in
+    (pre .0, pre .1, pre .2 .ready)
 
 cast-needed : tie.Need-cast-needed
 cast-needed c = search needs
@@ -26,10 +28,10 @@ add-needed : tie.Need-add-needed
 add-needed c = search needs
 
 returns-2 : tie.Need-returns-2
-returns-2 c = λ s. missing-some (s .it .bits) _ _ _ (c .before .before .before .sweep .ensures s .at-is) (c .if2 .taken)
+returns-2 c = λ s. missing-some s _ _ (c .before .before .before .sweep .ensures (s .ready) .at-is) (c .if2 .taken)
 
 returns-3 : tie.Need-returns-3
-returns-3 c = λ s. missing-enough (s .it .bits) _ _ _ (c .before .before .before .sweep .ensures s .at-is) (c .if2 .left)
+returns-3 c = λ s. missing-enough s _ _ (c .before .before .before .sweep .ensures (s .ready) .at-is) (c .if2 .left)
 
 pub bytes-missing-spec : {M : Type 1} → statement M
 bytes-missing-spec =

@@ -1,11 +1,27 @@
 -- `parser::parse` meets its contract.
-use Rattle.parser.specs.ParseLaws.{parse-rules, parse-long, parse-byte, parse-words, fillable, parse-unreadable, writable, parse-done, obeys-few, filled-long}
-use borrow.Author.Tests.{not-true, not-false}
+use mathlib.Core.Path.{refl, sym, _∙_}
 use native.Mathlib.Omega.{arith}
-use mathlib.Core.Path.{refl, sym, ap, _∙_}
+use borrow.Author.Tests.{not-true, not-false}
+use Rattle.table.specs.CellLaws.{holds-good}
+use Rattle.parser.specs.ParseLaws.{Tested, parse-rules, parse-long, parse-byte, parse-words, fillable, filled-long, parse-unreadable, first-swept}
+use Rattle.parser.specs.ParseLaws.{root-writable, parse-done, obeys-few}
 use borrow.Author.Needs.{needs}
 use Rattle.parser.proofs.parse.Statement.{statement}
 use Rattle.parser.proofs.parse.Tie as tie
+
+-- the tests are passed
+tested : (c : tie.Else4) →
+    let start = c .before .before .before .before .before .before .before .before .before in
+    Tested (start .args .p) (start .args .tape .now) (start .args .words .now)
+tested c =
+    let bad = c .before .before in
+    let rules = bad .before .before in
+    record {
+      good = sym (rules .before .obeys-rules .ensures) ∙ not-false _ (rules .if1 .left);
+      few = bad .before .if2 .left;
+      letters = omega (arith, bad .first-bad .ensures, c .before .if3 .left);
+      room = c .if4 .left;
+    }
 
 obeys-rules-requires : tie.Need-obeys-rules-requires
 obeys-rules-requires c κs = search needs
@@ -14,16 +30,22 @@ returns : tie.Need-returns
 returns c = parse-rules _ _ _ _ (sym (c .before .obeys-rules .ensures) ∙ not-true _ (c .if1 .taken))
 
 returns-2 : tie.Need-returns-2
-returns-2 c = parse-long _ _ _ _ (sym (c .before .before .obeys-rules .ensures) ∙ not-false _ (c .before .if1 .left)) (c .if2 .taken)
+returns-2 c =
+    let rules = c .before in
+    parse-long _ _ _ _ (sym (rules .before .obeys-rules .ensures) ∙ not-false _ (rules .if1 .left)) (c .if2 .taken)
 
 first-bad-requires : tie.Need-first-bad-requires
 first-bad-requires c κs = search needs
 
-cast-t13 : tie.Need-cast-t13
-cast-t13 c = search needs
+cast-t14 : tie.Need-cast-t14
+cast-t14 c = search needs
 
 returns-3 : tie.Need-returns-3
-returns-3 c = parse-byte _ _ _ _ (sym (c .before .before .before .before .obeys-rules .ensures) ∙ not-false _ (c .before .before .before .if1 .left)) (c .before .before .if2 .left) _ (c .before .first-bad .ensures) (c .if3 .taken)
+returns-3 c =
+    let bad = c .before in
+    let rules = bad .before .before in
+    let good = sym (rules .before .obeys-rules .ensures) ∙ not-false _ (rules .if1 .left) in
+    parse-byte _ _ _ _ good (bad .before .if2 .left) _ (bad .first-bad .ensures) (c .if3 .taken)
 
 add-needed : tie.Need-add-needed
 add-needed c = search needs
@@ -31,29 +53,53 @@ add-needed c = search needs
 mul-needed : tie.Need-mul-needed
 mul-needed c = search needs
 
-cast-t16 : tie.Need-cast-t16
-cast-t16 c = search needs
+cast-t17 : tie.Need-cast-t17
+cast-t17 c = search needs
 
 returns-4 : tie.Need-returns-4
-returns-4 c = parse-words _ _ _ _ (sym (c .before .before .before .before .before .obeys-rules .ensures) ∙ not-false _ (c .before .before .before .before .if1 .left)) (c .before .before .before .if2 .left) (omega (arith, c .before .before .first-bad .ensures, c .before .if3 .left)) _ refl (c .if4 .taken)
+returns-4 c =
+    let bad = c .before .before in
+    let rules = bad .before .before in
+    let good = sym (rules .before .obeys-rules .ensures) ∙ not-false _ (rules .if1 .left) in
+    parse-words _ _ _ _ good (bad .before .if2 .left) (omega (arith, bad .first-bad .ensures, c .before .if3 .left)) _ refl (c .if4 .taken)
 
 fill-requires : tie.Need-fill-requires
-fill-requires c κs = fillable _ (c .before .before .before .before .before .before .before .before .before .before .args .tape .now) (c .before .before .before .before .before .before .before .before .before .before .args .words .now) (c .before .before .before .before .before .before .before .before .before .before .args .code .now) (sym (c .before .before .before .before .before .before .obeys-rules .ensures) ∙ not-false _ (c .before .before .before .before .before .if1 .left)) (c .before .before .before .before .if2 .left) (omega (arith, c .before .before .before .first-bad .ensures, c .before .before .if3 .left)) (c .before .if4 .left)
+fill-requires c κs = fillable (tested (c .before))
 
 sub-root : tie.Need-sub-root
-sub-root c = omega (arith, obeys-few _ (sym (c .before .before .before .before .before .before .before .before .before .before .obeys-rules .ensures) ∙ not-false _ (c .before .before .before .before .before .before .before .before .before .if1 .left)))
+sub-root c =
+    let d = tested (c .before .before .before .before .before) in
+    omega (arith, obeys-few _ (d .good))
 
 is-open-requires : tie.Need-is-open-requires
-is-open-requires c κs = (omega (arith, filled-long _ (c .before .before .before .before .before .before .before .before .before .before .before .before .before .before .before .args .tape .now) (c .before .before .before .before .before .before .before .before .before .before .before .before .before .before .before .args .words .now) _ (c .before .before .before .before .before .before .if4 .left) (c .before .before .before .before .fill .ensures), (c .before .before .before .before .before .before .if4 .left)), omega (arith, obeys-few _ (sym (c .before .before .before .before .before .before .before .before .before .before .before .obeys-rules .ensures) ∙ not-false _ (c .before .before .before .before .before .before .before .before .before .before .if1 .left))))
+is-open-requires c κs =
+    let fill = c .before .before .before .before in
+    let d = tested (fill .before .before) in
+    (omega (arith, filled-long d (fill .fill .ensures), d .room), omega (arith, obeys-few _ (d .good)))
 
 same-length : tie.Need-same-length
 same-length c = search needs
 
 returns-5 : tie.Need-returns-5
-returns-5 c = parse-unreadable _ (c .before .before .before .before .before .before .before .before .before .before .before .before .before .before .before .before .before .args .tape .now) (c .before .before .before .before .before .before .before .before .before .before .before .before .before .before .before .before .before .args .words .now) (c .before .before .before .before .before .before .before .before .before .before .before .before .before .before .before .before .before .args .code .now) (sym (c .before .before .before .before .before .before .before .before .before .before .before .before .before .obeys-rules .ensures) ∙ not-false _ (c .before .before .before .before .before .before .before .before .before .before .before .before .if1 .left)) (c .before .before .before .before .before .before .before .before .before .before .before .if2 .left) (omega (arith, c .before .before .before .before .before .before .before .before .before .before .first-bad .ensures, c .before .before .before .before .before .before .before .before .before .if3 .left)) (c .before .before .before .before .before .before .before .before .if4 .left) _ (c .before .before .before .before .before .before .fill .ensures) _ (c .before .is-open .ensures) (not-true _ (c .if5 .taken))
+returns-5 c =
+    let fill = c .before .before .before .before .before .before in
+    let d = tested (fill .before .before) in
+    parse-unreadable d (fill .fill .ensures) (c .before .is-open .ensures) _ (not-true _ (c .if5 .taken))
+
+table-of-requires : tie.Need-table-of-requires
+table-of-requires c κs =
+    let d = tested (c .before .before .before .before .before .before .before .before) in
+    obeys-few _ (d .good) .1
 
 write-code-requires : tie.Need-write-code-requires
-write-code-requires c κs = writable _ (c .before .before .before .before .before .before .before .before .before .before .before .before .before .before .before .before .before .before .before .args .tape .now) (c .before .before .before .before .before .before .before .before .before .before .before .before .before .before .before .before .before .before .before .args .words .now) (c .before .before .before .before .before .before .before .before .before .before .before .before .before .before .before .before .before .before .before .args .code .now) (sym (c .before .before .before .before .before .before .before .before .before .before .before .before .before .before .before .obeys-rules .ensures) ∙ not-false _ (c .before .before .before .before .before .before .before .before .before .before .before .before .before .before .if1 .left)) (c .before .before .before .before .before .before .before .before .before .before .before .before .before .if2 .left) (omega (arith, c .before .before .before .before .before .before .before .before .before .before .before .before .first-bad .ensures, c .before .before .before .before .before .before .before .before .before .before .before .if3 .left)) (c .before .before .before .before .before .before .before .before .before .before .if4 .left) _ (c .before .before .before .before .before .before .before .before .fill .ensures) _ (c .before .before .before .is-open .ensures) (not-false _ (c .before .before .if5 .left))
+write-code-requires c κs =
+    let table = c .before .before .before in
+    let test = table .before in
+    let fill = test .before .before .before .before .before .before in
+    let d = tested (fill .before .before) in
+    let first = first-swept d (fill .fill .ensures) (test .before .is-open .ensures) (not-false _ (test .if5 .left)) in
+    let holds = table .table-of .ensures in
+    (holds-good _ _ (d .good) holds, omega (arith, obeys-few _ (d .good)), root-writable _ _ _ first _ holds)
 
 same-length-2 : tie.Need-same-length-2
 same-length-2 c = search needs
@@ -62,7 +108,16 @@ same-length-3 : tie.Need-same-length-3
 same-length-3 c = search needs
 
 returns-6 : tie.Need-returns-6
-returns-6 c = parse-done _ (c .before .before .before .before .before .before .before .before .before .before .before .before .before .before .before .before .before .before .before .before .before .before .args .tape .now) (c .before .before .before .before .before .before .before .before .before .before .before .before .before .before .before .before .before .before .before .before .before .before .args .words .now) (c .before .before .before .before .before .before .before .before .before .before .before .before .before .before .before .before .before .before .before .before .before .before .args .code .now) (sym (c .before .before .before .before .before .before .before .before .before .before .before .before .before .before .before .before .before .before .obeys-rules .ensures) ∙ not-false _ (c .before .before .before .before .before .before .before .before .before .before .before .before .before .before .before .before .before .if1 .left)) (c .before .before .before .before .before .before .before .before .before .before .before .before .before .before .before .before .if2 .left) (omega (arith, c .before .before .before .before .before .before .before .before .before .before .before .before .before .before .before .first-bad .ensures, c .before .before .before .before .before .before .before .before .before .before .before .before .before .before .if3 .left)) (c .before .before .before .before .before .before .before .before .before .before .before .before .before .if4 .left) _ (c .before .before .before .before .before .before .before .before .before .before .before .fill .ensures) _ (c .before .before .before .before .before .before .is-open .ensures) _ _ (c .before .before .write-code .ensures)
+returns-6 c =
+    let written = c .before .before in
+    let table = written .before .before .before .before in
+    let test = table .before in
+    let fill = test .before .before .before .before .before .before in
+    let d = tested (fill .before .before) in
+    let e = not-false _ (test .if5 .left) in
+    let first = first-swept d (fill .fill .ensures) (test .before .is-open .ensures) e in
+    let w = written .write-code .ensures (root-writable _ _ _ first _ (table .table-of .ensures)) in
+    parse-done d (fill .fill .ensures) (test .before .is-open .ensures) e w
 
 pub parse-spec : {M : Type 1} → statement M
 parse-spec =
@@ -72,17 +127,18 @@ parse-spec =
     returns
     returns-2
     first-bad-requires
-    cast-t13
+    cast-t14
     returns-3
     add-needed
     mul-needed
-    cast-t16
+    cast-t17
     returns-4
     fill-requires
     sub-root
     is-open-requires
     same-length
     returns-5
+    table-of-requires
     write-code-requires
     same-length-2
     same-length-3
