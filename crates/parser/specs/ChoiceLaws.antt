@@ -22,7 +22,8 @@ is-choice (Alternative p q) = true
 is-choice (Star p) = true
 
 module _ (g : ℕ → ℕ) (i a : ℕ) (t : ℕ → Tree) (e : (q : ℕ) → q < i → choices (t q) ≡ weight g (t q)) where
-  made-choices : (k : Node) → g i ≡ bit (is-choice k) → Below i k → choices (made (record { index = i; account = a }) t k) ≡ weight g (made (record { index = i; account = a }) t k)
+  made-choices : (k : Node) → g i ≡ bit (is-choice k) → Below i k →
+      choices (made (record { index = i; account = a }) t k) ≡ weight g (made (record { index = i; account = a }) t k)
   made-choices (Leaf-node Nothing) h b = sym h
   made-choices (Leaf-node (Letter c)) h b = sym h
   made-choices (Leaf-node (Range x y)) h b = sym h

@@ -1,4 +1,5 @@
--- What the root's mark says: bit count - 1 of word 1, the flag 1 word of position 0. In the words of values and codes; the automaton is behind it.
+-- What the root's mark (01's word for a bit of a state set) says: bit count - 1 of word 1, the flag 1 word of position 0. In the words of values
+-- and codes; the automaton is behind it.
 use mathlib.Core.Path.{_≡_, sym, ap, _∙_}
 use mathlib.Core.Bool.{Bool, true}
 use mathlib.Core.Logic.{_↔_}
@@ -39,7 +40,8 @@ module _ (p : Pattern) (good : obeys p ≡ true) (tape : List ℕ) where
         let w : IsCode (root p) (greedy (root p) tape) = record { value = c .value; written = c .written; within = greedy-few p good tape few reads } in
         (greedy (root p) tape, record { whole = w; same = c .greedy .spells }, record { whole = w; solid = c .greedy .solid })
 
-    -- 03: "the root's mark says whether some reading spells the tape": set exactly if some code of the pattern, with or without empty rounds, spells it
+    -- 03: "the root's mark says whether some reading spells the tape": set exactly if some code of the pattern, with or without empty
+    -- rounds, spells it
     pub marks-right : (root-mark p tape ≡ true) ↔ ((bits : List Bool) × Spells (root p) bits tape)
     marks-right = (λ h. let s = solid-code h in (s .0, s .1), λ s. marks-value .1 (s .1 .whole .value, s .1 .same))
 

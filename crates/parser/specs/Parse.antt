@@ -35,10 +35,12 @@ early p tape n =
 -- greedy value (001, definition 4), or 7 with "bytes needed" and the code as it was
 pub record Reads-greedily (t : Tree) (tape code code-now : List ℕ) (a : Answer) : Type 0 where
   pub unreadable : ((v : Value t) → flat t v ≡ tape → ⊥) → (a ≡ refused Unreadable) × (code-now ≡ code)
-  pub fits : (bits : List Bool) → Canonical t tape bits → cell-count 8 (length bits) ≤ length code → (a ≡ answer 0 (length bits)) × (code-now ≡ in-front (pack 8 bits) code)
-  pub short : (bits : List Bool) → Canonical t tape bits → length code < cell-count 8 (length bits) → (a ≡ refused (CodeTooShort (cell-count 8 (length bits)))) × (code-now ≡ code)
+  pub fits : (bits : List Bool) → Canonical t tape bits → cell-count 8 (length bits) ≤ length code →
+      (a ≡ answer 0 (length bits)) × (code-now ≡ in-front (pack 8 bits) code)
+  pub short : (bits : List Bool) → Canonical t tape bits → length code < cell-count 8 (length bits) →
+      (a ≡ refused (CodeTooShort (cell-count 8 (length bits)))) × (code-now ≡ code)
 
--- refused before the sweeps: everything as it was. Else the marks are filled, whatever is answered.
+-- refused before the sweeps: everything as it was. Else the state sets are filled in, whatever is answered.
 abbrev pub Parses-by : (early : ℕ) → Answer → Pattern → (tape words words-now code code-now : List ℕ) → Answer → Type 0
 Parses-by zero e p tape ws us xs ys a = (us ≡ in-front (words p tape) ws) × Reads-greedily (root p) tape xs ys a
 Parses-by (suc n) e p tape ws us xs ys a = (a ≡ e) × (us ≡ ws) × (ys ≡ xs)

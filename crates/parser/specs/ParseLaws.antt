@@ -42,7 +42,8 @@ use Rattle.parser.specs.Parse.{parsed-answer, early, Reads-greedily, Par
 use Rattle.parser.specs.Writing.{First-swept, missing, Writable, Writes}
 
 -- ── the state sets of a position ──
-pub filled-at : (p : Pattern) (tape ws : List ℕ) (i : ℕ) → i ≤ length tape → (b : Bool) → getD (in-front (words p tape) ws) (2 * i + bit b) 0 ≡ state-set p b (drop i tape)
+pub filled-at : (p : Pattern) (tape ws : List ℕ) (i : ℕ) → i ≤ length tape → (b : Bool) →
+    getD (in-front (words p tape) ws) (2 * i + bit b) 0 ≡ state-set p b (drop i tape)
 unfolding in-front
 filled-at p tape ws i l b = List·getD-append (words p tape) (drop (length (words p tape)) ws) 0 (2 * i + bit b) (below b) ∙ words-at p tape i b l
   where
@@ -77,13 +78,15 @@ unfolding root
 root-index p good =
     let r = obeys-iff p .0 good in
     let one = r .one in
-    ap index (tree-line (line-at p) (p .count - 1) (r .lower (p .count - 1) (omega arith))) ∙ made-index _ (tree-of (line-at p)) (line-at p (p .count - 1) .node)
+    ap index (tree-line (line-at p) (p .count - 1) (r .lower (p .count - 1) (omega arith)))
+    ∙ made-index _ (tree-of (line-at p)) (line-at p (p .count - 1) .node)
 
 pub root-choices : (p : Pattern) → obeys p ≡ true → choices (root p) ≤ 64
 root-choices p h = let r = obeys-iff p .0 h in omega (arith, choices-nodes (root p), root-nodes p r, r .few)
 
 -- no code of a tape within the limit passes 65,536 bytes
-pub greedy-few : (p : Pattern) → obeys p ≡ true → (tape : List ℕ) → length tape ≤ letter-limit → readable (root p) tape ≡ true → length (greedy (root p) tape) ≤ code-limit
+pub greedy-few : (p : Pattern) → obeys p ≡ true → (tape : List ℕ) → length tape ≤ letter-limit → readable (root p) tape ≡ true →
+    length (greedy (root p) tape) ≤ code-limit
 greedy-few p h tape few reads =
     let c = greedy-canonical (root p) tape reads in
     rw (c .written) at (code-fits (root p) (c .value) (root-choices p h) (c .greedy .solid) (rw (c .greedy .spells) few))
@@ -234,7 +237,10 @@ module _ (p : Pattern) (tape ws xs : List ℕ) where
       module _ (letters : length tape ≤ first-bad tape) where
         pub parse-words : (needed : ℕ) → needed ≡ 2 * (length tape + 1) → length ws < needed → Parses p tape ws ws xs xs (Refused (WordsTooShort needed))
         unfolding Parses early
-        parse-words needed e h = rw (good, le-ltb letter-limit (length tape) few, le-ltb (first-bad tape) (length tape) letters, ← e, lt-ltb (length ws) needed h) (refl, refl, refl)
+        parse-words needed e h =
+            let few-test = le-ltb letter-limit (length tape) few in
+            let letter-test = le-ltb (first-bad tape) (length tape) letters in
+            rw (good, few-test, letter-test, ← e, lt-ltb (length ws) needed h) (refl, refl, refl)
 
 -- the tests in front of the first sweep are passed
 pub record Tested (p : Pattern) (tape ws : List ℕ) : Type 0 where
@@ -304,10 +310,12 @@ module _ (p : Pattern) (tape ws us xs ys : List ℕ) (r : Parsed) (h : Parses p 
   unfolding Parses
   unreadable-iff e = go (early p tape (length ws) .number) e h
     where
-      go : (n : ℕ) → n ≡ 0 → Parses-by n (early p tape (length ws)) p tape ws us xs ys (parsed-answer r) → (parsed-answer r ≡ refused Unreadable) ↔ ((v : Value (root p)) → flat (root p) v ≡ tape → ⊥)
+      go : (n : ℕ) → n ≡ 0 → Parses-by n (early p tape (length ws)) p tape ws us xs ys (parsed-answer r) →
+          (parsed-answer r ≡ refused Unreadable) ↔ ((v : Value (root p)) → flat (root p) v ≡ tape → ⊥)
       go zero q w = (λ a v f. other (w .1) a v f, λ n. w .1 .unreadable n .0)
         where
-          other : Reads-greedily (root p) tape xs ys (parsed-answer r) → parsed-answer r ≡ refused Unreadable → (v : Value (root p)) → flat (root p) v ≡ tape → ⊥
+          other : Reads-greedily (root p) tape xs ys (parsed-answer r) → parsed-answer r ≡ refused Unreadable →
+              (v : Value (root p)) → flat (root p) v ≡ tape → ⊥
           other g a v f =
               let k = greedy-canonical (root p) tape (readable-iff (root p) tape .1 (v, f)) in
               fit (decLe (cell-count 8 (length (greedy (root p) tape))) (length xs))

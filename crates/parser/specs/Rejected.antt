@@ -22,12 +22,15 @@ use Rattle.parser.specs.declared.Parsed.{Parsed}
 use Rattle.parser.specs.Parse.{parsed-answer, early, Parses}
 
 -- what reading answers and leaves where a tape is readable and the buffers suffice
-pub reads-greedy : (p : Pattern) (tape ws us xs ys : List ℕ) (r : Parsed) → Parses p tape ws us xs ys r → obeys p ≡ true → length tape ≤ letter-limit → length tape ≤ first-bad tape
-    → 2 * (length tape + 1) ≤ length ws → readable (root p) tape ≡ true → cell-count 8 (length (greedy (root p) tape)) ≤ length xs
-    → (parsed-answer r ≡ answer 0 (length (greedy (root p) tape))) × (ys ≡ in-front (pack 8 (greedy (root p) tape)) xs)
+pub reads-greedy : (p : Pattern) (tape ws us xs ys : List ℕ) (r : Parsed) → Parses p tape ws us xs ys r →
+    obeys p ≡ true → length tape ≤ letter-limit → length tape ≤ first-bad tape → 2 * (length tape + 1) ≤ length ws →
+    readable (root p) tape ≡ true → cell-count 8 (length (greedy (root p) tape)) ≤ length xs →
+    (parsed-answer r ≡ answer 0 (length (greedy (root p) tape))) × (ys ≡ in-front (pack 8 (greedy (root p) tape)) xs)
 unfolding Parses early
 reads-greedy p tape ws us xs ys r h good few letters room reads fit =
-    let w = rw (good, le-ltb letter-limit (length tape) few, le-ltb (first-bad tape) (length tape) letters, le-ltb (length ws) (2 * (length tape + 1)) room) at h in
+    let few-test = le-ltb letter-limit (length tape) few in
+    let letter-test = le-ltb (first-bad tape) (length tape) letters in
+    let w = rw (good, few-test, letter-test, le-ltb (length ws) (2 * (length tape + 1)) room) at h in
     w .1 .fits (greedy (root p) tape) (greedy-canonical (root p) tape reads) fit
 
 -- the pattern a*, as a table of 64 lines
@@ -70,13 +73,15 @@ module _ (ws us xs ys : List ℕ) (r : Parsed) (room : 6 ≤ length ws) (fits : 
   -- the tape a: two bits, 01
   pub one-round : Parses rounds (97 ∷ []) ws us xs ys r → parsed-answer r ≡ answer 0 2
   one-round h =
-      reads-greedy rounds (97 ∷ []) ws us xs ys r h obeys-rounds (omega arith) (rw letters-a (omega arith)) (omega arith) readable-a (rw bits-a (omega arith)) .0
+      reads-greedy rounds (97 ∷ []) ws us xs ys r h obeys-rounds (omega arith) (rw letters-a (omega arith)) (omega arith) readable-a
+      (rw bits-a (omega arith)) .0
       ∙ ap (λ bits. answer 0 (length bits)) bits-a
 
   -- the tape aa: three bits, 001
   pub two-rounds : Parses rounds (97 ∷ 97 ∷ []) ws us xs ys r → (parsed-answer r ≡ answer 0 3) × (ys ≡ in-front (32 ∷ []) xs)
   two-rounds h =
-      let w = reads-greedy rounds (97 ∷ 97 ∷ []) ws us xs ys r h obeys-rounds (omega arith) (rw letters-aa (omega arith)) (omega arith) readable-aa (rw bits-aa (omega arith)) in
+      let w = reads-greedy rounds (97 ∷ 97 ∷ []) ws us xs ys r h obeys-rounds (omega arith) (rw letters-aa (omega arith)) (omega arith) readable-aa
+      (rw bits-aa (omega arith)) in
       (w .0 ∙ ap (λ bits. answer 0 (length bits)) bits-aa, w .1 ∙ ap (λ bits. in-front (pack 8 bits) xs) bits-aa ∙ ap (λ bytes. in-front bytes xs) bytes-aa)
 
   -- not the first round and stop bits, 011, with the right bit count
@@ -88,7 +93,9 @@ module _ (ws us xs ys : List ℕ) (r : Parsed) (room : 6 ≤ length ws) (fits : 
   never-unreadable h e = let z : _≡_ {A = ℕ} 0 5 = ap (λ a. a .number) (sym (one-round h) ∙ e) in omega arith
 
   -- the two tapes have not one code
-  pub not-one-code : (vs zs : List ℕ) (q : Parsed) → Parses rounds (97 ∷ []) ws us xs ys r → Parses rounds (97 ∷ 97 ∷ []) ws vs xs zs q → parsed-answer r ≡ parsed-answer q → ⊥
+  pub not-one-code : (vs zs : List ℕ) (q : Parsed) → Parses rounds (97 ∷ []) ws us xs ys r → Parses rounds (97 ∷ 97 ∷ []) ws vs xs zs q →
+      parsed-answer r ≡ parsed-answer q → ⊥
   not-one-code vs zs q h k e =
-      let w = reads-greedy rounds (97 ∷ 97 ∷ []) ws vs xs zs q k obeys-rounds (omega arith) (rw letters-aa (omega arith)) (omega arith) readable-aa (rw bits-aa (omega arith)) .0 in
+      let w = reads-greedy rounds (97 ∷ 97 ∷ []) ws vs xs zs q k obeys-rounds (omega arith) (rw letters-aa (omega arith)) (omega arith) readable-aa
+      (rw bits-aa (omega arith)) .0 in
       let z : _≡_ {A = ℕ} 2 3 = ap (λ a. a .value) (sym (one-round h) ∙ e ∙ w ∙ ap (λ bits. answer 0 (length bits)) bits-aa) in omega arith

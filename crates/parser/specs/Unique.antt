@@ -42,10 +42,12 @@ parsed-same (Bits n) (Refused s) e = let z : 0 ≡ refused s .number = ap (λ a.
 parsed-same (Refused r) (Bits m) e = let z : refused r .number ≡ 0 = ap (λ a. a .number) e in absurd (omega (arith, number-positive r))
 parsed-same (Refused r) (Refused s) e = ap Refused (refused-same r s e)
 
-pub parses-one : (p : Pattern) (tape ws us vs xs ys zs : List ℕ) (r s : Parsed) → Parses p tape ws us xs ys r → Parses p tape ws vs xs zs s → (r ≡ s) × (us ≡ vs) × (ys ≡ zs)
+pub parses-one : (p : Pattern) (tape ws us vs xs ys zs : List ℕ) (r s : Parsed) → Parses p tape ws us xs ys r → Parses p tape ws vs xs zs s →
+    (r ≡ s) × (us ≡ vs) × (ys ≡ zs)
 unfolding Parses
 parses-one p tape ws us vs xs ys zs r s = go (early p tape (length ws) .number)
   where
-    go : (n : ℕ) → Parses-by n (early p tape (length ws)) p tape ws us xs ys (parsed-answer r) → Parses-by n (early p tape (length ws)) p tape ws vs xs zs (parsed-answer s) → (r ≡ s) × (us ≡ vs) × (ys ≡ zs)
+    go : (n : ℕ) → Parses-by n (early p tape (length ws)) p tape ws us xs ys (parsed-answer r) →
+        Parses-by n (early p tape (length ws)) p tape ws vs xs zs (parsed-answer s) → (r ≡ s) × (us ≡ vs) × (ys ≡ zs)
     go zero f g = let e = greedily-one _ tape xs ys zs (parsed-answer r) (parsed-answer s) (f .1) (g .1) in (parsed-same r s (e .0), f .0 ∙ sym (g .0), e .1)
     go (suc n) f g = (parsed-same r s (f .0 ∙ sym (g .0)), f .1 ∙ sym (g .1), f .2 ∙ sym (g .2))

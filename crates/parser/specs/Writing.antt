@@ -35,7 +35,13 @@ pub record Writable (table words tape : List ℕ) (l : ℕ) : Type 0 where
 unfoldable pub missing : (bits size : ℕ) → ℕ
 missing n size = cond (ltb size (cell-count 8 n)) (cell-count 8 n) 0
 
+abbrev pub Misses : (table words tape : List ℕ) → (l size missing : ℕ) → Type 0
+Misses table words tape l size m = (s : Writable table words tape l) → m ≡ missing (length (s .ready .it .bits)) size
+
 -- bits in front of the code if they fit, else the bytes needed and the code as it was
 pub record Writes (bits : List Bool) (code code-now : List ℕ) (r : Parsed) : Type 0 where
   pub fits : cell-count 8 (length bits) ≤ length code → (r ≡ Bits (length bits)) × (code-now ≡ in-front (pack 8 bits) code)
   pub short : length code < cell-count 8 (length bits) → (r ≡ Refused (CodeTooShort (cell-count 8 (length bits)))) × (code-now ≡ code)
+
+abbrev pub Writes-all : (table words tape : List ℕ) → (l : ℕ) → (code code-now : List ℕ) → Parsed → Type 0
+Writes-all table words tape l xs ys r = (s : Writable table words tape l) → Writes (s .ready .it .bits) xs ys r

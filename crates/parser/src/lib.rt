@@ -1,10 +1,9 @@
-// Reading a tape: the tests, the first sweep, and the bits of the greedy parse by the second.
+// Reading a tape: the tests, the state sets by the first sweep, and the bits of the greedy parse by the second.
 ghost use mathlib.Core.Path.{_≡_};
 ghost use Prim.Native.Nat.{_<_};
-ghost use lib.ListN.{length};
 ghost use Rattle.table.specs.Cells.{Good};
 ghost use Rattle.parser.specs.Parse.{Parses};
-ghost use Rattle.parser.specs.Writing.{missing, Writable, Writes};
+ghost use Rattle.parser.specs.Writing.{Writable, Misses, Writes-all};
 use bits::is_open;
 use first_sweep::fill;
 use refusals::Refusal;
@@ -24,8 +23,7 @@ pub enum Parsed {
 // at most 64 choices no code of n letters takes more than 17n + 8 bytes.
 fn bytes_missing(table: &[u64; 64], words: &[u64], tape: &[u8], l: usize, size: usize) -> usize
     requires { ⌜ Good (now table) × (l < 64) × Writable (now table) (now words) (now tape) l ⌝ }
-    ensures { λ r.
-        ⌜ ((s : Writable (now (table .entry)) (now (words .entry)) (now (tape .entry)) l) → r ≡ missing (length (s .ready .it .bits)) size) ⌝ }
+    ensures { λ r. ⌜ Misses (now (table .entry)) (now (words .entry)) (now (tape .entry)) l size r ⌝ }
 {
     if 17 * tape.len() + 8 <= size {
         return 0;
@@ -43,7 +41,7 @@ fn bytes_missing(table: &[u64; 64], words: &[u64], tape: &[u8], l: usize, size: 
 fn write_code(table: &[u64; 64], words: &[u64], tape: &[u8], l: usize, code: &mut [u8]) -> Parsed
     requires { ⌜ Good (now table) × (l < 64) × Writable (now table) (now words) (now tape) l ⌝ }
     ensures { λ r.
-        ⌜ ((s : Writable (now (table .entry)) (now (words .entry)) (now (tape .entry)) l) → Writes (s .ready .it .bits) (now (code .entry)) (now (code .exit)) r) ⌝ }
+        ⌜ Writes-all (now (table .entry)) (now (words .entry)) (now (tape .entry)) l (now (code .entry)) (now (code .exit)) r ⌝ }
 {
     let needed = bytes_missing(table, words, tape, l, code.len());
     if 0 < needed {
