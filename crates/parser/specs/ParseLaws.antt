@@ -11,7 +11,7 @@ use lib.ListN.{length, getD, drop, length-append, length-drop, List·getD-append
 use Rattle.syntax.specs.declared.Pattern.{Pattern}
 use Rattle.refusals.specs.declared.Refusal.the-variants.{Tree as Tree-fault, TapeTooLong, TapeByte, Unreadable, WordsTooShort, CodeTooShort}
 use Rattle.syntax.specs.Letter.{first-bad, letter-limit}
-use Rattle.refusals.specs.Refusals.{answer, refused}
+use Rattle.refusals.specs.Refusals.{refused}
 use Rattle.syntax.specs.Table.{obeys, line-at}
 use Rattle.syntax.specs.Tree.{Tree, nothing, letter, range, seq, alt, star, index}
 use Rattle.syntax.specs.Trees.{root, tree-of}
@@ -24,7 +24,7 @@ use Rattle.table.specs.CellLaws.{holds-tree}
 use Rattle.semantics.specs.Value.{Value, flat}
 use Rattle.semantics.specs.Code.{Canonical, code, choices, code-limit}
 use Rattle.semantics.specs.Automaton.{Location, top, fst, snd, lft, rgt, rnd}
-use Rattle.semantics.specs.Sweeps.{can, at-end, readable, greedy}
+use Rattle.semantics.specs.Sweeps.{at-end, readable, greedy}
 use Rattle.semantics.specs.AutomatonLaws.{after}
 use Rattle.semantics.specs.BoundLaws.{nodes, choices-nodes, code-fits, bits-bound}
 use Rattle.semantics.specs.SecondSweepLaws.{wrote}

@@ -1,5 +1,4 @@
 // Reading a tape: the tests, the state sets by the first sweep, and the bits of the greedy parse by the second.
-ghost use mathlib.Core.Path.{_≡_};
 ghost use Prim.Native.Nat.{_<_};
 ghost use Rattle.table.specs.Cells.{Good};
 ghost use Rattle.parser.specs.Parse.{Parses};

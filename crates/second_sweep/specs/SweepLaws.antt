@@ -9,7 +9,6 @@ use native.Mathlib.Decide.{decLe}
 use borrow.Author.Tests.{le-leb, lt-leb}
 use lib.ListN.{length, getD, drop, length-append, length-drop}
 use lib.Seq.{drop-drop, getD-drop}
-use Rattle.syntax.specs.declared.Leaf.{Leaf}
 use Rattle.syntax.specs.declared.Leaf.the-variants.{Nothing, Letter, Range}
 use Rattle.syntax.specs.Tree.{Label, Tree, range, seq, alt, star, index}
 use Rattle.bits.specs.Bits.{write, bits-of}
@@ -20,7 +19,7 @@ use Rattle.semantics.specs.Value.{nonempty}
 use Rattle.semantics.specs.Sweeps.{After, after-round, can, another}
 use Rattle.second_sweep.specs.declared.Swept.{Swept}
 use Rattle.second_sweep.specs.Parts.{whole, short, seq-sweeps, side-sweeps, round-sweeps, stop-sweeps, nothing-sweeps, letter-sweeps, range-sweeps}
-use Rattle.second_sweep.specs.Sweeping.{put, is-open, Chooses, Knows, Wrote, Can-sweep, Leaf-ready, Leaf-swept}
+use Rattle.second_sweep.specs.Sweeping.{put, Puts, is-open, Chooses, Knows, Wrote, Can-sweep, Leaf-ready, Leaf-swept}
 
 -- ── writing ──
 module _ (xs : List ℕ) (at : ℕ) (cs : List Bool) where
@@ -44,11 +43,11 @@ unfolding write
 write-nothing xs at = refl
 
 -- a choice by what was asked of the left side
-pub chose : (o left v : Bool) (p q at : ℕ) (xs ys : List ℕ) → left ≡ o → left ≡ v → ys ≡ put xs at (not left ∷ []) →
+pub chose : (o left v : Bool) (p q at : ℕ) (xs ys : List ℕ) → left ≡ o → left ≡ v → Puts (not left) at xs ys →
     Chooses o p q at xs ys (cond v p q)
 chose o left v p q at xs ys e f w = record {
   side-is = ap (λ b. cond b p q) (sym f ∙ e);
-  written = w ∙ ap (λ b. put xs at (not b ∷ [])) e;
+  puts = rw e at w;
 }
 
 -- ── what was written, put together ──
@@ -99,15 +98,15 @@ module _ {i at : ℕ} {xs : List ℕ} where
 
   -- a bit that is put, and then what follows it
   pub wrote-put : {ys zs : List ℕ} {r : Swept} (c : Bool) (ls : List ℕ) (cs : List Bool) →
-      ys ≡ put xs at (c ∷ []) → Wrote i (at + 1) ls cs ys zs r → Wrote i at ls (c ∷ cs) xs zs r
+      Puts c at xs ys → Wrote i (at + 1) ls cs ys zs r → Wrote i at ls (c ∷ cs) xs zs r
   wrote-put {ys} {zs} {r} c ls cs e a =
-      let n : length ys ≡ length xs = ap length e ∙ put-long xs at (c ∷ []) in
+      let n : length ys ≡ length xs = ap length (e .written) ∙ put-long xs at (c ∷ []) in
       let aa = a .at-is in
       record {
         position-is = a .position-is;
         at-is = omega arith;
         written = λ h.
-            let f : ys ≡ write 8 xs at (c ∷ []) = e ∙ sym (put-fits xs at (c ∷ []) (omega arith)) in
+            let f : ys ≡ write 8 xs at (c ∷ []) = e .written ∙ sym (put-fits xs at (c ∷ []) (omega arith)) in
             a .written (omega arith) ∙ ap (λ z. write 8 z (at + 1) cs) f
             ∙ write-write 8 (omega arith) xs at (at + 1) (c ∷ []) cs (omega arith) refl;
         as-long = a .as-long ∙ n;

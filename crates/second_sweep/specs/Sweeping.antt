@@ -19,15 +19,19 @@ use Rattle.second_sweep.specs.Parts.{Sweeps}
 unfoldable pub put : (code : List ℕ) → (at : ℕ) → List Bool → List ℕ
 put xs at cs = cond (leb (at + length cs) (8 * length xs)) (write 8 xs at cs) xs
 
+-- a bit written where it fits
+pub record Puts (value : Bool) (at : ℕ) (code code-now : List ℕ) : Type 0 where
+  pub written : code-now ≡ put code at (value ∷ [])
+
 -- a choice: the left side where it is open, with the bit 0, else the right one, with 1
 pub record Chooses (left : Bool) (p q at : ℕ) (code code-now : List ℕ) (side : ℕ) : Type 0 where
   pub side-is : side ≡ cond left p q
-  pub written : code-now ≡ put code at (not left ∷ [])
+  pub puts : Puts (not left) at code code-now
 
 -- the end of a star, with the bit 1
 pub record Stops (i at : ℕ) (code code-now : List ℕ) (r : Swept) : Type 0 where
   pub result-is : r ≡ record { position = i; at = at + 1 }
-  pub written : code-now ≡ put code at (true ∷ [])
+  pub puts : Puts true at code code-now
 
 -- a node's bit in the word of a position with the flag
 abbrev pub is-open : (words : List ℕ) → (i : ℕ) → (taken : Bool) → (l : ℕ) → Bool

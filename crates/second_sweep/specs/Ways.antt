@@ -2,7 +2,7 @@
 use mathlib.Core.Path.{_≡_, refl, sym, ap, subst, _∙_}
 use mathlib.Core.Bool.{Bool, true, false, _||_, not, cond}
 use mathlib.Core.List.{List, [], _∷_, _++_}
-use Prim.Native.Nat.{ℕ, _+_, _*_, _≤_, _<_}
+use Prim.Native.Nat.{ℕ, _+_, _≤_, _<_}
 use native.Mathlib.Omega.{arith}
 use borrow.Author.Tests.{lt-ltb, le-ltb}
 use lib.Dec.{ltb}
@@ -18,7 +18,7 @@ use Rattle.table.specs.Cells.{node-in, account-in, tree-in, Good}
 use Rattle.table.specs.CellLaws.{line-tree, line-lower, line-index}
 use Rattle.semantics.specs.Value.{nonempty}
 use Rattle.second_sweep.specs.declared.Swept.{Swept}
-use Rattle.second_sweep.specs.Sweeping.{put, is-open, Chooses, Stops, Wrote, Can-sweep, leaf-tree, Leaf-ready, Leaf-swept, Ready, Swept-all}
+use Rattle.second_sweep.specs.Sweeping.{Puts, is-open, Chooses, Stops, Wrote, Can-sweep, leaf-tree, Leaf-ready, Leaf-swept, Ready, Swept-all}
 use Rattle.second_sweep.specs.SweepLaws.{wrote-then, wrote-put, wrote-same, wrote-none, put-long}
 use Rattle.second_sweep.specs.SweepLaws.{Seq-way, seq-way, Side-way, side-way, Round-way, round-way, stop-way}
 
@@ -164,7 +164,7 @@ module _ {table : List ℕ} {l : ℕ} {n : Node} (a : Line-node table l n) where
         let o = not (is-open words i taken p) in
         let t = side-ready .it in
         wrote-same (t .letters) (s .it .letters) (o ∷ t .bits) (s .it .bits) (chosen .letters-are) (chosen .bits-are)
-        (wrote-put o (t .letters) (t .bits) (h .written) (g side-ready))
+        (wrote-put o (t .letters) (t .bits) (h .puts) (g side-ready))
 
 -- ── star ──
 -- what is left to do from here gives what was to be done from the start
@@ -194,7 +194,7 @@ module _ {table : List ℕ} {l : ℕ} {n : Node} (a : Line-node table l n) {p : 
       (tree a (Star p) e) (g .now) (opened ∙ f) in
       g .done
       (wrote-same [] (g .now .letters) (true ∷ []) (g .now .bits) x y
-      (rw (h .result-is) (wrote-put true [] [] (h .written) (wrote-none j (to + 1) zs))))
+      (rw (h .result-is) (wrote-put true [] [] (h .puts) (wrote-none j (to + 1) zs))))
 
   module _ (f : o ≡ true) where
     pub turn : Round-way words tape j (g .flag) to false (tree-in table l) (tree-in table p) (g .now)
@@ -204,7 +204,7 @@ module _ {table : List ℕ} {l : ℕ} {n : Node} (a : Line-node table l n) {p : 
     abbrev pub round-ready : Ready table words tape p j false (to + 1)
     round-ready = record { it = turn .one; enough = s .enough }
 
-    module _ {ys zs : List ℕ} (ey : ys ≡ put code to (false ∷ [])) {one : Swept}
+    module _ {ys zs : List ℕ} (ey : Puts false to code ys) {one : Swept}
         (h : Swept-all table words tape p j false (to + 1) ys zs one) where
       pub round-less : (j < one .position) × (one .position ≤ length tape)
       round-less =
@@ -226,6 +226,6 @@ module _ {table : List ℕ} {l : ℕ} {n : Node} (a : Line-node table l n) {p : 
                 (false ∷ (v .one .bits ++ v .more .bits)) (g .now .bits) (v .letters-are) (v .bits-are)
                 (wrote-put false (v .one .letters ++ v .more .letters) (v .one .bits ++ v .more .bits) ey
                 (wrote-then (v .one .letters) (v .more .letters) (v .one .bits) (v .more .bits) w u)));
-            as-long = w .as-long ∙ ap length ey ∙ put-long code to (false ∷ []) ∙ g .as-long;
+            as-long = w .as-long ∙ ap length (ey .written) ∙ put-long code to (false ∷ []) ∙ g .as-long;
             further = omega (arith, g .further, w .at-is);
           }

@@ -1,14 +1,13 @@
 // The second sweep: the bits of the greedy parse, from the state sets of the first. It asks the state sets only and never backs up.
 ghost use mathlib.Core.Path.{_≡_};
 ghost use mathlib.Core.Bool.{_||_};
-ghost use mathlib.Core.List.{[], _∷_};
 ghost use lib.Dec.{ltb};
 ghost use Prim.Native.Nat.{_+_, _*_, _≤_, _<_};
 ghost use lib.ListN.{length};
 ghost use Rattle.bits.specs.Bits.{bits-of};
 ghost use Rattle.semantics.specs.Code.{code-limit};
 ghost use Rattle.table.specs.Cells.{Good};
-ghost use Rattle.second_sweep.specs.Sweeping.{put, is-open, Chooses, Stops, Leaf-ready, Leaf-swept, Ready, Swept-all};
+ghost use Rattle.second_sweep.specs.Sweeping.{put, Puts, is-open, Chooses, Stops, Leaf-ready, Leaf-swept, Ready, Swept-all};
 use bits::is_open;
 use bits::set_bit;
 use bits::set_byte;
@@ -25,7 +24,7 @@ pub struct Swept {
 // A bit is written where it fits; over a buffer of no bytes the sweep only counts.
 fn put_bit(code: &mut [u8], at: u32, value: bool)
     requires { ⌜ at ≤ code-limit ⌝ }
-    ensures { λ _. ⌜ now (code .exit) ≡ put (now (code .entry)) at (value ∷ []) ⌝ }
+    ensures { λ _. ⌜ Puts value at (now (code .entry)) (now (code .exit)) ⌝ }
 {
     if (at as usize) / 8 < code.len() {
         set_bit(code, at, value);

@@ -1,9 +1,8 @@
 -- `second_sweep::sweep` meets its contract.
-use mathlib.Core.Path.{_∙_}
 use Prim.Native.Nat.{ℕ, _+_, _*_, _-_, _<_}
 use native.Mathlib.Omega.{arith}
 use lib.ListN.{length}
-use Rattle.syntax.specs.declared.Node.the-variants.{Sequence, Star}
+use Rattle.syntax.specs.declared.Node.the-variants.{Sequence}
 use Rattle.syntax.specs.TreeLaws.{Below}
 use Rattle.semantics.specs.Code.{code-limit}
 use Rattle.second_sweep.specs.Sweeping.{Ready}

@@ -17,12 +17,12 @@ returns : tie.Need-returns
 returns c =
     let put = c .before .before in
     let args = put .before .before .before .before .args in
-    put .set-bit .ensures ∙ put-fits (args .code .now) (args .at) (args .value ∷ []) (omega arith)
+    record { written = put .set-bit .ensures ∙ put-fits (args .code .now) (args .at) (args .value ∷ []) (omega arith) }
 
 returns-2 : tie.Need-returns-2
 returns-2 c =
     let args = c .before .before .args in
-    put-not (args .code .now) (args .at) (args .value ∷ []) (omega arith)
+    record { written = put-not (args .code .now) (args .at) (args .value ∷ []) (omega arith) }
 
 pub put-bit-spec : {M : Type 1} → statement M
 put-bit-spec = tie.close (tie.spec set-bit-requires same-length returns returns-2)
