@@ -7,12 +7,14 @@ use native.Mathlib.Omega.{arith}
 use lib.ListN.{length, getD}
 use Rattle.syntax.specs.declared.Pattern.{Pattern}
 use Rattle.syntax.specs.Letter.{is-letter, letter-limit}
+use Rattle.syntax.specs.Trees.{root}
 use Rattle.syntax.specs.TreeLaws.{Rules}
 use Rattle.bits.specs.Bits.{in-front}
 use Rattle.first_sweep.specs.StateSets.{words}
 use Rattle.first_sweep.specs.Sweep.{Sweepable, sweep-of}
+use Rattle.table.specs.Cells.{Holds}
+use Rattle.masks.specs.Leaves.{letter-cells, letter-cell}
 use Rattle.masks.specs.Masks.{Masks-of}
-use Rattle.syntax.specs.LetterLaws.{letter-below}
 use Rattle.first_sweep.specs.SweepWords.{All-letters, sweep-words}
 
 -- a tested table, "at most 3,600 letters, all from 33 to 126", and 2 × (n + 1) words
@@ -22,9 +24,9 @@ pub record Fillable (p : Pattern) (tape words : List ℕ) : Type 0 where
   pub letters : (i : ℕ) → i < length tape → is-letter (getD tape i 0) ≡ true
   pub room : 2 * (length tape + 1) ≤ length words
 
-small-letters : (w : List ℕ) → ((i : ℕ) → i < length w → is-letter (getD w i 0) ≡ true) → (i : ℕ) → getD w i 0 < 128
+small-letters : (w : List ℕ) → ((i : ℕ) → i < length w → is-letter (getD w i 0) ≡ true) → (i : ℕ) → getD w i 0 < letter-cells
 small-letters [] h i = omega arith
-small-letters (c ∷ w) h zero = omega (arith, letter-below c (h 0 (omega arith)))
+small-letters (c ∷ w) h zero = letter-cell c (h 0 (omega arith))
 small-letters (c ∷ w) h (suc i) = small-letters w (λ j k. h (suc j) (omega arith)) i
 
 all-letters : (w : List ℕ) → ((i : ℕ) → i < length w → is-letter (getD w i 0) ≡ true) → All-letters w
@@ -35,6 +37,8 @@ pub fill-sweepable : (p : Pattern) (tape ws : List ℕ) → Fillable p tape ws �
 fill-sweepable p tape ws f = record { few = f .few; letters = small-letters tape (f .letters); room = f .room }
 
 -- so that the buffer holds the words of the definition
-pub filled-words : (p : Pattern) (tape old new zs os fs ks : List ℕ) (e : ℕ) → Fillable p tape old → Masks-of p zs os fs ks e → new ≡ in-front (sweep-of zs os fs ks e tape) old
+pub filled-words :
+    (p : Pattern) (tape old new zs os ts ks : List ℕ) (e : ℕ) → Fillable p tape old → Holds p ts → Masks-of (root p) (p .count) zs os ks e → new ≡ in-front (sweep-of zs os ts ks e tape) old
     → new ≡ in-front (words p tape) old
-filled-words p tape old new zs os fs ks e f m h = h ∙ ap (λ ws. in-front ws old) (sweep-words p (f .rules) zs os fs ks e m tape (all-letters tape (f .letters)))
+filled-words p tape old new zs os ts ks e f held m h =
+    h ∙ ap (λ ws. in-front ws old) (sweep-words p (f .rules) zs os ts ks e held m tape (all-letters tape (f .letters)))

@@ -14,15 +14,17 @@ use Rattle.bits.specs.Numbers.{test-small}
 use borrow.Author.Tests.{ne-eqb}
 use Rattle.semantics.specs.Basics.{eqb-self, eqb-eq, and-fst, and-snd}
 use Rattle.first_sweep.specs.declared.Words.{Words}
-use Rattle.masks.specs.Unions.{union, union-same, equal}
+use Rattle.table.specs.Cells.{follower-in}
+use Rattle.table.specs.HandDown.{equal}
+use Rattle.masks.specs.Unions.{union, union-same}
 use Rattle.first_sweep.specs.Steps.{behind, live, step-of}
 use Rattle.masks.specs.Leaves.{entry}
 
 -- four cells for each of 32 slots: the leaves that take a letter, a state set of the next position, and the two that the step to here gave.
 -- They are of steps from positions with a letter.
-pub record Remembers (zs os fs memo : List ℕ) : Type 0 where
+pub record Remembers (zs os ts memo : List ℕ) : Type 0 where
   pub long : length memo ≡ 128
-  pub right : (s : ℕ) → s < 32 → step-of zs os fs (entry memo (4 * s)) (entry memo (4 * s + 1)) false ≡ record { zero = entry memo (4 * s + 2); one = entry memo (4 * s + 3) }
+  pub right : (s : ℕ) → s < 32 → step-of zs os ts (entry memo (4 * s)) (entry memo (4 * s + 1)) false ≡ record { zero = entry memo (4 * s + 2); one = entry memo (4 * s + 3) }
 
 -- a slot keeps what is asked for if both its numbers are those asked for
 pub kept-other : (a b c d : ℕ) → (a ≡ b → ⊥) → false ≡ (eqb a b && eqb c d)
@@ -43,15 +45,15 @@ union-zero zero m = refl
 union-zero (suc n) m = or-zero-l (union n (λ x. false) m) ∙ union-zero n m
 
 -- where nothing is open behind a letter, nothing is open here
-step-none : (zs os fs : List ℕ) (k : ℕ) → step-of zs os fs k 0 false ≡ record { zero = 0; one = 0 }
-step-none zs os fs k = ap₂ (λ x y. record { zero = x; one = y }) (part (entry zs)) (part (entry os))
+step-none : (zs os ts : List ℕ) (k : ℕ) → step-of zs os ts k 0 false ≡ record { zero = 0; one = 0 }
+step-none zs os ts k = ap₂ (λ x y. record { zero = x; one = y }) (part (entry zs)) (part (entry os))
   where
     none : (a : Bool) (f : ℕ) → (a && behind 0 false f) ≡ false
     none true f = nothing-behind f
     none false f = refl
 
-    part : (m : ℕ → ℕ) → union 64 (live k 0 false (entry fs)) m ≡ 0
-    part m = union-same 64 (live k 0 false (entry fs)) (λ x. false) m m (λ x h. none (test-bit k x) (entry fs x)) (λ x h. refl) ∙ union-zero 64 m
+    part : (m : ℕ → ℕ) → union 64 (live k 0 false (follower-in ts)) m ≡ 0
+    part m = union-same 64 (live k 0 false (follower-in ts)) (λ x. false) m m (λ x h. none (test-bit k x) (follower-in ts x)) (λ x h. refl) ∙ union-zero 64 m
 
 -- four cells written one after the other
 abbrev four : List ℕ → (k a b c d : ℕ) → List ℕ
@@ -92,12 +94,12 @@ module _ (xs : List ℕ) (k a b c d : ℕ) where
     unfolding one two three
     four-fourth = getD-set-same three (k + 3) d 0 (simp length-set (omega arith))
 
-module _ (zs os fs : List ℕ) where
-  pub remembers-start : Remembers zs os fs (replicate 128 0)
+module _ (zs os ts : List ℕ) where
+  pub remembers-start : Remembers zs os ts (replicate 128 0)
   remembers-start = record {
     long = length-replicate {A = ℕ} 128 0;
     right = λ s h.
-        ap₂ (λ t x. step-of zs os fs t x false) (zeros 128 (4 * s)) (zeros 128 (4 * s + 1)) ∙ step-none zs os fs 0
+        ap₂ (λ t x. step-of zs os ts t x false) (zeros 128 (4 * s)) (zeros 128 (4 * s + 1)) ∙ step-none zs os ts 0
         ∙ sym (ap₂ (λ x y. record { zero = x; one = y }) (zeros 128 (4 * s + 2)) (zeros 128 (4 * s + 3)));
   }
     where
@@ -106,25 +108,25 @@ module _ (zs os fs : List ℕ) where
       zeros (suc n) zero = refl
       zeros (suc n) (suc x) = zeros n x
 
-  module _ (memo : List ℕ) (m : Remembers zs os fs memo) (s takers next : ℕ) (last : Bool) (h : s < 32) (l : last ≡ false) where
+  module _ (memo : List ℕ) (m : Remembers zs os ts memo) (s takers next : ℕ) (last : Bool) (h : s < 32) (l : last ≡ false) where
     pub remembered : (eqb (entry memo (4 * s)) takers && eqb (entry memo (4 * s + 1)) next) ≡ true
-        → _≡_ {A = Words} (record { zero = entry memo (4 * s + 2); one = entry memo (4 * s + 3) }) (step-of zs os fs takers next last)
+        → _≡_ {A = Words} (record { zero = entry memo (4 * s + 2); one = entry memo (4 * s + 3) }) (step-of zs os ts takers next last)
     remembered e =
         sym (m .right s h)
-        ∙ ap₂ (λ t x. step-of zs os fs t x false) (eqb-eq (entry memo (4 * s)) takers (and-fst (eqb (entry memo (4 * s)) takers) (eqb (entry memo (4 * s + 1)) next) e))
+        ∙ ap₂ (λ t x. step-of zs os ts t x false) (eqb-eq (entry memo (4 * s)) takers (and-fst (eqb (entry memo (4 * s)) takers) (eqb (entry memo (4 * s + 1)) next) e))
         (eqb-eq (entry memo (4 * s + 1)) next (and-snd (eqb (entry memo (4 * s)) takers) (eqb (entry memo (4 * s + 1)) next) e))
-        ∙ ap (step-of zs os fs takers next) (sym l)
+        ∙ ap (step-of zs os ts takers next) (sym l)
 
-    pub remembers-next : (r : Words) → r ≡ step-of zs os fs takers next last → Remembers zs os fs (set (set (set (set memo (4 * s) takers) (4 * s + 1) next) (4 * s + 2) (r .zero)) (4 * s + 3) (r .one))
+    pub remembers-next : (r : Words) → r ≡ step-of zs os ts takers next last → Remembers zs os ts (set (set (set (set memo (4 * s) takers) (4 * s + 1) next) (4 * s + 2) (r .zero)) (4 * s + 3) (r .one))
     remembers-next r e = record { long = simp length-set (m .long); right = λ d k. go d k (equal s d) }
       where
-        room : Remembers zs os fs memo → 4 * s + 3 < length memo
+        room : Remembers zs os ts memo → 4 * s + 3 < length memo
         room m = omega (arith, m .long)
 
         new : List ℕ
         new = four memo (4 * s) takers next (r .zero) (r .one)
 
-        go : (d : ℕ) → d < 32 → Dec (s ≡ d) → step-of zs os fs (entry new (4 * d)) (entry new (4 * d + 1)) false ≡ record { zero = entry new (4 * d + 2); one = entry new (4 * d + 3) }
+        go : (d : ℕ) → d < 32 → Dec (s ≡ d) → step-of zs os ts (entry new (4 * d)) (entry new (4 * d + 1)) false ≡ record { zero = entry new (4 * d + 2); one = entry new (4 * d + 3) }
         go d k (yes q) =
             rw (
               ← q,
@@ -132,7 +134,7 @@ module _ (zs os fs : List ℕ) where
               four-second memo (4 * s) takers next (r .zero) (r .one) (room m),
               four-third memo (4 * s) takers next (r .zero) (r .one) (room m),
               four-fourth memo (4 * s) takers next (r .zero) (r .one) (room m),
-            ) (ap (step-of zs os fs takers next) (sym l) ∙ sym e)
+            ) (ap (step-of zs os ts takers next) (sym l) ∙ sym e)
         go d k (no q) =
             rw (
               apart d q (4 * d) (omega arith) (omega arith),

@@ -18,7 +18,8 @@ use Rattle.semantics.specs.Automaton.{Location}
 use Rattle.semantics.specs.Sweeps.{can, at-end}
 use Rattle.semantics.specs.FirstSweepLaws.{bool-ext}
 use Rattle.semantics.specs.AutomatonLaws.{after, can-iff-accepts}
-use Rattle.masks.specs.Nodes.{node-word, Planted, Node-at, node-at, word-small, word-says, word-is, word-past-last}
+use Rattle.table.specs.Cells.{Node-at}
+use Rattle.masks.specs.Nodes.{node-word, Planted, node-at, word-small, word-says, word-is, word-past-last}
 use Rattle.masks.specs.Closure.{reaches, nowhere, leaf-mask, end-mask, any-same, reaches-split, reaches-can}
 use Rattle.masks.specs.Unions.{pick, union, pick-bit, union-bit, pick-lt, union-lt}
 use Rattle.masks.specs.Planting.{root-planted}

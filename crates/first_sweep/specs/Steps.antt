@@ -18,7 +18,8 @@ use Rattle.semantics.specs.Sweeps.{at-end}
 use Rattle.semantics.specs.AutomatonLaws.{after, can-from}
 use Rattle.first_sweep.specs.declared.Words.{Words}
 use Rattle.masks.specs.Nodes.{index-lt, word-says, word-past-last}
-use Rattle.masks.specs.Leaves.{state-index, Followed, takes, takers, entry}
+use Rattle.table.specs.Cells.{follower-in, loops-in, state-index, Followed, Holds}
+use Rattle.masks.specs.Leaves.{takes, takers, entry}
 use Rattle.masks.specs.Planting.{root-planted, same-node}
 use Rattle.masks.specs.Closure.{nowhere, leaf-mask, end-mask}
 use Rattle.masks.specs.Unions.{pick, union}
@@ -54,26 +55,27 @@ module _ (p : Pattern) (r : Rules p) where
       ∙ state-bit p r true w t s
 
   -- a leaf's follower is open behind the letter exactly if the rest can be read behind the leaf
-  behind-leaf : (w : List ℕ) (f : ℕ) (t : Tree) (s : Location (root p) t) → Followed p (index t) f → behind (state-set p true w) (at-end true w) f ≡ after s true w
-  behind-leaf w f t s q =
+  behind-leaf : (w : List ℕ) (f : ℕ) (b : Bool) (t : Tree) (s : Location (root p) t) → Followed (root p) (index t) f b → behind (state-set p true w) (at-end true w) f ≡ after s true w
+  behind-leaf w f b t s q =
       ap (behind (state-set p true w) (at-end true w)) (q .is) ∙ behind-state w (follower (q .node .place)) ∙ sym (after-true (q .node .place) w)
       ∙ same-node (root-planted p r) (λ t s. after s true w) (q .node .tree) t (q .node .place) s (q .node .is)
 
-  module _ (f : ℕ → ℕ) (follows : (x : ℕ) → x < p .count → Followed p x (f x)) (c : ℕ) (w : List ℕ) where
+  module _ (table : List ℕ) (held : Holds p table) (c : ℕ) (w : List ℕ) where
     chosen : ℕ → Bool
-    chosen x = live (takers p c) (state-set p true w) (at-end true w) f x
+    chosen x = live (takers (root p) (p .count) c) (state-set p true w) (at-end true w) (follower-in table) x
 
     leaf-live : (t : Tree) (s : Location (root p) t) → chosen (index t) ≡ (takes t c && after s true w)
     unfolding chosen takers
     leaf-live t s =
-        ap₂ (λ x y. x && y) (word-says (root-planted p r) (λ t s. takes t c) t s) (behind-leaf w (f (index t)) t s (follows (index t) (index-lt (root-planted p r) s)))
+        ap₂ (λ x y. x && y) (word-says (root-planted p r) (λ t s. takes t c) t s)
+        (behind-leaf w (follower-in table (index t)) (loops-in table (index t)) t s (held .follows (index t) (index-lt (root-planted p r) s)))
 
     past-live : (x : ℕ) → 64 ≤ x → chosen x ≡ false
     unfolding chosen takers
-    past-live x h = ap (λ z. z && behind (state-set p true w) (at-end true w) (f x)) (word-past-last (root p) (p .count) (λ t s. takes t c) x (omega (arith, r .few)))
+    past-live x h = ap (λ z. z && behind (state-set p true w) (at-end true w) (follower-in table x)) (word-past-last (root p) (p .count) (λ t s. takes t c) x (omega (arith, r .few)))
 
     -- THE STEP: a position that has a letter, from the next
-    pub state-step : (b : Bool) → state-set p b (c ∷ w) ≡ union 64 (live (takers p c) (state-set p true w) (at-end true w) f) (leaf-mask (root p) (p .count) b)
+    pub state-step : (b : Bool) → state-set p b (c ∷ w) ≡ union 64 (live (takers (root p) (p .count) c) (state-set p true w) (at-end true w) (follower-in table)) (leaf-mask (root p) (p .count) b)
     unfolding chosen
     state-step b =
         state-masks p r (c ∷ w) chosen (λ m a s g. leaf-live (letter m a) s) (λ m a e s g. leaf-live (range m a e) s) past-live b ∙ or-zero-l (union 64 chosen (leaf-mask (root p) (p .count) b))
@@ -84,6 +86,7 @@ module _ (p : Pattern) (r : Rules p) where
       state-masks p r [] nowhere (λ m a s g. refl) (λ m a e s g. refl) (λ x h. refl) b
       ∙ ap (bitOr (pick b (end-mask (root p) (p .count) b))) (union-none 64 (leaf-mask (root p) (p .count) b)) ∙ or-zero-r (pick b (end-mask (root p) (p .count) b))
 
--- the step over the masks and followers as they are stored
-abbrev pub step-of : (zero one followers : List ℕ) → (takers next : ℕ) → (last : Bool) → Words
-step-of zs os fs k next last = record { zero = union 64 (live k next last (entry fs)) (entry zs); one = union 64 (live k next last (entry fs)) (entry os) }
+-- the step over the masks as they are stored and the followers of a packed table
+abbrev pub step-of : (zero one table : List ℕ) → (takers next : ℕ) → (last : Bool) → Words
+step-of zs os ts k next last =
+    record { zero = union 64 (live k next last (follower-in ts)) (entry zs); one = union 64 (live k next last (follower-in ts)) (entry os) }

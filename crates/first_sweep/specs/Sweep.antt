@@ -11,7 +11,7 @@ use Rattle.syntax.specs.Letter.{letter-limit}
 use Rattle.bits.specs.Bits.{in-front}
 use Rattle.semantics.specs.Sweeps.{at-end}
 use Rattle.first_sweep.specs.declared.Words.{Words}
-use Rattle.masks.specs.Leaves.{entry}
+use Rattle.masks.specs.Leaves.{letter-cells, entry}
 use Rattle.first_sweep.specs.Steps.{step-of}
 
 -- the flag 1 word of the first position of a fill
@@ -23,14 +23,14 @@ abbrev pub put : Words → List ℕ → List ℕ
 put r ws = r .zero ∷ r .one ∷ ws
 
 -- takers: by the letter; end: the flag 1 word of the tape's end
-abbrev pub sweep-of : (zero one followers takers : List ℕ) → (end : ℕ) → (tape : List ℕ) → List ℕ
-sweep-of zs os fs ks e [] = 0 ∷ e ∷ []
-sweep-of zs os fs ks e (c ∷ w) = put (step-of zs os fs (entry ks c) (first-one (sweep-of zs os fs ks e w)) (at-end true w)) (sweep-of zs os fs ks e w)
+abbrev pub sweep-of : (zero one table takers : List ℕ) → (end : ℕ) → (tape : List ℕ) → List ℕ
+sweep-of zs os ts ks e [] = 0 ∷ e ∷ []
+sweep-of zs os ts ks e (c ∷ w) = put (step-of zs os ts (entry ks c) (first-one (sweep-of zs os ts ks e w)) (at-end true w)) (sweep-of zs os ts ks e w)
 
 -- every letter has an entry in the table of letters, and the buffer is long enough. 01: "Tapes hold at most 3,600 letters"
 pub record Sweepable (tape words : List ℕ) : Type 0 where
   pub few : length tape ≤ letter-limit
-  pub letters : (i : ℕ) → getD tape i 0 < 128
+  pub letters : (i : ℕ) → getD tape i 0 < letter-cells
   pub room : 2 * (length tape + 1) ≤ length words
 
 -- two cells written one after the other
@@ -41,8 +41,8 @@ two-set zero a b (x ∷ (y ∷ xs)) h = refl
 two-set (suc k) a b [] h = absurd (omega arith)
 two-set (suc k) a b (x ∷ xs) h = two-set k a b xs (omega arith)
 
-module _ (zs os fs ks : List ℕ) (e : ℕ) where
-  pub sweep-length : (w : List ℕ) → length (sweep-of zs os fs ks e w) ≡ 2 * (length w + 1)
+module _ (zs os ts ks : List ℕ) (e : ℕ) where
+  pub sweep-length : (w : List ℕ) → length (sweep-of zs os ts ks e w) ≡ 2 * (length w + 1)
   sweep-length [] = refl
   sweep-length (c ∷ w) = omega (arith, sweep-length w)
 
@@ -50,8 +50,8 @@ module _ (zs os fs ks : List ℕ) (e : ℕ) where
   pub record Filling (tape old : List ℕ) (i next : ℕ) (last : Bool) (words : List ℕ) : Type 0 where
     pub inside : i ≤ length tape
     pub same : length words ≡ length old
-    pub filled : drop (2 * i) words ≡ sweep-of zs os fs ks e (drop i tape) ++ drop (2 * (length tape + 1)) old
-    pub ahead : next ≡ first-one (sweep-of zs os fs ks e (drop i tape))
+    pub filled : drop (2 * i) words ≡ sweep-of zs os ts ks e (drop i tape) ++ drop (2 * (length tape + 1)) old
+    pub ahead : next ≡ first-one (sweep-of zs os ts ks e (drop i tape))
     pub ends : last ≡ at-end true (drop i tape)
 
   module _ (tape old : List ℕ) (room : 2 * (length tape + 1) ≤ length old) where
@@ -77,18 +77,18 @@ module _ (zs os fs ks : List ℕ) (e : ℕ) where
           ends = rw d refl;
         }
 
-    pub filling-end : (next : ℕ) (last : Bool) (words : List ℕ) → Filling tape ended 0 next last words → words ≡ in-front (sweep-of zs os fs ks e tape) old
+    pub filling-end : (next : ℕ) (last : Bool) (words : List ℕ) → Filling tape ended 0 next last words → words ≡ in-front (sweep-of zs os ts ks e tape) old
     unfolding in-front
     filling-end next last words f =
-        f .filled ∙ ap (λ z. sweep-of zs os fs ks e tape ++ z) ended-behind ∙ ap (λ k. sweep-of zs os fs ks e tape ++ drop k old) (sym (sweep-length tape))
+        f .filled ∙ ap (λ z. sweep-of zs os ts ks e tape ++ z) ended-behind ∙ ap (λ k. sweep-of zs os ts ks e tape ++ drop k old) (sym (sweep-length tape))
 
     pub filling-next : (i next c : ℕ) (last : Bool) (words : List ℕ) (r : Words) → Filling tape old (i + 1) next last words → c ≡ getD tape i 0
-        → r ≡ step-of zs os fs (entry ks c) next last → Filling tape old i (r .one) false (set (set words (2 * i) (r .zero)) (2 * i + 1) (r .one))
+        → r ≡ step-of zs os ts (entry ks c) next last → Filling tape old i (r .one) false (set (set words (2 * i) (r .zero)) (2 * i + 1) (r .one))
     filling-next i next c last words r f g h =
         let b : suc i ≤ length tape = omega (arith, f .inside) in
         let d : drop i tape ≡ getD tape i 0 ∷ drop (i + 1) tape = rw (add-one i) (drop-cons tape i 0 b) in
-        let s : r ≡ step-of zs os fs (entry ks (getD tape i 0)) (first-one (sweep-of zs os fs ks e (drop (i + 1) tape))) (at-end true (drop (i + 1) tape)) =
-        h ∙ ap (λ x. step-of zs os fs (entry ks x) next last) g ∙ ap₂ (λ x y. step-of zs os fs (entry ks (getD tape i 0)) x y) (f .ahead) (f .ends) in
+        let s : r ≡ step-of zs os ts (entry ks (getD tape i 0)) (first-one (sweep-of zs os ts ks e (drop (i + 1) tape))) (at-end true (drop (i + 1) tape)) =
+        h ∙ ap (λ x. step-of zs os ts (entry ks x) next last) g ∙ ap₂ (λ x y. step-of zs os ts (entry ks (getD tape i 0)) x y) (f .ahead) (f .ends) in
         let k : suc (suc (2 * i)) ≡ 2 * (i + 1) = omega arith in
         record {
           inside = omega (arith, f .inside);
@@ -102,7 +102,7 @@ module _ (zs os fs ks : List ℕ) (e : ℕ) where
 
     -- the same, counting down
     pub filling-down : (i next c : ℕ) (last : Bool) (words : List ℕ) (r : Words) → 0 < i → Filling tape old i next last words → c ≡ getD tape (i - 1) 0
-        → r ≡ step-of zs os fs (entry ks c) next last → Filling tape old (i - 1) (r .one) false (set (set words (2 * (i - 1)) (r .zero)) (2 * (i - 1) + 1) (r .one))
+        → r ≡ step-of zs os ts (entry ks c) next last → Filling tape old (i - 1) (r .one) false (set (set words (2 * (i - 1)) (r .zero)) (2 * (i - 1) + 1) (r .one))
     filling-down i next c last words r o f g h =
         let e : i ≡ i - 1 + 1 = omega arith in
         filling-next (i - 1) next c last words r (subst (λ k. Filling tape old k next last words) e f) g h

@@ -11,6 +11,7 @@ use Rattle.syntax.specs.Letter.{is-letter}
 use Rattle.syntax.specs.Trees.{root}
 use Rattle.syntax.specs.TreeLaws.{Rules}
 use Rattle.semantics.specs.Sweeps.{at-end}
+use Rattle.table.specs.Cells.{follower-in, Holds}
 use Rattle.masks.specs.Nodes.{word-past-last}
 use Rattle.masks.specs.Closure.{leaf-mask}
 use Rattle.masks.specs.Unions.{pick, union}
@@ -38,35 +39,35 @@ union-chosen (suc n) g m k e = ap₂ bitOr (go (g n) (e n (omega arith))) (union
     go true f = f refl
     go false f = refl
 
-module _ (p : Pattern) (r : Rules p) (zs os fs ks : List ℕ) (e : ℕ) (good : Masks-of p zs os fs ks e) where
+module _ (p : Pattern) (r : Rules p) (zs os ts ks : List ℕ) (e : ℕ) (held : Holds p ts) (good : Masks-of (root p) (p .count) zs os ks e) where
   -- a leaf that is open is a line of the table
-  live-inside : (c next : ℕ) (last : Bool) (x : ℕ) → live (takers p c) next last (entry fs) x ≡ true → x < p .count
+  live-inside : (c next : ℕ) (last : Bool) (x : ℕ) → live (takers (root p) (p .count) c) next last (follower-in ts) x ≡ true → x < p .count
   unfolding takers
   live-inside c next last x h = go (decLt x (p .count))
     where
       go : Dec (x < p .count) → x < p .count
       go (yes y) = y
       go (no y) =
-          absurd (true≢false (sym h ∙ ap (λ z. z && behind next last (entry fs x)) (word-past-last (root p) (p .count) (λ t s. takes t c) x (omega arith))))
+          absurd (true≢false (sym h ∙ ap (λ z. z && behind next last (follower-in ts x)) (word-past-last (root p) (p .count) (λ t s. takes t c) x (omega arith))))
 
   -- one position from the next, over the stored masks
   pub step-words : (c : ℕ) (w : List ℕ) → is-letter c ≡ true
-      → step-of zs os fs (entry ks c) (state-set p true w) (at-end true w) ≡ record { zero = state-set p false (c ∷ w); one = state-set p true (c ∷ w) }
+      → step-of zs os ts (entry ks c) (state-set p true w) (at-end true w) ≡ record { zero = state-set p false (c ∷ w); one = state-set p true (c ∷ w) }
   step-words c w h =
-      ap (λ k. step-of zs os fs k (state-set p true w) (at-end true w)) (good .letters c h)
+      ap (λ k. step-of zs os ts k (state-set p true w) (at-end true w)) (good .letters c h)
       ∙ ap₂ (λ x y. record { zero = x; one = y })
       (union-chosen 64 chosen (entry zs) (leaf-mask (root p) (p .count) false) (λ x l f. good .zeros x (live-inside c (state-set p true w) (at-end true w) x f))
-      ∙ sym (state-step p r (entry fs) (good .follows) c w false))
+      ∙ sym (state-step p r ts held c w false))
       (union-chosen 64 chosen (entry os) (leaf-mask (root p) (p .count) true) (λ x l f. good .ones x (live-inside c (state-set p true w) (at-end true w) x f))
-      ∙ sym (state-step p r (entry fs) (good .follows) c w true))
+      ∙ sym (state-step p r ts held c w true))
     where
       chosen : ℕ → Bool
-      chosen = live (takers p c) (state-set p true w) (at-end true w) (entry fs)
+      chosen = live (takers (root p) (p .count) c) (state-set p true w) (at-end true w) (follower-in ts)
 
   -- THE FILL over the masks of a pattern is the words of the definition
-  pub sweep-words : (w : List ℕ) → All-letters w → sweep-of zs os fs ks e w ≡ words p w
+  pub sweep-words : (w : List ℕ) → All-letters w → sweep-of zs os ts ks e w ≡ words p w
   sweep-words [] h = ap₂ (λ x y. x ∷ y ∷ []) (sym (state-end p r false)) (good .ends ∙ sym (state-end p r true))
   sweep-words (c ∷ w) h =
-      ap (λ ws. put (step-of zs os fs (entry ks c) (first-one ws) (at-end true w)) ws) (sweep-words w (h .1))
-      ∙ ap (λ k. put (step-of zs os fs (entry ks c) k (at-end true w)) (words p w)) (first-word p w)
+      ap (λ ws. put (step-of zs os ts (entry ks c) (first-one ws) (at-end true w)) ws) (sweep-words w (h .1))
+      ∙ ap (λ k. put (step-of zs os ts (entry ks c) k (at-end true w)) (words p w)) (first-word p w)
       ∙ ap (λ s. put s (words p w)) (step-words c w (h .0))

@@ -4,13 +4,16 @@ ghost use mathlib.Core.Bool.{_&&_};
 ghost use lib.Dec.{eqb};
 ghost use Prim.Native.Nat.{_*_, _≤_, _<_};
 ghost use Rattle.bits.specs.Bits.{bit, in-front};
+ghost use Rattle.table.specs.Cells.{Holds};
 ghost use Rattle.first_sweep.specs.StateSets.{words as words-of};
 ghost use Rattle.first_sweep.specs.Steps.{behind, step-of};
 ghost use Rattle.first_sweep.specs.Sweep.{Sweepable, sweep-of};
 ghost use Rattle.first_sweep.specs.Memo.{Remembers};
 ghost use Rattle.first_sweep.specs.Fill.{Fillable};
+use masks::LETTER_CELLS;
 use masks::put_masks;
 use syntax::Pattern;
+use table::follower_at;
 
 // The two state sets of a position: with flag 0 and with flag 1.
 pub struct Words {
@@ -42,12 +45,12 @@ fn times(mask: u64, e: u64) -> u64
 pub fn step(
     zero: &[u64; 64],
     one: &[u64; 64],
-    followers: &[u8; 64],
+    table: &[u64; 64],
     takers: u64,
     next: u64,
     last: bool,
 ) -> Words
-    ensures { λ r. ⌜ r ≡ step-of (now (zero .entry)) (now (one .entry)) (now (followers .entry)) takers next last ⌝ }
+    ensures { λ r. ⌜ r ≡ step-of (now (zero .entry)) (now (one .entry)) (now (table .entry)) takers next last ⌝ }
 {
     let mut rest = takers;
     let mut a: u64 = 0;
@@ -56,7 +59,7 @@ pub fn step(
         let x = u64::trailing_zeros(rest);
         let i = x as usize;
         rest = rest & (rest - 1);
-        let e = open_bit(followers[i], next, last);
+        let e = open_bit(follower_at(table, i), next, last);
         a = a | times(zero[i], e);
         b = b | times(one[i], e);
     }
@@ -78,19 +81,19 @@ fn is_kept(kept: u64, takers: u64, behind: u64, next: u64) -> bool
 fn recall(
     zero: &[u64; 64],
     one: &[u64; 64],
-    followers: &[u8; 64],
+    table: &[u64; 64],
     takers: u64,
     next: u64,
     last: bool,
     slot: usize,
     memo: &mut [u64],
 ) -> Words
-    requires { ⌜ (slot < 32) × Remembers (now zero) (now one) (now followers) (now memo) ⌝ }
+    requires { ⌜ (slot < 32) × Remembers (now zero) (now one) (now table) (now memo) ⌝ }
     ensures { λ r.
-        ⌜ (r ≡ step-of (now (zero .entry)) (now (one .entry)) (now (followers .entry)) takers next last) × Remembers (now (zero .entry)) (now (one .entry)) (now (followers .entry)) (now (memo .exit)) ⌝ }
+        ⌜ (r ≡ step-of (now (zero .entry)) (now (one .entry)) (now (table .entry)) takers next last) × Remembers (now (zero .entry)) (now (one .entry)) (now (table .entry)) (now (memo .exit)) ⌝ }
 {
     if last {
-        return step(zero, one, followers, takers, next, last);
+        return step(zero, one, table, takers, next, last);
     }
     let k = 4 * slot;
     if is_kept(memo[k], takers, memo[k + 1], next) {
@@ -99,7 +102,7 @@ fn recall(
             one: memo[k + 3],
         };
     }
-    let r = step(zero, one, followers, takers, next, last);
+    let r = step(zero, one, table, takers, next, last);
     memo[k] = takers;
     memo[k + 1] = next;
     memo[k + 2] = r.zero;
@@ -111,15 +114,15 @@ fn recall(
 fn sweep(
     zero: &[u64; 64],
     one: &[u64; 64],
-    followers: &[u8; 64],
-    takers: &[u64; 128],
+    table: &[u64; 64],
+    takers: &[u64; LETTER_CELLS],
     end: u64,
     tape: &[u8],
     words: &mut [u64],
 )
     requires { ⌜ Sweepable (now tape) (now words) ⌝ }
     ensures { λ _.
-        ⌜ now (words .exit) ≡ in-front (sweep-of (now (zero .entry)) (now (one .entry)) (now (followers .entry)) (now (takers .entry)) end (now (tape .entry))) (now (words .entry)) ⌝ }
+        ⌜ now (words .exit) ≡ in-front (sweep-of (now (zero .entry)) (now (one .entry)) (now (table .entry)) (now (takers .entry)) end (now (tape .entry))) (now (words .entry)) ⌝ }
 {
     let n = tape.len();
     words[2 * n] = 0;
@@ -131,16 +134,7 @@ fn sweep(
     while 0 < i {
         i -= 1;
         let c = tape[i] as usize;
-        let r = recall(
-            zero,
-            one,
-            followers,
-            takers[c],
-            next,
-            last,
-            c % 32,
-            &mut memo,
-        );
+        let r = recall(zero, one, table, takers[c], next, last, c % 32, &mut memo);
         words[2 * i] = r.zero;
         words[2 * i + 1] = r.one;
         next = r.one;
@@ -149,15 +143,14 @@ fn sweep(
 }
 
 // THE FIRST SWEEP: fills words 2i and 2i + 1 with the state sets of position i, flag 0 and flag 1, for each position of the tape, its end
-// included. No other word changes. The parser's service makes the tests that this asks for.
-pub fn fill(p: Pattern, tape: &[u8], words: &mut [u64])
-    requires { ⌜ Fillable p (now tape) (now words) ⌝ }
+// included. No other word changes. The parser's service makes the tests that this asks for, and the table.
+pub fn fill(p: Pattern, table: &[u64; 64], tape: &[u8], words: &mut [u64])
+    requires { ⌜ Fillable p (now tape) (now words) × Holds p (now table) ⌝ }
     ensures { λ _. ⌜ now (words .exit) ≡ in-front (words-of p (now (tape .entry))) (now (words .entry)) ⌝ }
 {
     let mut zero = [0u64; 64];
     let mut one = [0u64; 64];
-    let mut followers = [0u8; 64];
-    let mut takers = [0u64; 128];
-    let end = put_masks(p, &mut zero, &mut one, &mut followers, &mut takers);
-    sweep(&zero, &one, &followers, &takers, end, tape, words);
+    let mut takers = [0u64; LETTER_CELLS];
+    let end = put_masks(table, p.count, &mut zero, &mut one, &mut takers);
+    sweep(&zero, &one, table, &takers, end, tape, words);
 }

@@ -1,26 +1,15 @@
--- What a mask speaks of: a leaf's follower, the letters a leaf takes, and cells of stored masks.
+-- What a mask speaks of: the letters that a leaf takes, and cells of stored masks.
 use mathlib.Core.Path.{_≡_}
-use mathlib.Core.Bool.{Bool, false}
+use mathlib.Core.Bool.{Bool, true, false}
 use mathlib.Core.List.{List}
-use Prim.Native.Nat.{ℕ}
+use Prim.Native.Nat.{ℕ, _<_}
+use native.Mathlib.Omega.{arith}
 use lib.Dec.{eqb}
 use lib.ListN.{getD}
-use Rattle.syntax.specs.declared.Pattern.{Pattern}
-use Rattle.syntax.specs.Letter.{in-range}
-use Rattle.syntax.specs.Tree.{Tree, nothing, letter, range, seq, alt, star, index}
-use Rattle.syntax.specs.Trees.{root}
-use Rattle.semantics.specs.Automaton.{State, end, at, follower}
-use Rattle.masks.specs.Nodes.{node-word, Node-at}
-
--- a state's number: a node's index, and 64 for the end
-abbrev pub state-index : {root : Tree} → State root → ℕ
-state-index end = 64
-state-index (at t s) = index t
-
--- the follower of node x has the number f
-pub record Followed (p : Pattern) (x f : ℕ) : Type 0 where
-  pub node : Node-at (root p) x
-  pub is : f ≡ state-index (follower (node .place))
+use Rattle.syntax.specs.Letter.{is-letter, in-range}
+use Rattle.syntax.specs.LetterLaws.{letter-below}
+use Rattle.syntax.specs.Tree.{Tree, nothing, letter, range, seq, alt, star}
+use Rattle.masks.specs.Nodes.{node-word}
 
 -- whether a leaf takes a letter
 abbrev pub takes : Tree → ℕ → Bool
@@ -31,9 +20,17 @@ takes (seq m t u) c = false
 takes (alt m t u) c = false
 takes (star m again t) c = false
 
--- the leaves that take a letter
-unfoldable pub takers : Pattern → (letter : ℕ) → ℕ
-takers p c = node-word (root p) (p .count) (λ t s. takes t c)
+-- the leaves of a tree of n nodes that take a letter
+unfoldable pub takers : Tree → (n : ℕ) → (letter : ℕ) → ℕ
+takers root n c = node-word root n (λ t s. takes t c)
+
+-- the number of cells that hold takers, a letter a cell; in code `LETTER_CELLS`
+abbrev pub letter-cells : ℕ
+letter-cells = 128
+
+-- every letter has its cell
+pub letter-cell : (c : ℕ) → is-letter c ≡ true → c < letter-cells
+letter-cell c h = omega (arith, letter-below c h)
 
 -- a cell of an array of numbers, 0 past its end
 abbrev pub entry : List ℕ → ℕ → ℕ

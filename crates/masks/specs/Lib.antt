@@ -4,7 +4,7 @@ pub mod Closure
 pub mod Unions
 pub mod Leaves
 pub mod Lowest
-pub mod Fronts
+pub mod Firsts
 pub mod Follows
 pub mod Masks
 pub mod Scatter

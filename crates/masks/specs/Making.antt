@@ -1,37 +1,65 @@
--- The masks that are made of fronts and of what follows are those of the pattern.
-use mathlib.Core.Path.{_≡_, _∙_}
+-- The masks that are made of first, nullable and follow are those of the tree.
+use mathlib.Core.Path.{_≡_, sym, subst, _∙_}
 use mathlib.Core.Bool.{Bool, true, false}
 use mathlib.Core.List.{List}
-use Prim.Native.Nat.{ℕ}
+use Prim.Native.Nat.{ℕ, _-_}
 use native.Mathlib.Omega.{arith}
-use lib.ListN.{length, replicate, length-replicate, getD-replicate}
+use lib.ListN.{replicate, length-replicate, getD-replicate}
 use Rattle.syntax.specs.declared.Pattern.{Pattern}
-use Rattle.syntax.specs.LetterLaws.{letter-below}
-use Rattle.syntax.specs.TreeLaws.{Rules}
+use Rattle.syntax.specs.Trees.{tree-of, root}
+use Rattle.syntax.specs.TreeLaws.{Rules, obeys-iff}
 use Rattle.bits.specs.Bits.{word-of}
-use Rattle.masks.specs.Fronts.{Fronts, follow-at}
-use Rattle.masks.specs.Follows.{Down, down-end, followed-of}
+use Rattle.table.specs.Cells.{line-in, tree-in, Good, Holds}
+use Rattle.table.specs.CellLaws.{holds-tree, holds-good}
+use Rattle.table.specs.HandDown.{Rooted, rules-rooted}
+use Rattle.masks.specs.Nodes.{Planted}
+use Rattle.masks.specs.Planting.{root-planted}
+use Rattle.masks.specs.Leaves.{letter-cells, letter-cell}
+use Rattle.masks.specs.Firsts.{Firsts}
+use Rattle.masks.specs.Follows.{Down}
 use Rattle.masks.specs.Masks.{Filled, row, comes-to-end, column, column-says, row-ends, line-takers, line-takers-are, Masks-of}
 
--- arrays in which nothing is marked, and room for the followers and the leaves that take a letter
-pub record Blank (zs os fs ks : List ℕ) : Type 0 where
+-- a good table whose lines below the count are a tree, in which each stands once
+pub record Maskable (table : List ℕ) (count : ℕ) : Type 0 where
+  pub good : Good table
+  pub whole : Rooted (line-in table) count
+  pub once : Planted (tree-of (line-in table) (count - 1)) count
+
+-- arrays in which nothing is marked
+pub record Blank (zs os ks : List ℕ) : Type 0 where
   pub zeros : Filled 0 (λ x. 0) 64 64 zs
   pub ones : Filled 0 (λ x. 0) 64 64 os
-  pub followers : length fs ≡ 64
-  pub takers : length ks ≡ 128
+  pub takers : Filled 0 (λ x. 0) letter-cells letter-cells ks
 
 pub none-marked : (n : ℕ) → Filled {A = ℕ} 0 (λ x. 0) n n (replicate n 0)
 none-marked n = record { long = length-replicate n 0; cells = λ x h. getD-replicate n x 0 0 h }
 
--- the masks that are made of fronts and of what follows
-pub masks-made : (p : Pattern) (r : Rules p) (xs : List ℕ) (ns : List Bool) (ss bs : List ℕ) (es : List Bool) (cs ds ks : List ℕ) (e : ℕ)
-    → Fronts p r (p .count) xs ns → Down p r 0 ss bs es
-    → Filled 0 (column (p .count) (row xs ns bs 0)) 64 (p .count) cs → Filled 0 (column (p .count) (row xs ns bs 1)) 64 (p .count) ds
-    → Filled 0 (λ c. line-takers p c (p .count)) 128 128 ks → e ≡ word-of (p .count) (comes-to-end ns es) → Masks-of p cs ds ss ks e
-masks-made p r xs ns ss bs es cs ds ks e u d z o k w = record {
-  zeros = λ x h. z .cells x h ∙ column-says p r xs ns ss bs es u d false x;
-  ones = λ x h. o .cells x h ∙ column-says p r xs ns ss bs es u d true x;
-  follows = λ x h. followed-of p r x (follow-at ss bs es x) h (down-end p r ss bs es d x h);
-  letters = λ c h. k .cells c (omega (arith, letter-below c h)) ∙ line-takers-are p r c;
-  ends = w ∙ row-ends p r xs ns ss bs es u d;
+-- the masks that are made of first, nullable and follow
+pub masks-made :
+    (table : List ℕ) (n : ℕ) → Maskable table n → (xs : List ℕ) (ns : List Bool) (bs : List ℕ) (es : List Bool) (cs ds ks : List ℕ) (e : ℕ)
+    → Firsts (line-in table) n xs ns → Down (line-in table) n 0 bs es
+    → Filled 0 (column n (row xs ns bs 0)) 64 n cs → Filled 0 (column n (row xs ns bs 1)) 64 n ds
+    → Filled 0 (λ c. line-takers (line-in table) c n) letter-cells letter-cells ks → e ≡ word-of n (comes-to-end ns es)
+    → Masks-of (tree-of (line-in table) (n - 1)) n cs ds ks e
+masks-made table n m xs ns bs es cs ds ks e u d z o k w = record {
+  zeros = λ x h. z .cells x h ∙ column-says (m .whole) (m .once) xs ns bs es u d false x;
+  ones = λ x h. o .cells x h ∙ column-says (m .whole) (m .once) xs ns bs es u d true x;
+  letters = λ c h. k .cells c (letter-cell c h) ∙ line-takers-are (m .whole) (m .once) xs ns bs es u d c;
+  ends = w ∙ row-ends (m .whole) (m .once) xs ns bs es u d;
 }
+
+-- a table that holds a pattern is such a table, and its masks are the pattern's
+module _ (p : Pattern) (r : Rules p) (table : List ℕ) (h : Holds p table) where
+  tree-is : tree-of (line-in table) (p .count - 1) ≡ root p
+  unfolding tree-in
+  tree-is = holds-tree p table (obeys-iff p .1 r) h
+
+  pub holds-maskable : Maskable table (p .count)
+  holds-maskable = record {
+    good = holds-good p table (obeys-iff p .1 r) h;
+    whole = rules-rooted p r (line-in table) (h .lines);
+    once = subst (λ t. Planted t (p .count)) (sym tree-is) (root-planted p r);
+  }
+
+  pub masks-of-pattern : (zs os ks : List ℕ) (e : ℕ) → Masks-of (tree-of (line-in table) (p .count - 1)) (p .count) zs os ks e → Masks-of (root p) (p .count) zs os ks e
+  masks-of-pattern zs os ks e m = subst (λ t. Masks-of t (p .count) zs os ks e) tree-is m

@@ -14,6 +14,7 @@ use Rattle.bits.specs.Bits.{test-bit, word-of}
 use Rattle.bits.specs.Words.{word-lt, word-bit, word-past, word-unique}
 use Rattle.semantics.specs.Basics.{or-left, or-right, or-cases, not-both, eqb-self, eqb-eq}
 use Rattle.semantics.specs.Automaton.{Location, top, fst, snd, lft, rgt, rnd}
+use Rattle.table.specs.Cells.{Node-at}
 
 -- whether an index stands in a tree
 abbrev pub has : Tree → ℕ → Bool
@@ -145,12 +146,6 @@ pub record Planted (root : Tree) (n : ℕ) : Type 0 where
   pub apart : Apart root
   pub under : (l : ℕ) → has root l ≡ true → l < n
   pub whole : (l : ℕ) → l < n → has root l ≡ true
-
--- the node with index l
-pub record Node-at (root : Tree) (l : ℕ) : Type 0 where
-  pub tree : Tree
-  pub place : Location root tree
-  pub is : index tree ≡ l
 
 pub find : {root : Tree} (t : Tree) → Location root t → (l : ℕ) → has t l ≡ true → Node-at root l
 find (nothing m) s l h = record { tree = nothing m; place = s; is = eqb-eq (m .index) l h }

@@ -16,17 +16,15 @@ use Rattle.syntax.specs.declared.Leaf.{Leaf}
 use Rattle.syntax.specs.declared.Leaf.the-variants.{Nothing, Letter, Range}
 use Rattle.syntax.specs.declared.Node.{Node}
 use Rattle.syntax.specs.declared.Node.the-variants.{Leaf as Leaf-node}
-use Rattle.syntax.specs.declared.Pattern.{Pattern}
+use Rattle.syntax.specs.declared.Line.{Line}
 use Rattle.syntax.specs.Letter.{is-letter, in-range}
-use Rattle.syntax.specs.LetterLaws.{letter-below}
-use Rattle.syntax.specs.Table.{leaf-good, node-good, line-good, line-at, node-at}
-use Rattle.syntax.specs.TreeLaws.{Rules}
+use Rattle.syntax.specs.Table.{leaf-good, node-good}
 use Rattle.bits.specs.Bits.{bit, test-bit, word-of}
 use Rattle.bits.specs.Numbers.{test-small}
 use Rattle.bits.specs.Words.{word-bit, word-past, test-or, test-single}
 use Rattle.semantics.specs.Basics.{eqb-self, and-fst, and-snd}
-use Rattle.masks.specs.Unions.{equal}
-use Rattle.masks.specs.Leaves.{entry}
+use Rattle.table.specs.HandDown.{equal}
+use Rattle.masks.specs.Leaves.{letter-cells, letter-cell, entry}
 use Rattle.masks.specs.Lowest.{same-bits, lowest-lt, lowest-on, lowest-cleared, lowest-out}
 use Rattle.masks.specs.Masks.{Filled, column, leaf-takes, node-takes, line-takers}
 
@@ -231,11 +229,12 @@ leaf-letter leaf i before now a e m = rw e (marked-same (between a a) (leaf-take
 pub leaf-range : (leaf : Leaf) (i : ℕ) (before now : List ℕ) (a b : ℕ) → leaf-good leaf ≡ true → leaf ≡ Range a b → Marked (between a b) i before now → Marked (leaf-takes leaf) i before now
 leaf-range leaf i before now a b g e m = rw e (marked-same (between a b) (leaf-takes (Range a b)) i before now (λ c. range-between a b c (rw e at g)) m)
 
-pub letter-cell : (leaf : Leaf) (a : ℕ) → leaf-good leaf ≡ true → leaf ≡ Letter a → a < 128
-letter-cell leaf a g e = let h : is-letter a ≡ true = rw e at g in omega (arith, letter-below a h)
+-- the letters of a good leaf have their cells
+pub leaf-cell : (leaf : Leaf) (a : ℕ) → leaf-good leaf ≡ true → leaf ≡ Letter a → a < letter-cells
+leaf-cell leaf a g e = letter-cell a (rw e at g)
 
-pub range-cell : (leaf : Leaf) (a b : ℕ) → leaf-good leaf ≡ true → leaf ≡ Range a b → b < 128
-range-cell leaf a b g e = omega (arith, letter-below b (and-snd (is-letter a) (is-letter b) (and-fst (is-letter a && is-letter b) (leb a b) (rw e at g))))
+pub range-cell : (leaf : Leaf) (a b : ℕ) → leaf-good leaf ≡ true → leaf ≡ Range a b → b < letter-cells
+range-cell leaf a b g e = letter-cell b (and-snd (is-letter a) (is-letter b) (and-fst (is-letter a && is-letter b) (leb a b) (rw e at g)))
 
 pub node-leaf : (node : Node) (i : ℕ) (before now : List ℕ) (x : Leaf) → node ≡ Leaf-node x → Marked (leaf-takes x) i before now → Marked (node-takes node) i before now
 node-leaf node i before now x e m = rw e m
@@ -243,20 +242,19 @@ node-leaf node i before now x e m = rw e m
 pub node-leaf-good : (node : Node) (x : Leaf) → node-good node ≡ true → node ≡ Leaf-node x → leaf-good x ≡ true
 node-leaf-good node x g e = rw e at g
 
--- a line of a tested table
-pub line-node-good : (p : Pattern) → Rules p → (i : ℕ) → i < p .count → node-good (node-at p i) ≡ true
-unfolding line-good
-line-node-good p r i h = and-snd (leb (line-at p i .account) 9) (node-good (line-at p i .node)) (r .formed i h)
+module _ (f : ℕ → Line) where
+  -- the lines that take a letter
+  abbrev pub line-takes : (l c : ℕ) → Bool
+  line-takes l = node-takes (f l .node)
 
-pub takers-start : (p : Pattern) (cells : List ℕ) → Filled 0 (λ x. 0) 128 128 cells → Scattered (λ l. node-takes (node-at p l)) 128 0 cells
-takers-start p cells = scattered-start (λ l. node-takes (node-at p l)) 128 cells
+  pub takers-next :
+      (k : Node) (i : ℕ) (cells now : List ℕ) → k ≡ f i .node → Scattered line-takes letter-cells i cells → Marked (node-takes k) i cells now
+      → Scattered line-takes letter-cells (i + 1) now
+  takers-next k i cells now e s m = scattered-next line-takes letter-cells i cells now s (rw e at m)
 
-pub takers-next : (p : Pattern) (i : ℕ) (cells now : List ℕ) → Scattered (λ l. node-takes (node-at p l)) 128 i cells → Marked (node-takes (node-at p i)) i cells now
-    → Scattered (λ l. node-takes (node-at p l)) 128 (i + 1) now
-takers-next p i cells now = scattered-next (λ l. node-takes (node-at p l)) 128 i cells now
-
-pub takers-end : (p : Pattern) (i : ℕ) (cells : List ℕ) → i ≡ p .count → Scattered (λ l. node-takes (node-at p l)) 128 i cells → Filled 0 (λ c. line-takers p c (p .count)) 128 128 cells
-takers-end p i cells e s = scattered-end (λ l. node-takes (node-at p l)) 128 (p .count) 128 cells (omega arith) (rw e at s)
+  pub takers-end :
+      (n i : ℕ) (cells : List ℕ) → i ≡ n → Scattered line-takes letter-cells i cells → Filled 0 (λ c. line-takers f c n) letter-cells letter-cells cells
+  takers-end n i cells e s = scattered-end line-takes letter-cells n letter-cells cells (omega arith) (rw e at s)
 
 pub columns-next : (rows : ℕ → ℕ) (i w : ℕ) (cells now : List ℕ) → Scattered (λ l. test-bit (rows l)) 64 i cells → w ≡ rows i → Marked (test-bit w) i cells now
     → Scattered (λ l. test-bit (rows l)) 64 (i + 1) now

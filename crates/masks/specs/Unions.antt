@@ -4,9 +4,7 @@ use mathlib.Core.Bool.{Bool, true, false, _&&_, _||_}
 use Prim.Native.Nat.{ℕ, zero, suc, _^_, _<_}
 use native.Mathlib.Omega.{arith}
 use lib.Bits.{bitOr, or-lt}
-use lib.Dec.{eqb}
 use lib.Pow.{pow-pos}
-use borrow.Author.Tests.{eqb-true, eqb-false}
 use Rattle.bits.specs.Bits.{test-bit}
 use Rattle.bits.specs.Numbers.{test-small}
 use Rattle.bits.specs.Words.{test-or}
@@ -42,10 +40,3 @@ pub union-same : (n : ℕ) (g h : ℕ → Bool) (m k : ℕ → ℕ) → ((x : �
 union-same zero g h m k e f = refl
 union-same (suc n) g h m k e f =
     ap₂ bitOr (ap₂ pick (e n (omega arith)) (f n (omega arith))) (union-same n g h m k (λ x l. e x (omega arith)) (λ x l. f x (omega arith)))
-
-pub equal : (m n : ℕ) → Dec (m ≡ n)
-equal m n = go (eqb m n) refl
-  where
-    go : (b : Bool) → eqb m n ≡ b → Dec (m ≡ n)
-    go true e = yes (eqb-true m n e)
-    go false e = no (eqb-false m n e)

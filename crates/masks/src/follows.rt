@@ -1,134 +1,117 @@
-// Going down: what each node comes to behind itself, from the last line to the first.
+// Follow, Glushkov's set of a node: the leaves that are come to behind it by empty steps. It goes down: a line hands on to its parts.
 ghost use mathlib.Core.Path.{_≡_};
 ghost use Prim.Native.Nat.{_<_};
-ghost use Rattle.syntax.specs.TreeLaws.{Rules};
-ghost use Rattle.masks.specs.Fronts.{before-second, before-round, first-part, second-part, to-first, Fronts};
-ghost use Rattle.masks.specs.Follows.{Sized, Stored, Down};
-use super::fronts::Front;
+ghost use lib.ListN.{length};
+ghost use Rattle.syntax.specs.TreeLaws.{Below};
+ghost use Rattle.table.specs.Cells.{line-in, node-in};
+ghost use Rattle.table.specs.HandDown.{second-part, Rooted};
+ghost use Rattle.masks.specs.Firsts.{first-at, Firsts};
+ghost use Rattle.masks.specs.Follows.{follow-at, before-second, before-round, to-first, Sized, Stored, Handed, Down};
+use super::firsts::First;
+use super::firsts::first_at;
 use super::word::both;
 use super::word::join;
 use syntax::Node;
-use syntax::Pattern;
+use table::first_part;
+use table::node_at;
+use table::second_part;
 
-// What follows a node: the follower, 64 for the end; the leaves that are come to behind the node with flag 0 and with flag 1;
-// and whether the end is with flag 1.
+// The leaves that are come to behind a node with flag 0 and with flag 1, and whether the end is with flag 1.
 pub struct Follow {
-    pub state: u8,
     pub zero: u64,
     pub one: u64,
     pub end: bool,
 }
 
-// What follows the first part of a sequence: the second, and what follows that where it can be empty.
-fn before_second(second: u8, front: Front, follow: Follow) -> Follow
-    ensures { λ r. ⌜ r ≡ before-second second front follow ⌝ }
+// What follows the first part of a sequence: the second, and what follows that where it is nullable.
+fn before_second(second: First, follow: Follow) -> Follow
+    ensures { λ r. ⌜ r ≡ before-second second follow ⌝ }
 {
     Follow {
-        state: second,
-        zero: join(front.first, follow.zero, front.null),
-        one: join(front.first, follow.one, front.null),
-        end: both(front.null, follow.end),
+        zero: join(second.leaves, follow.zero, second.nullable),
+        one: join(second.leaves, follow.one, second.nullable),
+        end: both(second.nullable, follow.end),
     }
 }
 
 // What follows the child of a star: the star, with flag 1 only.
-fn before_round(star: u8, front: Front, follow: Follow) -> Follow
-    ensures { λ r. ⌜ r ≡ before-round star front follow ⌝ }
+fn before_round(child: First, follow: Follow) -> Follow
+    ensures { λ r. ⌜ r ≡ before-round child follow ⌝ }
 {
     Follow {
-        state: star,
         zero: 0,
-        one: front.first | follow.one,
+        one: child.leaves | follow.one,
         end: follow.end,
     }
 }
 
-// The parts of line i: a star has one, and a leaf stands for its own.
-pub(crate) fn first_part(node: Node, i: usize) -> usize
-    ensures { λ r. ⌜ r ≡ first-part i node ⌝ }
-{
-    match node {
-        Node::Leaf(_) => i,
-        Node::Sequence(p, _) => p as usize,
-        Node::Alternative(p, _) => p as usize,
-        Node::Star(p) => p as usize,
-    }
-}
-
-pub(crate) fn second_part(node: Node, i: usize) -> usize
-    ensures { λ r. ⌜ r ≡ second-part i node ⌝ }
-{
-    match node {
-        Node::Leaf(_) => i,
-        Node::Sequence(_, q) => q as usize,
-        Node::Alternative(_, q) => q as usize,
-        Node::Star(p) => p as usize,
-    }
-}
-
-// What follows the first part of line i, from the front of the second and what follows the line.
-fn to_first(node: Node, i: usize, front: Front, follow: Follow) -> Follow
-    requires { ⌜ i < 64 ⌝ }
-    ensures { λ r. ⌜ r ≡ to-first i front node follow ⌝ }
+// What follows the first part of a line, from the first of its second part and what follows the line.
+fn to_first(node: Node, second: First, follow: Follow) -> Follow
+    ensures { λ r. ⌜ r ≡ to-first second node follow ⌝ }
 {
     match node {
         Node::Leaf(_) => follow,
-        Node::Sequence(_, q) => before_second(q, front, follow),
+        Node::Sequence(_, _) => before_second(second, follow),
         Node::Alternative(_, _) => follow,
-        Node::Star(_) => before_round(i as u8, front, follow),
+        Node::Star(_) => before_round(second, follow),
     }
 }
 
-// Stores what follows line i. Two cells of `behind` are the line's: flag 0 and flag 1.
-fn put_follow(states: &mut [u8], behind: &mut [u64], ends: &mut [bool], i: usize, follow: Follow)
-    requires { ⌜ (i < 64) × Sized (now states) (now behind) (now ends) ⌝ }
-    ensures { λ _.
-        ⌜ Stored (now (states .entry)) (now (behind .entry)) (now (ends .entry)) i follow (now (states .exit)) (now (behind .exit)) (now (ends .exit)) ⌝ }
+// What follows a line. Two cells of `behind` are the line's: flag 0 and flag 1.
+fn follow_at(behind: &[u64; 128], ends: &[bool; 64], l: usize) -> Follow
+    requires { ⌜ (l < 64) × Sized (now behind) (now ends) ⌝ }
+    ensures { λ r. ⌜ r ≡ follow-at (now (behind .entry)) (now (ends .entry)) l ⌝ }
 {
-    states[i] = follow.state;
-    behind[2 * i] = follow.zero;
-    behind[2 * i + 1] = follow.one;
-    ends[i] = follow.end;
+    Follow {
+        zero: behind[2 * l],
+        one: behind[2 * l + 1],
+        end: ends[l],
+    }
 }
 
-// What follows each line, into three lent arrays. The end follows the last line; each line hands on to its parts.
+fn put_follow(behind: &mut [u64; 128], ends: &mut [bool; 64], l: usize, follow: Follow)
+    requires { ⌜ (l < 64) × Sized (now behind) (now ends) ⌝ }
+    ensures { λ _. ⌜ Stored (now (behind .entry)) (now (ends .entry)) l follow (now (behind .exit)) (now (ends .exit)) ⌝ }
+{
+    behind[2 * l] = follow.zero;
+    behind[2 * l + 1] = follow.one;
+    ends[l] = follow.end;
+}
+
+// Line i hands on to its parts, from the first of its second part.
+fn hand_on(node: Node, i: usize, second: First, behind: &mut [u64; 128], ends: &mut [bool; 64])
+    requires { ⌜ (i < 64) × Below i node × Sized (now behind) (now ends) ⌝ }
+    ensures { λ _. ⌜ Handed i node second (now (behind .entry)) (now (ends .entry)) (now (behind .exit)) (now (ends .exit)) ⌝ }
+{
+    let follow = follow_at(behind, ends, i);
+    let before = to_first(node, second, follow);
+    put_follow(behind, ends, second_part(node, i), follow);
+    put_follow(behind, ends, first_part(node, i), before);
+}
+
+// What follows each line, into two lent arrays. The end follows the last line.
 pub(crate) fn put_follows(
-    p: Pattern,
-    firsts: &[u64],
-    nulls: &[bool],
-    states: &mut [u8],
-    behind: &mut [u64],
-    ends: &mut [bool],
+    table: &[u64; 64],
+    count: usize,
+    firsts: &[u64; 64],
+    nullable: &[bool; 64],
+    behind: &mut [u64; 128],
+    ends: &mut [bool; 64],
 )
-    requires { ⌜ Rules p × ((good : Rules p) → Fronts p good (p .count) (now firsts) (now nulls)) × Sized (now states) (now behind) (now ends) ⌝ }
-    ensures { λ _. ⌜ ((good : Rules p) → Down p good 0 (now (states .exit)) (now (behind .exit)) (now (ends .exit))) ⌝ }
+    requires { ⌜ Rooted (line-in (now table)) count × Firsts (line-in (now table)) count (now firsts) (now nullable) × Sized (now behind) (now ends) ⌝ }
+    ensures { λ _. ⌜ Down (line-in (now (table .entry))) count 0 (now (behind .exit)) (now (ends .exit)) ⌝ }
 {
     let end = Follow {
-        state: 64,
         zero: 0u64,
         one: 0u64,
         end: true,
     };
-    put_follow(states, behind, ends, p.count - 1, end);
-    let mut i = p.count;
+    put_follow(behind, ends, count - 1, end);
+    let mut i = count;
     while 0 < i {
         i -= 1;
-        let line = p.lines[i];
-        let node = line.node;
-        let x = first_part(node, i);
-        let y = second_part(node, i);
-        let follow = Follow {
-            state: states[i],
-            zero: behind[2 * i],
-            one: behind[2 * i + 1],
-            end: ends[i],
-        };
-        let front = Front {
-            first: firsts[y],
-            null: nulls[y],
-        };
-        let before = to_first(node, i, front, follow);
-        put_follow(states, behind, ends, y, follow);
-        put_follow(states, behind, ends, x, before);
+        let node = node_at(table, i);
+        let second = first_at(firsts, nullable, second_part(node, i));
+        hand_on(node, i, second, behind, ends);
     }
 }

@@ -1,23 +1,24 @@
-// The masks of a pattern: for each leaf the nodes that come to it by empty steps, with flag 0 and with flag 1; for the end those that
-// come to it with flag 1; and for each letter the leaves that take it.
+// The masks, line by line: each line's bit goes to the cells of the leaves that it comes to, and of the letters that it takes.
 ghost use mathlib.Core.Path.{_≡_};
 ghost use mathlib.Core.Bool.{true};
 ghost use Prim.Native.Nat.{_<_, _≤_};
 ghost use lib.ListN.{length};
 ghost use Rattle.syntax.specs.Table.{leaf-good, node-good};
-ghost use Rattle.syntax.specs.TreeLaws.{Rules};
 ghost use Rattle.bits.specs.Bits.{test-bit, word-of};
+ghost use Rattle.table.specs.Cells.{line-in, Good};
+ghost use Rattle.masks.specs.Leaves.{letter-cells};
 ghost use Rattle.masks.specs.Masks.{Filled, row, comes-to-end, column, leaf-takes, node-takes, line-takers};
 ghost use Rattle.masks.specs.Scatter.{Marked, between};
+use super::LETTER_CELLS;
 use super::word::both;
 use super::word::join;
 use super::word::single;
 use syntax::Leaf;
 use syntax::Node;
-use syntax::Pattern;
+use table::node_at;
 
 // Joins the bit of line i to the cells of a row: those whose bits are set in it.
-fn put_row(cells: &mut [u64], row: u64, i: usize)
+fn put_row(cells: &mut [u64; 64], row: u64, i: usize)
     requires { ⌜ (i < 64) × (length (now cells) ≡ 64) ⌝ }
     ensures { λ _. ⌜ Marked (test-bit row) i (now (cells .entry)) (now (cells .exit)) ⌝ }
 {
@@ -34,34 +35,33 @@ fn put_row(cells: &mut [u64], row: u64, i: usize)
 // and, where it can be empty, those behind it with that flag.
 pub(crate) fn put_columns(
     count: usize,
-    firsts: &[u64],
-    nulls: &[bool],
-    behind: &[u64],
+    firsts: &[u64; 64],
+    nullable: &[bool; 64],
+    behind: &[u64; 128],
     flag: usize,
-    cells: &mut [u64],
+    cells: &mut [u64; 64],
 )
-    requires { ⌜ (count ≤ 64) × (length (now firsts) ≡ 64) × (length (now nulls) ≡ 64) × (length (now behind) ≡ 128) × (flag ≤ 1) ⌝ }
-    requires { ⌜ Filled 0 (λ x. 0) 64 64 (now cells) ⌝ }
+    requires { ⌜ (count ≤ 64) × (flag ≤ 1) × Filled 0 (λ x. 0) 64 64 (now cells) ⌝ }
     ensures { λ _.
-        ⌜ Filled 0 (column count (row (now (firsts .entry)) (now (nulls .entry)) (now (behind .entry)) flag)) 64 count (now (cells .exit)) ⌝ }
+        ⌜ Filled 0 (column count (row (now (firsts .entry)) (now (nullable .entry)) (now (behind .entry)) flag)) 64 count (now (cells .exit)) ⌝ }
 {
     let mut i = 0;
     while i < count {
-        let line = join(firsts[i], behind[2 * i + flag], nulls[i]);
+        let line = join(firsts[i], behind[2 * i + flag], nullable[i]);
         put_row(cells, line, i);
         i += 1;
     }
 }
 
 // The nodes that come to the end with flag 1.
-pub(crate) fn ends_of(count: usize, nulls: &[bool], ends: &[bool]) -> u64
-    requires { ⌜ (count ≤ 64) × (length (now nulls) ≡ 64) × (length (now ends) ≡ 64) ⌝ }
-    ensures { λ r. ⌜ r ≡ word-of count (comes-to-end (now (nulls .entry)) (now (ends .entry))) ⌝ }
+pub(crate) fn ends_of(count: usize, nullable: &[bool; 64], ends: &[bool; 64]) -> u64
+    requires { ⌜ count ≤ 64 ⌝ }
+    ensures { λ r. ⌜ r ≡ word-of count (comes-to-end (now (nullable .entry)) (now (ends .entry))) ⌝ }
 {
     let mut word: u64 = 0;
     let mut i = 0;
     while i < count {
-        let e = single(i, both(nulls[i], ends[i]));
+        let e = single(i, both(nullable[i], ends[i]));
         word = e + word;
         i += 1;
     }
@@ -69,8 +69,8 @@ pub(crate) fn ends_of(count: usize, nulls: &[bool], ends: &[bool]) -> u64
 }
 
 // Joins the bit of line i to the cells of the letters from low to high.
-fn put_range(cells: &mut [u64], low: u8, high: u8, i: usize)
-    requires { ⌜ (i < 64) × (high < length (now cells)) ⌝ }
+fn put_range(cells: &mut [u64; LETTER_CELLS], low: u8, high: u8, i: usize)
+    requires { ⌜ (i < 64) × (high < letter-cells) × (length (now cells) ≡ letter-cells) ⌝ }
     ensures { λ _. ⌜ Marked (between low high) i (now (cells .entry)) (now (cells .exit)) ⌝ }
 {
     let mark = single(i, true);
@@ -82,8 +82,8 @@ fn put_range(cells: &mut [u64], low: u8, high: u8, i: usize)
     }
 }
 
-fn put_leaf(cells: &mut [u64], leaf: Leaf, i: usize)
-    requires { ⌜ (i < 64) × (128 ≤ length (now cells)) × (leaf-good leaf ≡ true) ⌝ }
+fn put_leaf(cells: &mut [u64; LETTER_CELLS], leaf: Leaf, i: usize)
+    requires { ⌜ (i < 64) × (length (now cells) ≡ letter-cells) × (leaf-good leaf ≡ true) ⌝ }
     ensures { λ _. ⌜ Marked (leaf-takes leaf) i (now (cells .entry)) (now (cells .exit)) ⌝ }
 {
     match leaf {
@@ -94,8 +94,8 @@ fn put_leaf(cells: &mut [u64], leaf: Leaf, i: usize)
 }
 
 // Joins the bit of line i to the cells of the letters that its node takes.
-fn put_node(cells: &mut [u64], node: Node, i: usize)
-    requires { ⌜ (i < 64) × (128 ≤ length (now cells)) × (node-good node ≡ true) ⌝ }
+fn put_node(cells: &mut [u64; LETTER_CELLS], node: Node, i: usize)
+    requires { ⌜ (i < 64) × (length (now cells) ≡ letter-cells) × (node-good node ≡ true) ⌝ }
     ensures { λ _. ⌜ Marked (node-takes node) i (now (cells .entry)) (now (cells .exit)) ⌝ }
 {
     match node {
@@ -106,27 +106,14 @@ fn put_node(cells: &mut [u64], node: Node, i: usize)
     }
 }
 
-fn clear(cells: &mut [u64])
-    requires { ⌜ length (now cells) ≡ 128 ⌝ }
-    ensures { λ _. ⌜ Filled 0 (λ x. 0) 128 128 (now (cells .exit)) ⌝ }
+// For each letter the leaves that take it.
+pub(crate) fn put_takers(table: &[u64; 64], count: usize, takers: &mut [u64; LETTER_CELLS])
+    requires { ⌜ (count ≤ 64) × Good (now table) × Filled 0 (λ x. 0) letter-cells letter-cells (now takers) ⌝ }
+    ensures { λ _. ⌜ Filled 0 (λ c. line-takers (line-in (now (table .entry))) c count) letter-cells letter-cells (now (takers .exit)) ⌝ }
 {
     let mut i = 0;
-    while i < 128 {
-        cells[i] = 0;
-        i += 1;
-    }
-}
-
-// For each letter the leaves that take it. Whatever the cells held before is gone.
-pub(crate) fn put_takers(p: Pattern, takers: &mut [u64])
-    requires { ⌜ Rules p × (length (now takers) ≡ 128) ⌝ }
-    ensures { λ _. ⌜ Filled 0 (λ c. line-takers p c (p .count)) 128 128 (now (takers .exit)) ⌝ }
-{
-    clear(takers);
-    let mut i = 0;
-    while i < p.count {
-        let line = p.lines[i];
-        let node = line.node;
+    while i < count {
+        let node = node_at(table, i);
         put_node(takers, node, i);
         i += 1;
     }

@@ -1,8 +1,9 @@
 use Prim.Native.Nat.{_-_}
 use native.Mathlib.Omega.{arith}
-use mathlib.Core.Path.{refl}
+use mathlib.Core.Path.{refl, ap, _∙_}
+use Rattle.bits.specs.Bits.{bit}
 use Rattle.first_sweep.specs.Steps.{behind}
-use Rattle.masks.specs.Leaves.{entry}
+use Rattle.table.specs.Cells.{follower-in}
 use Rattle.first_sweep.specs.Joining.{Stepping, stepping-start, stepping-next, stepping-end}
 use Rattle.masks.specs.Lowest.{Lowest, lowest}
 use borrow.Author.Needs.{needs}
@@ -10,10 +11,10 @@ use Rattle.first_sweep.proofs.step.Statement.{statement}
 use Rattle.first_sweep.proofs.step.Tie as tie
 
 abbrev Inv-loop : tie.InvT-loop
-Inv-loop zero one followers takers next last rest₀ a₀ b₀ rest a b = Stepping zero one takers (λ x. behind next last (entry followers x)) rest a b
+Inv-loop zero one table takers next last rest₀ a₀ b₀ rest a b = Stepping zero one takers (λ x. behind next last (follower-in table x)) rest a b
 
 abbrev μ-loop : tie.MeasureT-loop
-μ-loop zero one followers takers next last rest₀ a₀ b₀ rest a b = rest
+μ-loop zero one table takers next last rest₀ a₀ b₀ rest a b = rest
 
 -- the lowest leaf left
 here : (c : tie.In-loop Inv-loop μ-loop) → Lowest (c .before .loop .rest)
@@ -28,8 +29,8 @@ cast-i c = omega (arith, here c .small)
 sub-rest : tie.Need-sub-rest Inv-loop μ-loop
 sub-rest c = omega (arith, c .loop-test .taken)
 
-element-copy-out-open-bit : tie.Need-element-copy-out-open-bit Inv-loop μ-loop
-element-copy-out-open-bit c = here c .small
+follower-at-requires : tie.Need-follower-at-requires Inv-loop μ-loop
+follower-at-requires c κs = here c .small
 
 open-bit-requires : tie.Need-open-bit-requires Inv-loop μ-loop
 open-bit-requires c κs = search needs
@@ -57,8 +58,12 @@ loop-less c = here (c .before .before .before .before .before .before) .less
 
 loop-again : tie.Need-loop-again Inv-loop μ-loop
 loop-again c =
-    stepping-next _ _ _ _ _ _ _ _ _ _ _ (c .before .before .before .before .before .before .before .loop .inv) (omega (arith, c .before .before .before .before .before .before .loop-test .taken)) refl
-    (c .before .before .before .before .open-bit .ensures .0) (c .before .before .times .ensures) (c .times2 .ensures)
+    let l = c .before .before .before .before .before .before .before in
+    let s = l .before in
+    let o = c .before .before .before .before in
+    stepping-next _ _ _ _ _ _ _ _ _ _ _ (l .loop .inv) (omega (arith, c .before .before .before .before .before .before .loop-test .taken)) refl
+    (o .open-bit .ensures .0 ∙ ap (λ f. bit (behind (s .args .next) (s .args .last) f)) (o .before .follower-at .ensures))
+    (c .before .before .times .ensures) (c .times2 .ensures)
 
 returns : tie.Need-returns Inv-loop μ-loop
 returns c = stepping-end _ _ _ _ _ _ _ (c .before .loop .inv) (c .loop-test .left)
@@ -72,7 +77,7 @@ step-spec =
     loop-holds
     cast-i
     sub-rest
-    element-copy-out-open-bit
+    follower-at-requires
     open-bit-requires
     mul-times
     element-copy-out-times

@@ -9,10 +9,10 @@ use Rattle.first_sweep.proofs.sweep.Statement.{statement}
 use Rattle.first_sweep.proofs.sweep.Tie as tie
 
 abbrev Inv-loop : tie.InvT-loop
-Inv-loop zero one followers takers end tape words₀ n memo₀ next₀ last₀ i₀ words memo next last i = (n ≡ length tape) × (2 * (length tape + 1) ≤ length words₀) × Filling zero one followers takers end tape words₀ i next last words × Remembers zero one followers memo
+Inv-loop zero one table takers end tape words₀ n memo₀ next₀ last₀ i₀ words memo next last i = (n ≡ length tape) × (2 * (length tape + 1) ≤ length words₀) × Filling zero one table takers end tape words₀ i next last words × Remembers zero one table memo
 
 abbrev μ-loop : tie.MeasureT-loop
-μ-loop zero one followers takers end tape words₀ n memo₀ next₀ last₀ i₀ words memo next last i = i
+μ-loop zero one table takers end tape words₀ n memo₀ next₀ last₀ i₀ words memo next last i = i
 
 mul-words : tie.Need-mul-words Inv-loop μ-loop
 mul-words c = search needs

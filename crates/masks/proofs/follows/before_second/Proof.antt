@@ -1,5 +1,4 @@
-use mathlib.Core.Path.{refl}
-use Rattle.masks.specs.Fronts.{follow-same}
+use Rattle.masks.specs.Follows.{follow-same}
 use borrow.Author.Needs.{needs}
 use Rattle.masks.proofs.follows.before_second.Statement.{statement}
 use Rattle.masks.proofs.follows.before_second.Tie as tie
@@ -14,7 +13,7 @@ both-requires : tie.Need-both-requires
 both-requires c κs = search needs
 
 returns : tie.Need-returns
-returns c = follow-same refl (c .before .before .join .ensures) (c .before .join2 .ensures) (c .both .ensures)
+returns c = follow-same (c .before .before .join .ensures) (c .before .join2 .ensures) (c .both .ensures)
 
 pub before-second-spec : {M : Type 1} → statement M
 before-second-spec = tie.close (tie.spec join-requires join-requires-2 both-requires returns)

@@ -1,3 +1,4 @@
+-- `masks::scatter::put_row` meets its contract.
 use native.Mathlib.Omega.{arith}
 use mathlib.Core.Path.{refl}
 use Rattle.masks.specs.Lowest.{Lowest, lowest}
@@ -12,15 +13,15 @@ Inv-loop cells₀ row i mark rest₀ cells rest = Row-left row i cells₀ rest c
 abbrev μ-loop : tie.MeasureT-loop
 μ-loop cells₀ row i mark rest₀ cells rest = rest
 
+-- the lowest bit left
+here : (c : tie.In-loop Inv-loop μ-loop) → Lowest (c .before .loop .rest)
+here c = lowest (c .before .loop .rest) (omega arith) (c .before .loop .inv .few)
+
 single-requires : tie.Need-single-requires Inv-loop μ-loop
 single-requires c κs = search needs
 
 loop-holds : tie.Need-loop-holds Inv-loop μ-loop
-loop-holds c = search needs
-
--- the lowest bit left
-here : (c : tie.In-loop Inv-loop μ-loop) → Lowest (c .before .loop .rest)
-here c = lowest (c .before .loop .rest) (omega arith) (c .before .loop .inv .few)
+loop-holds c = row-start _ _ _ _ (c .single .ensures) (omega (arith, c .before .fits .row))
 
 cast-x : tie.Need-cast-x Inv-loop μ-loop
 cast-x c = omega (arith, here c .small)
@@ -31,42 +32,23 @@ sub-rest c = search needs
 mul-cells : tie.Need-mul-cells Inv-loop μ-loop
 mul-cells c = omega (arith, here c .small)
 
-slice-read-cells : tie.Need-slice-read-cells Inv-loop μ-loop
-slice-read-cells c = omega (arith, here (c .before) .small, c .before .before .loop .inv .it .long, c .before .before .before .before .before .pre .1)
+element-copy-out-cells : tie.Need-element-copy-out-cells Inv-loop μ-loop
+element-copy-out-cells c = here c .small
 
 mul-cells-2 : tie.Need-mul-cells-2 Inv-loop μ-loop
 mul-cells-2 c = omega (arith, here (c .before) .small)
 
-slice-write-cells : tie.Need-slice-write-cells Inv-loop μ-loop
-slice-write-cells c = omega (arith, here (c .before) .small, c .before .before .loop .inv .it .long, c .before .before .before .before .before .pre .1)
+element-write-cells : tie.Need-element-write-cells Inv-loop μ-loop
+element-write-cells c = omega (arith, here (c .before) .small)
 
 loop-less : tie.Need-loop-less Inv-loop μ-loop
 loop-less c = here (c .before) .less
 
 loop-again : tie.Need-loop-again Inv-loop μ-loop
-loop-again c = row-next _ _ _ _ (c .before .before .before .single .ensures) _ _ _ _ (c .before .before .before .before .before .pre .1) (c .before .before .loop .inv) (omega (arith, c .before .loop-test .taken)) refl refl
-
-same-length : tie.Need-same-length Inv-loop μ-loop
-same-length c = search needs
+loop-again c = row-next _ _ _ _ (c .before .before .before .single .ensures) _ _ _ _ (c .before .before .before .before .pre .1) (c .before .before .loop .inv) (omega (arith, c .before .loop-test .taken)) refl refl
 
 returns : tie.Need-returns Inv-loop μ-loop
 returns c = row-end _ _ _ _ (c .before .before .single .ensures) _ _ (c .loop-test .left) (c .before .loop .inv)
 
 pub put-row-spec : {M : Type 1} → statement M
-put-row-spec =
-    tie.close
-    (tie.spec
-    Inv-loop
-    μ-loop
-    single-requires
-    loop-holds
-    cast-x
-    sub-rest
-    mul-cells
-    slice-read-cells
-    mul-cells-2
-    slice-write-cells
-    loop-less
-    loop-again
-    same-length
-    returns)
+put-row-spec = tie.close (tie.spec Inv-loop μ-loop single-requires loop-holds cast-x sub-rest mul-cells element-copy-out-cells mul-cells-2 element-write-cells loop-less loop-again returns)

@@ -1,6 +1,6 @@
 use borrow.Author.Needs.{needs}
-use Rattle.masks.proofs.fronts.either_of.Statement.{statement}
-use Rattle.masks.proofs.fronts.either_of.Tie as tie
+use Rattle.masks.proofs.firsts.either_of.Statement.{statement}
+use Rattle.masks.proofs.firsts.either_of.Tie as tie
 
 either-requires : tie.Need-either-requires
 either-requires c κs = search needs

@@ -1,6 +1,6 @@
 use borrow.Author.Needs.{needs}
-use Rattle.masks.proofs.fronts.leaf_front.Statement.{statement}
-use Rattle.masks.proofs.fronts.leaf_front.Tie as tie
+use Rattle.masks.proofs.firsts.leaf_first.Statement.{statement}
+use Rattle.masks.proofs.firsts.leaf_first.Tie as tie
 
 enum-told : tie.Need-enum-told
 enum-told c = search needs
@@ -26,8 +26,8 @@ returns-2 c = rw (c .before .enum-told2 .given .1, c .single .ensures)
 returns-3 : tie.Need-returns-3
 returns-3 c = rw (c .before .enum-told3 .given .1, c .single2 .ensures)
 
-pub leaf-front-spec : {M : Type 1} → statement M
-leaf-front-spec =
+pub leaf-first-spec : {M : Type 1} → statement M
+leaf-first-spec =
     tie.close
     (tie.spec
     enum-told
