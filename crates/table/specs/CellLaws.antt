@@ -1,12 +1,12 @@
--- Laws of packed tables: filling one line by line, and the tree of a table that holds a good pattern.
-use mathlib.Core.Path.{_≡_, refl, sym, ap, ap₂, _∙_}
+-- Laws of packed tables: filling one line by line, handing followers down, and the tree of a table that holds a good pattern.
+use mathlib.Core.Path.{_≡_, refl, sym, ap, ap₂, subst, _∙_}
 use mathlib.Core.Bool.{Bool, true, false, _&&_}
 use mathlib.Core.List.{List}
-use Prim.Native.Nat.{ℕ, zero, suc, _+_, _-_, _/_, _%_, _≤_, _<_}
+use Prim.Native.Nat.{ℕ, zero, suc, _+_, _-_, _*_, _/_, _%_, _≤_, _<_}
 use native.Mathlib.Omega.{arith}
 use native.Mathlib.Decide.{decLt}
 use borrow.Author.Tests.{leb-true}
-use lib.Dec.{leb}
+use lib.Dec.{eqb, leb}
 use lib.ListN.{length, getD, set, replicate, length-set, length-replicate}
 use lib.Seq.{getD-set-same, getD-set-other}
 use Rattle.syntax.specs.declared.Leaf.the-variants.{Nothing, Letter, Range}
@@ -16,11 +16,14 @@ use Rattle.syntax.specs.declared.Line.{Line}
 use Rattle.syntax.specs.declared.Pattern.{Pattern}
 use Rattle.syntax.specs.Bools.{and-fst, and-snd}
 use Rattle.syntax.specs.Table.{blank, line-at, node-at, node-good, line-good, obeys, account-limit}
-use Rattle.syntax.specs.Tree.{index}
+use Rattle.syntax.specs.Tree.{Tree, index}
 use Rattle.syntax.specs.Trees.{made, tree-of, root}
-use Rattle.syntax.specs.TreeLaws.{Below, Rules, obeys-iff, tree-line, tree-same, made-index}
+use Rattle.syntax.specs.TreeLaws.{bit, Below, Rules, obeys-iff, tree-line, tree-same, made-index}
+use Rattle.semantics.specs.Automaton.{Location, follower}
+use Rattle.semantics.specs.AutomatonLaws.{loops}
 use Rattle.table.specs.declared.Numbers.{Numbers}
-use Rattle.table.specs.Cells.{row-of, node-from, cell-node, cell-account, cell-line, node-in, account-in, line-in, tree-in, Holds, Good}
+use Rattle.table.specs.HandDown.{equal, first-part, second-part, Parts-inside, parts-inside, Rooted, rules-rooted, Known, made-has-index, Stores, stores-same, Given, All-given, Hands, given-start, given-next, given-end}
+use Rattle.table.specs.Cells.{row-of, node-from, cell-node, cell-account, cell-line, node-in, account-in, line-in, tree-in, cell-behind, behind-in, follower-in, loops-in, state-index, Followed, Holds, Good}
 
 -- ── a cell ──
 -- the numbers of a node say which node it is
@@ -81,10 +84,177 @@ filled-next p table i f lt few c e =
         let q : i ≡ l = omega arith in
         ap (line-in (set table i c)) (sym q) ∙ ap cell-line (getD-set-same table i c 0 (omega (arith, f .long))) ∙ e ∙ ap (line-at p) q
 
-pub filled-end : (p : Pattern) (table : List ℕ) (i : ℕ) → Filled p table i → p .count ≤ i → Holds p table
+pub filled-end : (p : Pattern) (table : List ℕ) (i : ℕ) → Filled p table i → p .count ≤ i → Filled p table (p .count)
 filled-end p table i f h =
     let low = f .low in
-    record { long = f .long; lines = λ l k. f .lines l (omega arith); rest = λ l k m. f .rest l (omega arith) m }
+    record { low = omega arith; long = f .long; lines = λ l k. f .lines l (omega arith); rest = λ l k m. f .rest l (omega arith) m }
+
+-- ── followers ──
+-- what follows line l is written into its cell, and lines stay
+pub record Behind-put (table : List ℕ) (l v : ℕ) (now : List ℕ) : Type 0 where
+  pub long : length now ≡ length table
+  pub lines : (k : ℕ) → line-in now k ≡ line-in table k
+  pub stores : Stores (behind-in table) l v (behind-in now)
+
+-- what stands above 32 bits does not change the digits below
+low-digits : (c v : ℕ)
+    → ((c % 4294967296 + v * 4294967296) % 256 ≡ c % 256) × ((c % 4294967296 + v * 4294967296) / 256 % 256 ≡ c / 256 % 256)
+    × ((c % 4294967296 + v * 4294967296) / 65536 % 256 ≡ c / 65536 % 256) × ((c % 4294967296 + v * 4294967296) / 16777216 % 256 ≡ c / 16777216 % 256)
+low-digits c v = go (c % 4294967296) (c / 4294967296) c (omega arith)
+  where
+    go : (r q c : ℕ) → c ≡ r + q * 4294967296
+        → ((r + v * 4294967296) % 256 ≡ c % 256) × ((r + v * 4294967296) / 256 % 256 ≡ c / 256 % 256)
+        × ((r + v * 4294967296) / 65536 % 256 ≡ c / 65536 % 256) × ((r + v * 4294967296) / 16777216 % 256 ≡ c / 16777216 % 256)
+    go r q c e =
+        let a1 : (r + v * 4294967296) / 256 ≡ r / 256 + v * 16777216 = omega arith in
+        let b1 : c / 256 ≡ r / 256 + q * 16777216 = omega arith in
+        let a2 : (r + v * 4294967296) / 65536 ≡ r / 65536 + v * 65536 = omega arith in
+        let b2 : c / 65536 ≡ r / 65536 + q * 65536 = omega arith in
+        let a3 : (r + v * 4294967296) / 16777216 ≡ r / 16777216 + v * 256 = omega arith in
+        let b3 : c / 16777216 ≡ r / 16777216 + q * 256 = omega arith in
+        (omega arith, rw (a1, b1) (omega arith), rw (a2, b2) (omega arith), rw (a3, b3) (omega arith))
+
+pub behind-put : (table : List ℕ) (l v : ℕ) → l < length table → Behind-put table l v (set table l (getD table l 0 % 4294967296 + v * 4294967296))
+unfolding cell-node cell-account cell-behind
+behind-put table l v h = record {
+  long = length-set table l cell;
+  lines = λ k. line k (equal k l);
+  stores = record {
+    here = ap (λ c. c / 4294967296) same ∙ above;
+    other = λ k n. ap (λ c. c / 4294967296) (getD-set-other table l k cell 0 n);
+  };
+}
+  where
+    old : ℕ
+    old = getD table l 0
+
+    cell : ℕ
+    cell = old % 4294967296 + v * 4294967296
+
+    same : getD (set table l cell) l 0 ≡ cell
+    same = getD-set-same table l cell 0 h
+
+    above : (old % 4294967296 + v * 4294967296) / 4294967296 ≡ v
+    above = omega arith
+
+    kept : cell-line (old % 4294967296 + v * 4294967296) ≡ cell-line old
+    kept = rw (low-digits old v .0, low-digits old v .1, low-digits old v .2, low-digits old v .3) refl
+
+    line : (k : ℕ) → Dec (k ≡ l) → line-in (set table l cell) k ≡ line-in table k
+    line k (yes e) = ap (line-in (set table l cell)) e ∙ ap cell-line same ∙ kept ∙ ap (line-in table) (sym e)
+    line k (no n) = ap cell-line (getD-set-other table l k cell 0 n)
+
+-- what follows the first part of a line, from what follows the line: 256 more stands for a star above
+abbrev pub first-behind : (line : ℕ) → Node → ℕ → ℕ
+first-behind i (Leaf-node x) v = v
+first-behind i (Sequence p q) v = q
+first-behind i (Alternative p q) v = v
+first-behind i (Star p) v = i + 256
+
+-- the number of what follows a node
+pub record Behind (root : Tree) (t : Tree) (s : Location root t) (v : ℕ) : Type 0 where
+  pub state : v % 256 ≡ state-index (follower s)
+  pub above : v / 256 ≡ bit (loops s)
+
+module _ {f : ℕ → Line} {n : ℕ} (whole : Rooted f n) where
+  behind-hands : (i : ℕ) → i < n → Hands f n (Behind (tree-of f (n - 1))) i (first-behind i)
+  behind-hands i h = record {
+    leaf = λ x v. refl;
+    sequence = λ x y a b s v q. (
+      record { state = (let e : y % 256 ≡ y = omega (arith, whole .few) in e) ∙ sym (made-has-index whole y (omega arith)); above = omega (arith, whole .few) },
+      record { state = q .state; above = q .above },
+    );
+    alternative = λ x y s v q. (record { state = q .state; above = q .above }, record { state = q .state; above = q .above });
+    round = λ x a s v q. record { state = omega (arith, whole .few); above = omega (arith, whole .few) };
+  }
+
+-- on the way down, at line i: the lines are as they were, and every line that is known has its follower
+pub record Following (start : List ℕ) (n i : ℕ) (table : List ℕ) : Type 0 where
+  pub inside : i ≤ n
+  pub long : length table ≡ 64
+  pub lines : (l : ℕ) → line-in table l ≡ line-in start l
+  pub given : All-given (line-in start) n (Behind (tree-of (line-in start) (n - 1))) i (behind-in table)
+
+module _ (start : List ℕ) (n : ℕ) (whole : Rooted (line-in start) n) where
+  pub following-start : length start ≡ 64 → behind-in start (n - 1) ≡ 64 → Following start n n start
+  following-start h e = record {
+    inside = omega arith;
+    long = h;
+    lines = λ l. refl;
+    given = given-start (line-in start) n (Behind (tree-of (line-in start) (n - 1))) (behind-in start) (rw e (record { state = refl; above = refl }));
+  }
+
+  module _ (i : ℕ) (table : List ℕ) (d : Following start n i table) (o : 0 < i) (k : Node) (e : k ≡ node-in table (i - 1)) where
+    node-is : k ≡ node-in start (i - 1)
+    node-is = e ∙ ap (λ x. x .node) (d .lines (i - 1))
+
+    -- the line and its parts lie inside the table
+    pub following-inside : Parts-inside (i - 1) k
+    following-inside = parts-inside (i - 1) k (rw node-is (whole .lower (i - 1) (omega (arith, d .inside))))
+
+    pub following-next :
+        (a b v w : ℕ) (mid new : List ℕ) → a ≡ second-part (i - 1) k → b ≡ first-part (i - 1) k → v ≡ behind-in table (i - 1) → w ≡ first-behind (i - 1) k v
+        → Behind-put table a v mid → Behind-put mid b w new → Following start n (i - 1) new
+    following-next a b v w mid new ea eb ev ew s t = record {
+      inside = omega (arith, d .inside);
+      long = t .long ∙ s .long ∙ d .long;
+      lines = λ l. t .lines l ∙ s .lines l ∙ d .lines l;
+      given = given-next (line-in start) n (Behind (tree-of (line-in start) (n - 1))) whole (i - 1) (omega (arith, d .inside)) (first-behind (i - 1))
+          (behind-hands whole (i - 1) (omega (arith, d .inside))) (behind-in table) (behind-in mid) (behind-in new)
+          (λ l h m. d .given l h (subst (λ j. Known (line-in start) n j l) (let q : suc (i - 1) ≡ i = omega arith in q) m))
+          (stores-same (ea ∙ ap (second-part (i - 1)) node-is) ev (s .stores))
+          (stores-same (eb ∙ ap (first-part (i - 1)) node-is) (ew ∙ ap₂ (first-behind (i - 1)) node-is ev) (t .stores));
+    }
+
+-- every line has its follower
+pub record Follows (start : List ℕ) (n : ℕ) (table : List ℕ) : Type 0 where
+  pub long : length table ≡ 64
+  pub lines : (l : ℕ) → line-in table l ≡ line-in start l
+  pub followed : (l : ℕ) → l < n → Followed (tree-of (line-in start) (n - 1)) l (follower-in table l) (loops-in table l)
+
+pub following-end : (start : List ℕ) (n : ℕ) → Rooted (line-in start) n → (i : ℕ) (table : List ℕ) → i ≡ 0 → Following start n i table → Follows start n table
+following-end start n whole i table z d = record { long = d .long; lines = d .lines; followed = λ l h. at l h (given l h) }
+  where
+    given : (l : ℕ) → l < n → Given (line-in start) n (Behind (tree-of (line-in start) (n - 1))) (tree-of (line-in start) l) (behind-in table l)
+    given = given-end (line-in start) n (Behind (tree-of (line-in start) (n - 1))) whole (behind-in table) (subst (λ j. All-given (line-in start) n (Behind (tree-of (line-in start) (n - 1))) j (behind-in table)) z (d .given))
+
+    bit-is : (b : Bool) → eqb (bit b % 2) 1 ≡ b
+    bit-is true = refl
+    bit-is false = refl
+
+    at :
+        (l : ℕ) → l < n → Given (line-in start) n (Behind (tree-of (line-in start) (n - 1))) (tree-of (line-in start) l) (behind-in table l)
+        → Followed (tree-of (line-in start) (n - 1)) l (follower-in table l) (loops-in table l)
+    at l h g = record {
+      node = record { tree = tree-of (line-in start) l; place = g .place; is = made-has-index whole l h };
+      is = g .right .state;
+      above = ap (λ x. eqb (x % 2) 1) (g .right .above) ∙ bit-is (loops (g .place));
+    }
+
+pub put-filled : (p : Pattern) (table : List ℕ) (i l v : ℕ) (now : List ℕ) → Filled p table i → Behind-put table l v now → Filled p now i
+put-filled p table i l v now f b = record {
+  low = f .low;
+  long = b .long ∙ f .long;
+  lines = λ k h. b .lines k ∙ f .lines k h;
+  rest = λ k h m. b .lines k ∙ f .rest k h m;
+}
+
+-- the lines and their followers are a table that holds the pattern
+module _ (p : Pattern) (r : Rules p) (start : List ℕ) (f : Filled p start (p .count)) where
+  pub filled-rooted : Rooted (line-in start) (p .count)
+  filled-rooted = rules-rooted p r (line-in start) (f .lines)
+
+  pub followed-holds : (table : List ℕ) → Follows start (p .count) table → Holds p table
+  unfolding root
+  followed-holds table g = record {
+    long = g .long;
+    lines = λ l h. g .lines l ∙ f .lines l h;
+    rest = λ l h k. g .lines l ∙ f .rest l h k;
+    follows = λ l h. subst (λ t. Followed t l (follower-in table l) (loops-in table l)) tree (g .followed l h);
+  }
+    where
+      tree : tree-of (line-in start) (p .count - 1) ≡ tree-of (line-at p) (p .count - 1)
+      tree = tree-same (line-in start) (line-at p) (p .count) (f .lines) (p .count - 1) (omega (arith, r .one))
 
 -- ── a packed table that holds a pattern that obeys the rules ──
 module _ (p : Pattern) (table : List ℕ) (o : obeys p ≡ true) (h : Holds p table) where

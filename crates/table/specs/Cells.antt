@@ -1,8 +1,9 @@
 -- A table packed into cells: what the numbers of a cell mean, and what a walk may take from a packed table. Definitions only.
 use mathlib.Core.Path.{_≡_}
-use mathlib.Core.Bool.{true}
+use mathlib.Core.Bool.{Bool, true}
 use mathlib.Core.List.{List}
 use Prim.Native.Nat.{ℕ, zero, suc, _/_, _%_, _≤_, _<_}
+use lib.Dec.{eqb}
 use lib.ListN.{length, getD}
 use Rattle.syntax.specs.declared.Leaf.{Leaf}
 use Rattle.syntax.specs.declared.Leaf.the-variants.{Nothing, Letter, Range}
@@ -11,9 +12,11 @@ use Rattle.syntax.specs.declared.Node.the-variants.{Leaf as Leaf-node, Sequence
 use Rattle.syntax.specs.declared.Line.{Line}
 use Rattle.syntax.specs.declared.Pattern.{Pattern}
 use Rattle.syntax.specs.Table.{blank, line-at, node-good, account-limit}
-use Rattle.syntax.specs.Tree.{Tree}
-use Rattle.syntax.specs.Trees.{tree-of}
+use Rattle.syntax.specs.Tree.{Tree, index}
+use Rattle.syntax.specs.Trees.{tree-of, root}
 use Rattle.syntax.specs.TreeLaws.{Below}
+use Rattle.semantics.specs.Automaton.{Location, State, end, at, follower}
+use Rattle.semantics.specs.AutomatonLaws.{loops}
 use Rattle.table.specs.declared.Numbers.{Numbers}
 
 -- the numbers of a node
@@ -63,11 +66,44 @@ line-in table l = cell-line (getD table l 0)
 unfoldable pub tree-in : (table : List ℕ) → (l : ℕ) → Tree
 tree-in table l = tree-of (line-in table) l
 
--- a packed table that holds a pattern: below its count the pattern's lines, and nothing past it
+-- ── followers: above those 32 bits, the follower in 8 bits and a bit that is 1 where it is a star above ──
+unfoldable pub cell-behind : (cell : ℕ) → ℕ
+cell-behind c = c / 4294967296
+
+abbrev pub behind-in : (table : List ℕ) → (l : ℕ) → ℕ
+behind-in table l = cell-behind (getD table l 0)
+
+-- 01's follower of a line by its number: a node's index, and 64 for the end
+abbrev pub follower-in : (table : List ℕ) → (l : ℕ) → ℕ
+follower-in table l = behind-in table l % 256
+
+-- whether the follower is a star above
+abbrev pub loops-in : (table : List ℕ) → (l : ℕ) → Bool
+loops-in table l = eqb (behind-in table l / 256 % 2) 1
+
+-- a state's number
+abbrev pub state-index : {root : Tree} → State root → ℕ
+state-index end = 64
+state-index (at t s) = index t
+
+-- the node with index l
+pub record Node-at (root : Tree) (l : ℕ) : Type 0 where
+  pub tree : Tree
+  pub place : Location root tree
+  pub is : index tree ≡ l
+
+-- the follower of node l has the number f, and b says whether it is a star above
+pub record Followed (root : Tree) (l f : ℕ) (b : Bool) : Type 0 where
+  pub node : Node-at root l
+  pub is : f ≡ state-index (follower (node .place))
+  pub above : b ≡ loops (node .place)
+
+-- a packed table that holds a pattern: below its count the pattern's lines and their followers, and nothing past it
 pub record Holds (p : Pattern) (table : List ℕ) : Type 0 where
   pub long : length table ≡ 64
   pub lines : (l : ℕ) → l < p .count → line-in table l ≡ line-at p l
   pub rest : (l : ℕ) → p .count ≤ l → l < 64 → line-in table l ≡ blank
+  pub follows : (l : ℕ) → l < p .count → Followed (root p) l (follower-in table l) (loops-in table l)
 
 -- what a walk asks of a table: parts stand below their line, letters are letters, and accounts are accounts
 pub record Good (table : List ℕ) : Type 0 where

@@ -1,2 +1,3 @@
+pub mod HandDown
 pub mod Cells
 pub mod CellLaws

@@ -1,8 +1,12 @@
 // The table of a pattern, packed: a line a cell, its numbers one above the other in 64 bits. Walks and sweeps read it thousands of times by
 // one reference, where a table by value would be copied at each call.
 ghost use mathlib.Core.Path.{_≡_};
-ghost use Prim.Native.Nat.{_≤_, _<_, _/_, _%_};
-ghost use Rattle.table.specs.Cells.{row, leaf-row, row-of, node-from, cell-line, node-in, account-in, Holds};
+ghost use Prim.Native.Nat.{_-_, _≤_, _<_, _/_, _%_};
+ghost use lib.ListN.{length, replicate};
+ghost use Rattle.syntax.specs.TreeLaws.{Rules};
+ghost use Rattle.table.specs.HandDown.{first-part, second-part, Rooted};
+ghost use Rattle.table.specs.Cells.{row, leaf-row, row-of, node-from, cell-line, line-in, node-in, account-in, cell-behind, behind-in, follower-in, loops-in, Holds};
+ghost use Rattle.table.specs.CellLaws.{Filled, Behind-put, first-behind, Follows};
 use syntax::Leaf;
 use syntax::Line;
 use syntax::Node;
@@ -81,12 +85,11 @@ fn cell_of(line: Line) -> u64
     pack(row.kind, row.first, row.second, line.account)
 }
 
-// The packed table of a pattern; lines at or past its count are nothing.
-pub fn table_of(p: Pattern) -> [u64; 64]
-    requires { ⌜ p .count ≤ 64 ⌝ }
-    ensures { λ r. ⌜ Holds p r ⌝ }
+// The lines of a pattern, packed; lines at or past its count are nothing.
+fn put_lines(p: Pattern, table: &mut [u64])
+    requires { ⌜ (p .count ≤ 64) × (now table ≡ replicate 64 0) ⌝ }
+    ensures { λ _. ⌜ Filled p (now (table .exit)) (p .count) ⌝ }
 {
-    let mut table = [0u64; 64];
     let mut i = 0;
     while i < p.count {
         let line = p.lines[i];
@@ -94,7 +97,6 @@ pub fn table_of(p: Pattern) -> [u64; 64]
         table[i] = cell;
         i += 1;
     }
-    table
 }
 
 fn node_of(kind: u64, first: u8, second: u8) -> Node
@@ -135,4 +137,97 @@ pub fn account_at(table: &[u64; 64], l: usize) -> u8
     ensures { λ r. ⌜ r ≡ account-in (now (table .entry)) l ⌝ }
 {
     (table[l] / 16777216 % 256) as u8
+}
+
+// The node that follows a line (01: its follower), 64 for the end.
+pub fn follower_at(table: &[u64; 64], l: usize) -> u8
+    requires { ⌜ l < 64 ⌝ }
+    ensures { λ r. ⌜ r ≡ follower-in (now (table .entry)) l ⌝ }
+{
+    (table[l] / 4294967296 % 256) as u8
+}
+
+// Whether the node that follows a line is a star above it.
+pub fn loops_at(table: &[u64; 64], l: usize) -> bool
+    requires { ⌜ l < 64 ⌝ }
+    ensures { λ r. ⌜ r ≡ loops-in (now (table .entry)) l ⌝ }
+{
+    table[l] / 4294967296 / 256 % 2 == 1
+}
+
+// The parts of line i: a star has one, and a leaf stands for its own.
+pub fn first_part(node: Node, i: usize) -> usize
+    ensures { λ r. ⌜ r ≡ first-part i node ⌝ }
+{
+    match node {
+        Node::Leaf(_) => i,
+        Node::Sequence(p, _) => p as usize,
+        Node::Alternative(p, _) => p as usize,
+        Node::Star(p) => p as usize,
+    }
+}
+
+pub fn second_part(node: Node, i: usize) -> usize
+    ensures { λ r. ⌜ r ≡ second-part i node ⌝ }
+{
+    match node {
+        Node::Leaf(_) => i,
+        Node::Sequence(_, q) => q as usize,
+        Node::Alternative(_, q) => q as usize,
+        Node::Star(p) => p as usize,
+    }
+}
+
+// What a cell says of the follower: its number, and 256 more where it is a star above.
+fn behind(cell: u64) -> u64
+    ensures { λ r. ⌜ (r ≡ cell-behind cell) × (r < 4294967296) ⌝ }
+{
+    cell / 4294967296
+}
+
+// The same for the first part of line i, from what is said of the line: the second part of a sequence follows, and the star itself.
+fn first_behind(node: Node, i: usize, line: u64) -> u64
+    requires { ⌜ (i < 64) × (line < 4294967296) ⌝ }
+    ensures { λ r. ⌜ (r ≡ first-behind i node line) × (r < 4294967296) ⌝ }
+{
+    match node {
+        Node::Leaf(_) => line,
+        Node::Sequence(_, q) => wide(q),
+        Node::Alternative(_, _) => line,
+        Node::Star(_) => i as u64 + 256,
+    }
+}
+
+fn put_behind(table: &mut [u64], l: usize, follower: u64)
+    requires { ⌜ (l < length (now table)) × (follower < 4294967296) ⌝ }
+    ensures { λ _. ⌜ Behind-put (now (table .entry)) l follower (now (table .exit)) ⌝ }
+{
+    table[l] = table[l] % 4294967296 + follower * 4294967296;
+}
+
+// The followers of all lines, from that of the last: each line hands on to its parts.
+fn put_followers(table: &mut [u64; 64], count: usize)
+    requires { ⌜ Rooted (line-in (now table)) count × (length (now table) ≡ 64) × (behind-in (now table) (count - 1) ≡ 64) ⌝ }
+    ensures { λ _. ⌜ Follows (now (table .entry)) count (now (table .exit)) ⌝ }
+{
+    let mut i = count;
+    while 0 < i {
+        i -= 1;
+        let node = node_at(table, i);
+        let line = behind(table[i]);
+        put_behind(table, second_part(node, i), line);
+        put_behind(table, first_part(node, i), first_behind(node, i, line));
+    }
+}
+
+// The packed table of a pattern that obeys the rules, with its followers. The end follows the last line.
+pub fn table_of(p: Pattern) -> [u64; 64]
+    requires { ⌜ Rules p ⌝ }
+    ensures { λ r. ⌜ Holds p r ⌝ }
+{
+    let mut table = [0u64; 64];
+    put_lines(p, &mut table);
+    put_behind(&mut table, p.count - 1, 64);
+    put_followers(&mut table, p.count);
+    table
 }

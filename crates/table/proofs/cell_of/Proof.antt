@@ -3,7 +3,6 @@ use Rattle.table.specs.CellLaws.{cell-packed}
 use borrow.Author.Needs.{needs}
 use Rattle.table.proofs.cell_of.Statement.{statement}
 use Rattle.table.proofs.cell_of.Tie as tie
-use Rattle.table.proofs.row_of.Reads as row-of-reads
 
 row-of-requires : tie.Need-row-of-requires
 row-of-requires c κs = search needs

@@ -3,7 +3,6 @@ use Rattle.table.specs.Cells.{cell-node}
 use borrow.Author.Needs.{needs}
 use Rattle.table.proofs.node_at.Statement.{statement}
 use Rattle.table.proofs.node_at.Tie as tie
-use Rattle.table.proofs.node_of.Reads as node-of-reads
 
 mul-cell : tie.Need-mul-cell
 mul-cell c = search needs

@@ -1,60 +1,45 @@
 -- `table::table_of` meets its contract.
-use Prim.Native.Nat.{_-_}
-use Rattle.table.specs.CellLaws.{Filled, filled-start, filled-next, filled-end}
+use Rattle.table.specs.CellLaws.{put-filled, filled-rooted, followed-holds}
 use borrow.Author.Needs.{needs}
 use Rattle.table.proofs.table_of.Statement.{statement}
 use Rattle.table.proofs.table_of.Tie as tie
-use Rattle.table.proofs.cell_of.Reads as cell-of-reads
 
-abbrev Inv-loop : tie.InvT-loop
-Inv-loop p table₀ i₀ table i = Filled p table i
+slice-aggregate-put-lines : tie.Need-slice-aggregate-put-lines
+slice-aggregate-put-lines c = search needs
 
-abbrev μ-loop : tie.MeasureT-loop
-μ-loop p table₀ i₀ table i = p .count - i
+put-lines-requires : tie.Need-put-lines-requires
+put-lines-requires c κs = search needs
 
-loop-holds : tie.Need-loop-holds Inv-loop μ-loop
-loop-holds c = filled-start _
+slice-aggregate-put-behind : tie.Need-slice-aggregate-put-behind
+slice-aggregate-put-behind c = search needs
 
-mul-line : tie.Need-mul-line Inv-loop μ-loop
-mul-line c = search needs
+sub-put-behind : tie.Need-sub-put-behind
+sub-put-behind c = search needs
 
-element-copy-out-line : tie.Need-element-copy-out-line Inv-loop μ-loop
-element-copy-out-line c = search needs
+put-behind-requires : tie.Need-put-behind-requires
+put-behind-requires c κs = search needs
 
-cell-of-requires : tie.Need-cell-of-requires Inv-loop μ-loop
-cell-of-requires c κs = search needs
+put-followers-requires : tie.Need-put-followers-requires
+put-followers-requires c κs =
+    let b = c .before .before in
+    let l = b .before .before .before .before in
+    let lines = put-filled _ _ _ _ _ _ (l .put-lines .ensures) (b .put-behind .ensures) in
+    (filled-rooted _ (l .before .before .pre) _ lines, lines .long, b .put-behind .ensures .stores .here)
 
-mul-table : tie.Need-mul-table Inv-loop μ-loop
-mul-table c = search needs
-
-array-write-table : tie.Need-array-write-table Inv-loop μ-loop
-array-write-table c = search needs
-
-add-i : tie.Need-add-i Inv-loop μ-loop
-add-i c = search needs
-
-loop-less : tie.Need-loop-less Inv-loop μ-loop
-loop-less c = search needs
-
-loop-again : tie.Need-loop-again Inv-loop μ-loop
-loop-again c = filled-next _ _ _ (c .before .before .before .loop .inv) (c .before .before .loop-test .taken) (c .before .before .before .before .pre) _ (c .cell-of .ensures)
-
-returns : tie.Need-returns Inv-loop μ-loop
-returns c = filled-end _ _ _ (c .before .loop .inv) (c .loop-test .left)
+returns : tie.Need-returns
+returns c =
+    let b = c .before .before .before in
+    let l = b .before .before .before .before in
+    followed-holds _ (l .before .before .pre) _ (put-filled _ _ _ _ _ _ (l .put-lines .ensures) (b .put-behind .ensures)) _ (c .put-followers .ensures)
 
 pub table-of-spec : {M : Type 1} → statement M
 table-of-spec =
     tie.close
     (tie.spec
-    Inv-loop
-    μ-loop
-    loop-holds
-    mul-line
-    element-copy-out-line
-    cell-of-requires
-    mul-table
-    array-write-table
-    add-i
-    loop-less
-    loop-again
+    slice-aggregate-put-lines
+    put-lines-requires
+    slice-aggregate-put-behind
+    sub-put-behind
+    put-behind-requires
+    put-followers-requires
     returns)

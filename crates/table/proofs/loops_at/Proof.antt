@@ -1,0 +1,18 @@
+-- `table::loops_at` meets its contract.
+use Rattle.table.specs.Cells.{cell-behind}
+use borrow.Author.Needs.{needs}
+use Rattle.table.proofs.loops_at.Statement.{statement}
+use Rattle.table.proofs.loops_at.Tie as tie
+
+mul-result : tie.Need-mul-result
+mul-result c = search needs
+
+element-copy-out-result : tie.Need-element-copy-out-result
+element-copy-out-result c = search needs
+
+returns : tie.Need-returns
+unfolding cell-behind
+returns c = search needs
+
+pub loops-at-spec : {M : Type 1} → statement M
+loops-at-spec = tie.close (tie.spec mul-result element-copy-out-result returns)
