@@ -69,11 +69,11 @@ pub fn parse(p: Pattern, tape: &[u8], words: &mut [u64], code: &mut [u8]) -> Par
     if words.len() < needed {
         return Parsed::Refused(Refusal::WordsTooShort(needed as u32));
     }
-    fill(p, tape, words);
+    let table = table_of(p);
+    fill(p, &table, tape, words);
     let root = p.count - 1;
     if !is_open(words, 0, true, root) {
         return Parsed::Refused(Refusal::Unreadable);
     }
-    let table = table_of(p);
     write_code(&table, words, tape, root, code)
 }

@@ -2,6 +2,7 @@
 use mathlib.Core.Path.{refl, sym, _∙_}
 use native.Mathlib.Omega.{arith}
 use borrow.Author.Tests.{not-true, not-false}
+use Rattle.syntax.specs.TreeLaws.{obeys-iff}
 use Rattle.table.specs.CellLaws.{holds-good}
 use Rattle.parser.specs.ParseLaws.{Tested, parse-rules, parse-long, parse-byte, parse-words, fillable, filled-long, parse-unreadable, first-swept}
 use Rattle.parser.specs.ParseLaws.{root-writable, parse-done, obeys-few}
@@ -63,18 +64,23 @@ returns-4 c =
     let good = sym (rules .before .obeys-rules .ensures) ∙ not-false _ (rules .if1 .left) in
     parse-words _ _ _ _ good (bad .before .if2 .left) (omega (arith, bad .first-bad .ensures, c .before .if3 .left)) _ refl (c .if4 .taken)
 
+table-of-requires : tie.Need-table-of-requires
+table-of-requires c κs = obeys-iff _ .0 (tested c .good)
+
 fill-requires : tie.Need-fill-requires
-fill-requires c κs = fillable (tested (c .before))
+fill-requires c κs =
+    let table = c .before .before in
+    (fillable (tested (table .before)), table .table-of .ensures)
 
 sub-root : tie.Need-sub-root
 sub-root c =
-    let d = tested (c .before .before .before .before .before) in
+    let d = tested (c .before .before .before .before .before .before .before) in
     omega (arith, obeys-few _ (d .good))
 
 is-open-requires : tie.Need-is-open-requires
 is-open-requires c κs =
     let fill = c .before .before .before .before in
-    let d = tested (fill .before .before) in
+    let d = tested (fill .before .before .before .before) in
     (omega (arith, filled-long d (fill .fill .ensures), d .room), omega (arith, obeys-few _ (d .good)))
 
 same-length : tie.Need-same-length
@@ -83,22 +89,16 @@ same-length c = search needs
 returns-5 : tie.Need-returns-5
 returns-5 c =
     let fill = c .before .before .before .before .before .before in
-    let d = tested (fill .before .before) in
+    let d = tested (fill .before .before .before .before) in
     parse-unreadable d (fill .fill .ensures) (c .before .is-open .ensures) _ (not-true _ (c .if5 .taken))
-
-table-of-requires : tie.Need-table-of-requires
-table-of-requires c κs =
-    let d = tested (c .before .before .before .before .before .before .before .before) in
-    obeys-few _ (d .good) .1
 
 write-code-requires : tie.Need-write-code-requires
 write-code-requires c κs =
-    let table = c .before .before .before in
-    let test = table .before in
+    let test = c .before .before .before in
     let fill = test .before .before .before .before .before .before in
-    let d = tested (fill .before .before) in
+    let d = tested (fill .before .before .before .before) in
     let first = first-swept d (fill .fill .ensures) (test .before .is-open .ensures) (not-false _ (test .if5 .left)) in
-    let holds = table .table-of .ensures in
+    let holds = fill .before .before .before .table-of .ensures in
     (holds-good _ _ (d .good) holds, omega (arith, obeys-few _ (d .good)), root-writable _ _ _ first _ holds)
 
 same-length-2 : tie.Need-same-length-2
@@ -110,13 +110,12 @@ same-length-3 c = search needs
 returns-6 : tie.Need-returns-6
 returns-6 c =
     let written = c .before .before in
-    let table = written .before .before .before .before in
-    let test = table .before in
+    let test = written .before .before .before .before in
     let fill = test .before .before .before .before .before .before in
-    let d = tested (fill .before .before) in
+    let d = tested (fill .before .before .before .before) in
     let e = not-false _ (test .if5 .left) in
     let first = first-swept d (fill .fill .ensures) (test .before .is-open .ensures) e in
-    let w = written .write-code .ensures (root-writable _ _ _ first _ (table .table-of .ensures)) in
+    let w = written .write-code .ensures (root-writable _ _ _ first _ (fill .before .before .before .table-of .ensures)) in
     parse-done d (fill .fill .ensures) (test .before .is-open .ensures) e w
 
 pub parse-spec : {M : Type 1} → statement M
@@ -133,12 +132,12 @@ parse-spec =
     mul-needed
     cast-t17
     returns-4
+    table-of-requires
     fill-requires
     sub-root
     is-open-requires
     same-length
     returns-5
-    table-of-requires
     write-code-requires
     same-length-2
     same-length-3
