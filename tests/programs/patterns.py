@@ -1,0 +1,59 @@
+"""Pattern texts for the cases of tapelist, as bytes."""
+
+LIMIT = 64
+
+
+def text(*rows):
+    """A text of lines, each with its number in front: `text("E -")` is the pattern of nothing."""
+    lines = ["\t".join([str(place), *row.split()]) for place, row in enumerate(rows)]
+    return "".join(line + "\n" for line in lines).encode("ascii")
+
+
+# The pattern of 01's section "A whole listing".
+WORKED = text("R - 0 9", "L - W", "S 9 1 0", "R 1 0 9", "A - 2 3", "K - 4")
+
+NOTHING = text("E -")
+
+# Any letters, litres on account 7.
+ANY = text("R 7 ! ~", "K - 0")
+
+# Any letters, no account.
+UNBILLED = text("R - ! ~", "K - 0")
+
+# Digit d on account d where d is above 0, and 0 on none.
+EACH_ACCOUNT = text(
+    "L - 0", *(f"L {d} {d}" for d in range(1, 10)), "A - 0 1", *(f"A - {9 + d} {d + 1}" for d in range(1, 9)), "K - 18"
+)
+
+# The node's own account goes before that of the nodes above it.
+INNERMOST = text("R 2 0 9", "L - x", "S 3 1 0", "R - 0 9", "A - 2 3", "K 5 4")
+
+# 63 stars, one in the other.
+STARS = text("R 1 0 9", *(f"K - {place}" for place in range(LIMIT - 1)))
+
+
+def longest():
+    """64 lines, each as long as its kind and place allow: 32 ranges with accounts, 31 sequences, a star."""
+    rows = [f"R {1 + place % 9} ! ~" for place in range(32)]
+    left = list(range(32))
+    while len(left) > 1:
+        left.append(len(rows))
+        rows.append(f"S 9 {left.pop(0)} {left.pop(0)}")
+    return text(*rows, f"K 9 {left[0]}")
+
+
+LONGEST = longest()
+
+# A star over 32 letters, of which `_` is the last to be tried: 32 bits for each.
+ALTERNATIVES = text(
+    *(f"L {1 + place % 9} {chr(64 + place)}" for place in range(32)),
+    "A - 30 31",
+    *(f"A - {29 - place} {32 + place}" for place in range(30)),
+    "K - 62",
+)
+
+# 64 lines of good form, all as long as a line can be, and no tree.
+LONGEST_FORM = text(*("S 9 63 63" for _ in range(LIMIT)))
+
+# 65 lines, the first 64 of them a pattern.
+LINES_65 = STARS + b"64\tK\t-\t63\n"

@@ -1,0 +1,313 @@
+"""The cases of program tapelist, and how one is run.
+
+What must be printed is what the independent reader prints for the same bytes. Where a case is short, its output is
+written here too: `says` is the whole standard output, and the independent reader must agree with it.
+"""
+
+import os
+import shutil
+import stat
+import subprocess
+import tempfile
+import threading
+from dataclasses import dataclass
+from pathlib import Path
+
+import patterns
+from sources import Folder, Link, Missing, Pipe, Plain, Unreadable
+
+SECONDS = 10
+MEGABYTES_5 = 5_000_000
+NOBODY = 65534
+NAMES = ("pattern.tsv", "tape.txt")
+
+
+@dataclass
+class Case:
+    name: str
+    pattern: object
+    tape: object
+    says: str | None = None
+    full: bool = False  # standard output takes no byte
+
+
+def plain(name, pattern, tape, says=None):
+    return Case(name, Plain(pattern), Plain(tape), says)
+
+
+def worked(name, tape, says=None):
+    return plain(name, patterns.WORKED, tape, says)
+
+
+def text(name, pattern, says=None):
+    return plain(name, pattern, b"3W2\n", says)
+
+
+def refused(number, value):
+    return f"refused\t{number}\t{value}\n"
+
+
+LISTED = "tape\t3\t21\t4cc328\naccount\t1\t3\naccount\t9\t2\nopen\t0\t4\nopen\t1\t4\nopen\t2\t4\nopen\t3\t1\n"
+NO_LETTERS = "tape\t0\t1\t80\nopen\t0\t1\n"
+
+
+def closing_bytes():
+    return [
+        worked("one closing newline", b"3W2\n", LISTED),
+        worked("no closing newline", b"3W2", LISTED),
+        worked("two closing newlines", b"3W2\n\n", refused(4, 3)),
+        worked("three closing newlines", b"3W2\n\n\n", refused(4, 3)),
+        worked("a newline in front", b"\n3W2\n", refused(4, 0)),
+        worked("a newline inside", b"3\nW2\n", refused(4, 1)),
+        worked("an empty tape file", b"", NO_LETTERS),
+        worked("a newline alone", b"\n", NO_LETTERS),
+        worked("two newlines alone", b"\n\n", refused(4, 0)),
+        worked("a closing CR and newline", b"3W2\r\n", refused(4, 3)),
+        worked("a closing CR", b"3W2\r", refused(4, 3)),
+        worked("a closing space", b"3W2 \n", refused(4, 3)),
+        worked("a closing byte 0", b"3W2\0", refused(4, 3)),
+    ]
+
+
+def bytes_of_tapes():
+    return [
+        worked("a CR inside", b"3\rW2\n", refused(4, 1)),
+        worked("a byte order mark before the tape", b"\xef\xbb\xbf3W2\n", refused(4, 0)),
+        worked("a byte 0 inside", b"3\0W2\n", refused(4, 1)),
+        worked("a byte 0 alone", b"\0", refused(4, 0)),
+        worked("a byte 255", b"3W2\xff", refused(4, 3)),
+        plain("bytes 33 and 126", patterns.ANY, b"!~\n"),
+        plain("byte 32", patterns.ANY, b"! ~\n", refused(4, 1)),
+        plain("byte 127", patterns.ANY, b"!\x7f~\n", refused(4, 1)),
+        worked("no parse spells the tape", b"3WW\n", refused(5, 0)),
+        plain("a letter where the pattern has none", patterns.NOTHING, b"a", refused(5, 0)),
+    ]
+
+
+def lengths_of_tapes():
+    nines = b"9" * 3599
+    return [
+        plain("33 letters", patterns.ANY, b"1" * 33 + b"\n"),
+        plain("3,600 letters and a newline", patterns.ANY, nines + b"9\n"),
+        plain("3,600 letters and no newline", patterns.ANY, nines + b"9"),
+        plain("3,600 letters and two newlines", patterns.ANY, nines + b"9\n\n", refused(3, 0)),
+        plain("3,601 letters and a newline", patterns.ANY, nines + b"99\n", refused(3, 0)),
+        plain("3,601 letters and no newline", patterns.ANY, nines + b"99", refused(3, 0)),
+        plain("3,600 letters, the last a space", patterns.ANY, nines + b" \n", refused(4, 3599)),
+        plain("3,601 letters, the first a space", patterns.ANY, b" " + nines + b"9\n", refused(3, 0)),
+        plain("3,600 letters that no parse spells", patterns.WORKED, nines + b"W\n", refused(5, 0)),
+        plain("4,096 bytes of a tape, the last a newline", patterns.ANY, b"9" * 4095 + b"\n", refused(3, 0)),
+        plain("4,097 bytes of a tape", patterns.ANY, b"9" * 4096 + b"\n", refused(3, 0)),
+        plain("5 MB of letters", patterns.ANY, b"9" * MEGABYTES_5, refused(3, 0)),
+        plain("5 MB of newlines", patterns.ANY, b"\n" * MEGABYTES_5, refused(3, 0)),
+        plain("a listing of more than 64 KB", patterns.ALTERNATIVES, b"_" * 3600 + b"\n"),
+    ]
+
+
+def litres_and_codes():
+    return [
+        plain("litres without an account", patterns.UNBILLED, b"12x\n"),
+        plain("an account without litres", patterns.ANY, b"0x0\n"),
+        plain("all ten accounts", patterns.EACH_ACCOUNT, b"0123456789987654321\n"),
+        plain("account 0 beside others", patterns.INNERMOST, b"1x23\n"),
+        plain("a code of 0 bits", patterns.NOTHING, b"", "tape\t0\t0\t\nopen\t0\t1\n"),
+        plain("63 stars, one in the other", patterns.STARS, b"7" * 100 + b"\n"),
+        plain("two rounds of 64 longest lines", patterns.LONGEST, b"5" * 64 + b"\n"),
+        plain("112 rounds of 64 longest lines", patterns.LONGEST, b"5" * 3584 + b"\n"),
+    ]
+
+
+def forms_of_texts():
+    named = patterns.WORKED
+    return [
+        text("an empty pattern file", b"", refused(1, 0)),
+        text("a pattern of one newline", b"\n", refused(1, 0)),
+        text("a pattern without its last newline", named[:-1], refused(1, 5)),
+        text("a pattern with two closing newlines", named + b"\n", refused(1, 6)),
+        text("a pattern with CR before newlines", named.replace(b"\n", b"\r\n"), refused(1, 0)),
+        text("a pattern with a CR in its last line", named[:-1] + b"\r\n", refused(1, 5)),
+        text("a byte order mark before the pattern", b"\xef\xbb\xbf" + named, refused(1, 0)),
+        text("a byte 0 in the pattern", named.replace(b"W", b"\0"), refused(1, 1)),
+        text("a byte 0 behind the pattern", named + b"\0", refused(1, 6)),
+        text("spaces for tabs", named.replace(b"\t", b" "), refused(1, 0)),
+        text("a closing tab", named.replace(b"W\n", b"W\t\n"), refused(1, 1)),
+        text("a place with a leading zero", named.replace(b"5\tK", b"05\tK"), refused(1, 5)),
+        text("a range the wrong way", named.replace(b"1\t0\t9", b"1\t9\t0"), refused(1, 3)),
+        text("a line of 5 MB", named[:-2] + b"4" * MEGABYTES_5 + b"\n", refused(1, 5)),
+        text("5 MB without a newline", b"0" * MEGABYTES_5, refused(1, 0)),
+        text("5 MB of newlines for a pattern", b"\n" * MEGABYTES_5, refused(1, 0)),
+        plain("a form fault and a tape at fault", b"0\tX\t-\n", b" ", refused(1, 0)),
+    ]
+
+
+def trees_of_texts():
+    return [
+        text("64 lines", patterns.STARS, refused(5, 0)),
+        text("65 lines", patterns.LINES_65, refused(1, 64)),
+        text("64 lines and one byte", patterns.STARS + b"6", refused(1, 64)),
+        text("64 lines and a newline", patterns.STARS + b"\n", refused(1, 64)),
+        text("64 lines and 5 MB", patterns.STARS + b"x" * MEGABYTES_5, refused(1, 64)),
+        text("64 longest lines that are no tree", patterns.LONGEST_FORM, refused(2, 0)),
+        text("64 longest lines that are no tree, and one byte", patterns.LONGEST_FORM + b"6", refused(1, 64)),
+        text("a part named twice", patterns.text("L - a", "S - 0 0"), refused(2, 1)),
+        text("a part named by two lines", patterns.text("E -", "K - 0", "K - 0", "S - 1 2"), refused(2, 2)),
+        text("a part that no line names", patterns.text("E -", "E -", "K - 1"), refused(2, 0)),
+        text("a line that names itself", patterns.text("E -", "S - 0 1"), refused(2, 1)),
+        text("a tree fault before a form fault", patterns.text("K - 0", "X -"), refused(1, 1)),
+        plain("a tree fault and a tape at fault", patterns.text("K - 0"), b" ", refused(2, 0)),
+    ]
+
+
+def files_not_read():
+    good, tape = Plain(patterns.WORKED), Plain(b"3W2\n")
+    return [
+        Case("no pattern", Missing(), tape),
+        Case("no tape", good, Missing()),
+        Case("neither file", Missing(), Missing()),
+        Case("a refused pattern and no tape", Plain(b""), Missing()),
+        Case("no pattern and a tape at fault", Missing(), Plain(b" ")),
+        Case("a folder for the pattern", Folder(), tape),
+        Case("a folder for the tape", good, Folder()),
+        Case("an unreadable pattern", Unreadable(patterns.WORKED), tape),
+        Case("an unreadable tape", good, Unreadable(b"3W2\n")),
+        Case("a pattern linked to nothing", Link("nowhere", None), tape),
+        Case("a tape linked to itself", good, Link("tape.txt", None)),
+        Case("a pattern that opens and fails to read", Link("/proc/self/mem", None), tape),
+        Case("a tape that opens and fails to read", good, Link("/proc/self/mem", None)),
+        Case("standard output that takes nothing", good, tape, full=True),
+    ]
+
+
+def files_of_other_kinds():
+    good, tape = Plain(patterns.WORKED), Plain(b"3W2\n")
+    endless = bytes(10_000)
+    nines = b"9" * 3600
+    return [
+        Case("the pattern by a pipe, a byte at a time", Pipe(patterns.WORKED), tape, LISTED),
+        Case("the tape by a pipe, a byte at a time", good, Pipe(b"3W2\n"), LISTED),
+        Case("both by pipes, a byte at a time", Pipe(patterns.WORKED), Pipe(b"3W2\n"), LISTED),
+        Case("64 longest lines by a pipe", Pipe(patterns.LONGEST), Plain(b"5" * 64)),
+        Case("65 lines by a pipe", Pipe(patterns.LINES_65), tape, refused(1, 64)),
+        Case("3,600 letters by a pipe", Plain(patterns.ANY), Pipe(nines + b"\n")),
+        Case("3,601 letters by a pipe", Plain(patterns.ANY), Pipe(nines + b"9\n"), refused(3, 0)),
+        Case("a tape by a pipe in pieces of 7", Plain(patterns.ANY), Pipe(nines, 7)),
+        Case("5 MB by a pipe for the tape", Plain(patterns.ANY), Pipe(b"9" * MEGABYTES_5, 4096), refused(3, 0)),
+        Case("5 MB by a pipe for the pattern", Pipe(b"9" * MEGABYTES_5, 4096), tape, refused(1, 0)),
+        Case("a pipe that hands out nothing for the tape", good, Pipe(b""), NO_LETTERS),
+        Case("a pipe that hands out nothing for the pattern", Pipe(b""), tape, refused(1, 0)),
+        Case("a tape that never ends", Plain(patterns.ANY), Link("/dev/zero", endless), refused(3, 0)),
+        Case("a pattern that never ends", Link("/dev/zero", endless), tape, refused(1, 0)),
+        Case("an empty device for the tape", good, Link("/dev/null", b""), NO_LETTERS),
+    ]
+
+
+CASES = [
+    *closing_bytes(),
+    *bytes_of_tapes(),
+    *lengths_of_tapes(),
+    *litres_and_codes(),
+    *forms_of_texts(),
+    *trees_of_texts(),
+    *files_not_read(),
+    *files_of_other_kinds(),
+]
+
+
+class Unable(Exception):
+    """A case that cannot be run here, and why."""
+
+
+def run_case(program, reference, case):
+    """None where the program does what it must, else what is wrong. Raises `Unable`."""
+    with tempfile.TemporaryDirectory(prefix="programs-") as made:
+        folder = Path(made, "case")
+        folder.mkdir()
+        folder.chmod(0o755)
+        Path(made).chmod(0o755)
+        contents = [case.pattern.content, case.tape.content]
+        feeders = [source.put(folder / name) for name, source in zip(NAMES, (case.pattern, case.tape))]
+        reader = None
+        if Unreadable in (type(case.pattern), type(case.tape)):
+            program, reader = unprivileged(program, Path(made))
+        ran = run_program(program, folder, [feed for feed in feeders if feed], reader, case.full)
+        if isinstance(ran, str):
+            return ran
+        if case.full or None in contents:
+            return fault_unlisted(ran, case, contents)
+        expected = listing_by(reference, contents, Path(made, "expected"))
+        if case.says is not None and expected != case.says.encode("ascii"):
+            return f"the independent reader prints {shown(expected)} in place of {shown(case.says.encode('ascii'))}"
+        return fault_listed(ran, expected)
+
+
+def unprivileged(program, made):
+    """The program and the user to run it as, so that a file without permissions cannot be read."""
+    if os.geteuid() != 0:
+        return program, None
+    copied = Path(made, "program")
+    shutil.copyfile(program, copied)
+    copied.chmod(stat.S_IRUSR | 0o555)
+    return copied, NOBODY
+
+
+def run_program(program, folder, feeders, reader, full):
+    """What the program printed and how it ended; a text where it did not end."""
+    stop = threading.Event()
+    threads = [threading.Thread(target=feed, args=(stop,)) for feed in feeders]
+    for thread in threads:
+        thread.start()
+    user = {} if reader is None else {"user": reader, "group": reader, "extra_groups": []}
+    try:
+        with open("/dev/full", "wb") as none_left:
+            out = none_left if full else subprocess.PIPE
+            return subprocess.run(
+                [program], cwd=folder, stdin=subprocess.DEVNULL, stdout=out, stderr=subprocess.PIPE, timeout=SECONDS, **user
+            )
+    except subprocess.TimeoutExpired:
+        return f"still running after {SECONDS} seconds"
+    except PermissionError as error:
+        if reader is None:
+            raise
+        raise Unable(f"cannot be run as a user without privileges: {error}") from error
+    finally:
+        stop.set()
+        for thread in threads:
+            thread.join()
+
+
+def listing_by(reference, contents, folder):
+    """What the independent reader prints for these bytes."""
+    folder.mkdir()
+    for name, content in zip(NAMES, contents):
+        Path(folder, name).write_bytes(content)
+    return subprocess.run([reference, "listing", folder], check=True, stdout=subprocess.PIPE).stdout
+
+
+def fault_listed(ran, expected):
+    if ran.stdout != expected:
+        return difference(expected, ran.stdout)
+    if ran.stderr:
+        return f"prints {shown(ran.stderr)} to standard error"
+    return None if ran.returncode == 0 else f"ends with status {ran.returncode}"
+
+
+def fault_unlisted(ran, case, contents):
+    """Nothing on standard output, and on standard error what could not be read or written."""
+    if ran.stdout:
+        return f"prints {shown(ran.stdout)}, where a file cannot be read"
+    failed = ["standard output"] if case.full else [name for name, content in zip(NAMES, contents) if content is None]
+    if not any(name.encode("ascii") in ran.stderr for name in failed):
+        return f"prints {shown(ran.stderr)} to standard error, which does not name {' or '.join(failed)}"
+    return None if ran.returncode >= 0 else f"is ended by signal {-ran.returncode}"
+
+
+def difference(expected, printed):
+    """The first line that differs."""
+    wanted, got = expected.splitlines(keepends=True), printed.splitlines(keepends=True)
+    at = next((i for i, (a, b) in enumerate(zip(wanted, got)) if a != b), min(len(wanted), len(got)))
+    line = lambda lines: shown(lines[at]) if at < len(lines) else "no line"
+    return f"line {at + 1}: {line(wanted)} is expected, {line(got)} is printed"
+
+
+def shown(content):
+    return repr(content if len(content) <= 60 else content[:60] + b"..")[1:]
