@@ -4,7 +4,10 @@ What must be printed is what the independent reader prints for the same bytes. W
 written here too: `says` is the whole standard output, and the independent reader must agree with it.
 """
 
+from __future__ import annotations
+
 import os
+import resource
 import shutil
 import stat
 import subprocess
@@ -28,7 +31,7 @@ class Case:
     pattern: object
     tape: object
     says: str | None = None
-    full: bool = False  # standard output takes no byte
+    room: int | None = None  # how many bytes standard output takes, where it does not take all
 
 
 def plain(name, pattern, tape, says=None):
@@ -174,7 +177,8 @@ def files_not_read():
         Case("a tape linked to itself", good, Link("tape.txt", None)),
         Case("a pattern that opens and fails to read", Link("/proc/self/mem", None), tape),
         Case("a tape that opens and fails to read", good, Link("/proc/self/mem", None)),
-        Case("standard output that takes nothing", good, tape, full=True),
+        Case("standard output that takes nothing", good, tape, room=0),
+        Case("standard output that takes 4,000 bytes", Plain(patterns.ANY), Plain(b"9" * 3600), room=4000),
     ]
 
 
@@ -229,10 +233,10 @@ def run_case(program, reference, case):
         reader = None
         if Unreadable in (type(case.pattern), type(case.tape)):
             program, reader = unprivileged(program, Path(made))
-        ran = run_program(program, folder, [feed for feed in feeders if feed], reader, case.full)
+        ran = run_program(program, folder, [feed for feed in feeders if feed], reader, case.room)
         if isinstance(ran, str):
             return ran
-        if case.full or None in contents:
+        if case.room is not None or None in contents:
             return fault_unlisted(ran, case, contents)
         expected = listing_by(reference, contents, Path(made, "expected"))
         if case.says is not None and expected != case.says.encode("ascii"):
@@ -250,19 +254,19 @@ def unprivileged(program, made):
     return copied, NOBODY
 
 
-def run_program(program, folder, feeders, reader, full):
+def run_program(program, folder, feeders, reader, room):
     """What the program printed and how it ended; a text where it did not end."""
     stop = threading.Event()
     threads = [threading.Thread(target=feed, args=(stop,)) for feed in feeders]
     for thread in threads:
         thread.start()
-    user = {} if reader is None else {"user": reader, "group": reader, "extra_groups": []}
+    words = {"cwd": folder, "stdin": subprocess.DEVNULL, "stdout": subprocess.PIPE, "stderr": subprocess.PIPE}
+    if reader is not None:
+        words = {**words, "user": reader, "group": reader, "extra_groups": []}
     try:
-        with open("/dev/full", "wb") as none_left:
-            out = none_left if full else subprocess.PIPE
-            return subprocess.run(
-                [program], cwd=folder, stdin=subprocess.DEVNULL, stdout=out, stderr=subprocess.PIPE, timeout=SECONDS, **user
-            )
+        if room is not None:
+            return run_with_room(program, words, room)
+        return subprocess.run([program], timeout=SECONDS, **words)
     except subprocess.TimeoutExpired:
         return f"still running after {SECONDS} seconds"
     except PermissionError as error:
@@ -273,6 +277,18 @@ def run_program(program, folder, feeders, reader, full):
         stop.set()
         for thread in threads:
             thread.join()
+
+
+def run_with_room(program, words, room):
+    """Standard output takes so many bytes: a write that goes over them gets a short count, the next one an error."""
+    if room == 0:
+        with open("/dev/full", "wb") as out:
+            return subprocess.run([program], timeout=SECONDS, **{**words, "stdout": out})
+    limit = lambda: resource.setrlimit(resource.RLIMIT_FSIZE, (room, room))
+    with tempfile.TemporaryFile() as out:
+        # Python ignores the signal that tells of the limit, and the program inherits that: it sees the error alone.
+        words = {**words, "stdout": out, "preexec_fn": limit, "restore_signals": False}
+        return subprocess.run([program], timeout=SECONDS, **words)
 
 
 def listing_by(reference, contents, folder):
@@ -295,7 +311,7 @@ def fault_unlisted(ran, case, contents):
     """Nothing on standard output, and on standard error what could not be read or written."""
     if ran.stdout:
         return f"prints {shown(ran.stdout)}, where a file cannot be read"
-    failed = ["standard output"] if case.full else [name for name, content in zip(NAMES, contents) if content is None]
+    failed = ["standard output"] if case.room is not None else [name for name, content in zip(NAMES, contents) if content is None]
     if not any(name.encode("ascii") in ran.stderr for name in failed):
         return f"prints {shown(ran.stderr)} to standard error, which does not name {' or '.join(failed)}"
     return None if ran.returncode >= 0 else f"is ended by signal {-ran.returncode}"
