@@ -42,7 +42,7 @@ class Folder:
 
 
 class Unreadable:
-    """A file that nobody may read. The superuser reads it all the same: see `tapelist.run_case`."""
+    """A file that nobody may read. The superuser reads it all the same: see `running.unprivileged`."""
 
     content = NO_CONTENT
 

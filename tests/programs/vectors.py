@@ -8,8 +8,8 @@ import os
 import subprocess
 import threading
 
+from running import SECONDS, difference, shown
 from sources import hand_out
-from tapelist import SECONDS, difference, shown
 
 # Longer than the longest line that the program holds.
 OVERLONG = 20_481
