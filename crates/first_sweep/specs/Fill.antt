@@ -38,7 +38,8 @@ fill-sweepable p tape ws f = record { few = f .few; letters = small-letters tape
 
 -- so that the buffer holds the words of the definition
 pub filled-words :
-    (p : Pattern) (tape old new zs os ts ks : List ℕ) (e : ℕ) → Fillable p tape old → Holds p ts → Masks-of (root p) (p .count) zs os ks e → new ≡ in-front (sweep-of zs os ts ks e tape) old
+    (p : Pattern) (tape old new zs os ts ks : List ℕ) (e : ℕ) → Fillable p tape old → Holds p ts → Masks-of (root p) (p .count) zs os ks e
+    → new ≡ in-front (sweep-of zs os ts ks e tape) old
     → new ≡ in-front (words p tape) old
 filled-words p tape old new zs os ts ks e f held m h =
     h ∙ ap (λ ws. in-front ws old) (sweep-words p (f .rules) zs os ts ks e held m tape (all-letters tape (f .letters)))

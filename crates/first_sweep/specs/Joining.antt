@@ -37,11 +37,14 @@ any-pull (suc n) x k h = go (any-pull n x k) (decLt x n)
     go ih (no l) =
         let q : x ≡ n = omega arith in
         let b : eqb x n ≡ true = ap (λ z. eqb z n) q ∙ eqb-self n in
-        rw (b) (ap₂ (λ y z. y || z) (ap k (sym q)) (any-same n k (λ y. not (eqb x y) && k y) (λ y m. sym (ap (λ z. not z && k y) (eqb-other x y (λ v. omega arith))))))
+        rw (b) (ap₂ (λ y z. y || z) (ap k (sym q))
+        (any-same n k (λ y. not (eqb x y) && k y) (λ y m. sym (ap (λ z. not z && k y) (eqb-other x y (λ v. omega arith))))))
 
 -- ---- what is joined so far, and what is left: together all that is to be joined
 pub record Joining (takers : ℕ) (choice : ℕ → Bool) (masks : ℕ → ℕ) (rest joined : ℕ) : Type 0 where
-  pub together : (l : ℕ) → (test-bit joined l || any-to 64 (λ x. (test-bit rest x && choice x) && test-bit (masks x) l)) ≡ any-to 64 (λ x. (test-bit takers x && choice x) && test-bit (masks x) l)
+  pub together :
+      (l : ℕ) → (test-bit joined l || any-to 64 (λ x. (test-bit rest x && choice x) && test-bit (masks x) l)) ≡ any-to 64
+      (λ x. (test-bit takers x && choice x) && test-bit (masks x) l)
 
 module _ (takers : ℕ) (o : ℕ → Bool) (m : ℕ → ℕ) where
   pub joining-start : Joining takers o m takers 0
@@ -56,7 +59,8 @@ module _ (takers : ℕ) (o : ℕ → Bool) (m : ℕ → ℕ) where
         (any-same 64 (λ y. (test-bit (rest - 2 ^ x) y && o y) && test-bit (m y) l) (λ y. not (eqb x y) && all l y)
         (λ y k. ap (λ z. (z && o y) && test-bit (m y) l) (lowest-out rest x one h e y k) ∙ turn (test-bit rest y) (not (eqb x y)) (o y) (test-bit (m y) l)))
         ∙ or-assoc (test-bit joined l) (o x && test-bit (m x) l) (any-to 64 (λ y. not (eqb x y) && all l y))
-        ∙ ap (λ z. test-bit joined l || z) (ap (λ z. (z && test-bit (m x) l) || any-to 64 (λ y. not (eqb x y) && all l y)) (sym (ap (λ z. z && o x) (lowest-on rest x one h e)))
+        ∙ ap (λ z. test-bit joined l || z)
+        (ap (λ z. (z && test-bit (m x) l) || any-to 64 (λ y. not (eqb x y) && all l y)) (sym (ap (λ z. z && o x) (lowest-on rest x one h e)))
         ∙ sym (any-pull 64 x (all l) (lowest-lt rest x one h e)))
         ∙ j .together l;
   }
@@ -73,7 +77,8 @@ module _ (takers : ℕ) (o : ℕ → Bool) (m : ℕ → ℕ) where
   pub joining-end : (joined : ℕ) → Joining takers o m 0 joined → joined ≡ union 64 (λ x. test-bit takers x && o x) m
   joining-end joined j =
       same-bits joined (union 64 (λ x. test-bit takers x && o x) m)
-      (λ l. sym (or-false (test-bit joined l)) ∙ ap (λ z. test-bit joined l || z) (sym (nothing-left l)) ∙ j .together l ∙ sym (union-bit 64 (λ x. test-bit takers x && o x) m l))
+      (λ l. sym (or-false (test-bit joined l)) ∙ ap (λ z. test-bit joined l || z) (sym (nothing-left l)) ∙ j .together l
+      ∙ sym (union-bit 64 (λ x. test-bit takers x && o x) m l))
     where
       none : (n : ℕ) (k : ℕ → Bool) → ((x : ℕ) → x < n → k x ≡ false) → any-to n k ≡ false
       none zero k h = refl
@@ -115,6 +120,8 @@ module _ (zs os : List ℕ) (takers : ℕ) (o : ℕ → Bool) where
   })
 
   pub stepping-end : (rest a b : ℕ) → Stepping zs os takers o rest a b → rest ≡ 0
-      → _≡_ {A = Words} (record { zero = a; one = b }) (record { zero = union 64 (λ x. test-bit takers x && o x) (entry zs); one = union 64 (λ x. test-bit takers x && o x) (entry os) })
+      → _≡_ {A = Words} (record { zero = a; one = b })
+      (record { zero = union 64 (λ x. test-bit takers x && o x) (entry zs); one = union 64 (λ x. test-bit takers x && o x) (entry os) })
   stepping-end rest a b q e =
-      ap₂ (λ x y. record { zero = x; one = y }) (joining-end takers o (entry zs) a (rw e at (q .zeros))) (joining-end takers o (entry os) b (rw e at (q .ones)))
+      ap₂ (λ x y. record { zero = x; one = y }) (joining-end takers o (entry zs) a (rw e at (q .zeros)))
+      (joining-end takers o (entry os) b (rw e at (q .ones)))

@@ -15,7 +15,8 @@ use Rattle.syntax.specs.TreeLaws.{Rules}
 use Rattle.bits.specs.Bits.{bit, test-bit, count-below}
 use Rattle.bits.specs.Words.{count-word}
 use Rattle.semantics.specs.Basics.{and-fst, and-snd, and-intro, or-left, or-right, or-cases}
-use Rattle.semantics.specs.Automaton.{Location, top, fst, snd, lft, rgt, rnd, State, end, at, follower, Moves, to-first, to-left, to-right, to-round, skip, leave}
+use Rattle.semantics.specs.Automaton.{Location, top, fst, snd, lft, rgt, rnd, State, end}
+use Rattle.semantics.specs.Automaton.{at, follower, Moves, to-first, to-left, to-right, to-round, skip, leave}
 use Rattle.semantics.specs.Sweeps.{can, readable}
 use Rattle.semantics.specs.AutomatonLaws.{after, Passes, guarded-iff}
 use Rattle.masks.specs.Nodes.{said, node-word, word-says}
@@ -41,7 +42,9 @@ words-at p (c ∷ w) (suc i) b h =
     ap (λ k. getD (words p (c ∷ w)) k 0) e ∙ words-at p w i b (omega arith)
 
 -- 01: "Bit l of word 2 × i + b says that the letters from i on are in the language of node l with flag b"
-pub words-say : (p : Pattern) → Rules p → (tape : List ℕ) (i : ℕ) (b : Bool) → i ≤ length tape → Is-state-set p b (drop i tape) (getD (words p tape) (2 * i + bit b) 0)
+pub words-say :
+    (p : Pattern) → Rules p → (tape : List ℕ) (i : ℕ) (b : Bool) → i ≤ length tape
+    → Is-state-set p b (drop i tape) (getD (words p tape) (2 * i + bit b) 0)
 words-say p r tape i b h = subst (Is-state-set p b (drop i tape)) (sym (words-at p tape i b h)) (state-set-is p r b (drop i tape))
 
 -- 01: "Reading starts at the root with flag 1": the root's bit of the first flag 1 word says whether the tape can be read
@@ -50,7 +53,9 @@ unfolding readable
 root-says p r tape = ap (λ x. test-bit x (index (root p))) (words-at p tape 0 true (omega arith)) ∙ state-bit p r true tape (root p) top
 
 -- the ones of a word are the nodes that are open
-pub open-count : (p : Pattern) → Rules p → (b : Bool) (w : List ℕ) → count-below 64 (test-bit (state-set p b w)) ≡ count-below (p .count) (said (λ t s. can t (after s) b w) (root p) top)
+pub open-count :
+    (p : Pattern) → Rules p → (b : Bool) (w : List ℕ)
+    → count-below 64 (test-bit (state-set p b w)) ≡ count-below (p .count) (said (λ t s. can t (after s) b w) (root p) top)
 unfolding state-set node-word
 open-count p r b w = count-word 64 (p .count) (said (λ t s. can t (after s) b w) (root p) top) (r .few)
 
@@ -97,11 +102,14 @@ module _ {root : Tree} (g : ℕ → Bool) (e : Bool) where
   reach-comes (nothing m) s b v k h = let d = k h in by-move (skip ((guarded-iff s b) .1 (d .0))) (d .1)
   reach-comes (letter m c) s b v k h = to-letter h
   reach-comes (range m x y) s b v k h = to-range h
-  reach-comes (seq m t u) s b v k h = by-move to-first (reach-comes t (fst s) b (reach g u v) (λ x. (λ y. absurd (false≢true y), reach-comes u (snd s) b v k x)) h)
+  reach-comes (seq m t u) s b v k h =
+      by-move to-first (reach-comes t (fst s) b (reach g u v) (λ x. (λ y. absurd (false≢true y), reach-comes u (snd s) b v k x)) h)
   reach-comes (alt m t u) s b v k h =
-      ⊎-elim (λ x. by-move to-left (reach-comes t (lft s) b v k x)) (λ x. by-move to-right (reach-comes u (rgt s) b v k (x .1))) (or-cases (reach g t v) (reach g u v) h)
+      ⊎-elim (λ x. by-move to-left (reach-comes t (lft s) b v k x)) (λ x. by-move to-right (reach-comes u (rgt s) b v k (x .1)))
+      (or-cases (reach g t v) (reach g u v) h)
   reach-comes (star m again t) s b v k h =
-      ⊎-elim (λ x. by-move to-round (reach-comes t (rnd s) false false (λ y. absurd (false≢true y)) x)) (λ x. let d = k (x .1) in by-move (leave ((guarded-iff s b) .1 (d .0))) (d .1)) (or-cases (reach g t false) v h)
+      ⊎-elim (λ x. by-move to-round (reach-comes t (rnd s) false false (λ y. absurd (false≢true y)) x))
+      (λ x. let d = k (x .1) in by-move (leave ((guarded-iff s b) .1 (d .0))) (d .1)) (or-cases (reach g t false) v h)
 
   passes-comes : {t : Tree} (s : Location root t) (b : Bool) → passes b g e s ≡ true → Behind s b
   passes-comes top b h = (λ y. absurd (false≢true y), to-end h)

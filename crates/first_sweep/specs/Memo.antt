@@ -24,7 +24,9 @@ use Rattle.masks.specs.Leaves.{entry}
 -- They are of steps from positions with a letter.
 pub record Remembers (zs os ts memo : List ℕ) : Type 0 where
   pub long : length memo ≡ 128
-  pub right : (s : ℕ) → s < 32 → step-of zs os ts (entry memo (4 * s)) (entry memo (4 * s + 1)) false ≡ record { zero = entry memo (4 * s + 2); one = entry memo (4 * s + 3) }
+  pub right :
+      (s : ℕ) → s < 32 → step-of zs os ts (entry memo (4 * s))
+      (entry memo (4 * s + 1)) false ≡ record { zero = entry memo (4 * s + 2); one = entry memo (4 * s + 3) }
 
 -- a slot keeps what is asked for if both its numbers are those asked for
 pub kept-other : (a b c d : ℕ) → (a ≡ b → ⊥) → false ≡ (eqb a b && eqb c d)
@@ -71,13 +73,15 @@ module _ (xs : List ℕ) (k a b c d : ℕ) where
 
   four-other : (j : ℕ) → (j ≡ k → ⊥) → (j ≡ k + 1 → ⊥) → (j ≡ k + 2 → ⊥) → (j ≡ k + 3 → ⊥) → entry (four xs k a b c d) j ≡ entry xs j
   unfolding one two three
-  four-other j p q r s = getD-set-other three (k + 3) j d 0 s ∙ getD-set-other two (k + 2) j c 0 r ∙ getD-set-other one (k + 1) j b 0 q ∙ getD-set-other xs k j a 0 p
+  four-other j p q r s =
+      getD-set-other three (k + 3) j d 0 s ∙ getD-set-other two (k + 2) j c 0 r ∙ getD-set-other one (k + 1) j b 0 q ∙ getD-set-other xs k j a 0 p
 
   module _ (h : k + 3 < length xs) where
     four-first : entry (four xs k a b c d) k ≡ a
     unfolding one two three
     four-first =
-        getD-set-other three (k + 3) k d 0 (λ q. omega arith) ∙ getD-set-other two (k + 2) k c 0 (λ q. omega arith) ∙ getD-set-other one (k + 1) k b 0 (λ q. omega arith)
+        getD-set-other three (k + 3) k d 0 (λ q. omega arith) ∙ getD-set-other two (k + 2) k c 0 (λ q. omega arith)
+        ∙ getD-set-other one (k + 1) k b 0 (λ q. omega arith)
         ∙ getD-set-same xs k a 0 (omega arith)
 
     four-second : entry (four xs k a b c d) (k + 1) ≡ b
@@ -113,11 +117,14 @@ module _ (zs os ts : List ℕ) where
         → _≡_ {A = Words} (record { zero = entry memo (4 * s + 2); one = entry memo (4 * s + 3) }) (step-of zs os ts takers next last)
     remembered e =
         sym (m .right s h)
-        ∙ ap₂ (λ t x. step-of zs os ts t x false) (eqb-eq (entry memo (4 * s)) takers (and-fst (eqb (entry memo (4 * s)) takers) (eqb (entry memo (4 * s + 1)) next) e))
+        ∙ ap₂ (λ t x. step-of zs os ts t x false)
+        (eqb-eq (entry memo (4 * s)) takers (and-fst (eqb (entry memo (4 * s)) takers) (eqb (entry memo (4 * s + 1)) next) e))
         (eqb-eq (entry memo (4 * s + 1)) next (and-snd (eqb (entry memo (4 * s)) takers) (eqb (entry memo (4 * s + 1)) next) e))
         ∙ ap (step-of zs os ts takers next) (sym l)
 
-    pub remembers-next : (r : Words) → r ≡ step-of zs os ts takers next last → Remembers zs os ts (set (set (set (set memo (4 * s) takers) (4 * s + 1) next) (4 * s + 2) (r .zero)) (4 * s + 3) (r .one))
+    pub remembers-next :
+        (r : Words) → r ≡ step-of zs os ts takers next last
+        → Remembers zs os ts (set (set (set (set memo (4 * s) takers) (4 * s + 1) next) (4 * s + 2) (r .zero)) (4 * s + 3) (r .one))
     remembers-next r e = record { long = simp length-set (m .long); right = λ d k. go d k (equal s d) }
       where
         room : Remembers zs os ts memo → 4 * s + 3 < length memo
@@ -126,7 +133,9 @@ module _ (zs os ts : List ℕ) where
         new : List ℕ
         new = four memo (4 * s) takers next (r .zero) (r .one)
 
-        go : (d : ℕ) → d < 32 → Dec (s ≡ d) → step-of zs os ts (entry new (4 * d)) (entry new (4 * d + 1)) false ≡ record { zero = entry new (4 * d + 2); one = entry new (4 * d + 3) }
+        go :
+            (d : ℕ) → d < 32 → Dec (s ≡ d) → step-of zs os ts (entry new (4 * d))
+            (entry new (4 * d + 1)) false ≡ record { zero = entry new (4 * d + 2); one = entry new (4 * d + 3) }
         go d k (yes q) =
             rw (
               ← q,
@@ -144,4 +153,6 @@ module _ (zs os ts : List ℕ) where
             ) (m .right d k)
           where
             apart : (d : ℕ) → (s ≡ d → ⊥) → (j : ℕ) → 4 * d ≤ j → j < 4 * d + 4 → entry new j ≡ entry memo j
-            apart d q j u w = four-other memo (4 * s) takers next (r .zero) (r .one) j (λ v. q (omega arith)) (λ v. q (omega arith)) (λ v. q (omega arith)) (λ v. q (omega arith))
+            apart d q j u w =
+                four-other memo (4 * s) takers next (r .zero) (r .one) j (λ v. q (omega arith)) (λ v. q (omega arith)) (λ v. q (omega arith))
+                (λ v. q (omega arith))

@@ -98,5 +98,6 @@ module _ (p : Pattern) (r : Rules p) where
           ∙ ap₂ (λ x y. x || y)
           (pick-bit (at-end b w) ends (index t) ∙ ap (λ z. at-end b w && z) (word-says good (reaches b nowhere true) t s))
           (union-bit 64 g leaves (index t)
-          ∙ any-same 64 (λ x. g x && test-bit (leaves x) (index t)) (λ x. g x && reaches b (eqb x) false t s) (λ x h. ap (λ z. g x && z) (word-says good (reaches b (eqb x) false) t s)))
+          ∙ any-same 64 (λ x. g x && test-bit (leaves x) (index t)) (λ x. g x && reaches b (eqb x) false t s)
+          (λ x h. ap (λ z. g x && z) (word-says good (reaches b (eqb x) false) t s)))
           ∙ sym (reaches-split t s b g 64 (at-end b w) out) ∙ reaches-can (root p) w g letters ranges t s b

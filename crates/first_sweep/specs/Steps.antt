@@ -55,7 +55,9 @@ module _ (p : Pattern) (r : Rules p) where
       ∙ state-bit p r true w t s
 
   -- a leaf's follower is open behind the letter exactly if the rest can be read behind the leaf
-  behind-leaf : (w : List ℕ) (f : ℕ) (b : Bool) (t : Tree) (s : Location (root p) t) → Followed (root p) (index t) f b → behind (state-set p true w) (at-end true w) f ≡ after s true w
+  behind-leaf :
+      (w : List ℕ) (f : ℕ) (b : Bool) (t : Tree) (s : Location (root p) t) → Followed (root p) (index t) f b
+      → behind (state-set p true w) (at-end true w) f ≡ after s true w
   behind-leaf w f b t s q =
       ap (behind (state-set p true w) (at-end true w)) (q .is) ∙ behind-state w (follower (q .node .place)) ∙ sym (after-true (q .node .place) w)
       ∙ same-node (root-planted p r) (λ t s. after s true w) (q .node .tree) t (q .node .place) s (q .node .is)
@@ -72,19 +74,25 @@ module _ (p : Pattern) (r : Rules p) where
 
     past-live : (x : ℕ) → 64 ≤ x → chosen x ≡ false
     unfolding chosen takers
-    past-live x h = ap (λ z. z && behind (state-set p true w) (at-end true w) (follower-in table x)) (word-past-last (root p) (p .count) (λ t s. takes t c) x (omega (arith, r .few)))
+    past-live x h =
+        ap (λ z. z && behind (state-set p true w) (at-end true w) (follower-in table x))
+        (word-past-last (root p) (p .count) (λ t s. takes t c) x (omega (arith, r .few)))
 
     -- THE STEP: a position that has a letter, from the next
-    pub state-step : (b : Bool) → state-set p b (c ∷ w) ≡ union 64 (live (takers (root p) (p .count) c) (state-set p true w) (at-end true w) (follower-in table)) (leaf-mask (root p) (p .count) b)
+    pub state-step :
+        (b : Bool) → state-set p b (c ∷ w) ≡ union 64 (live (takers (root p) (p .count) c) (state-set p true w) (at-end true w) (follower-in table))
+        (leaf-mask (root p) (p .count) b)
     unfolding chosen
     state-step b =
-        state-masks p r (c ∷ w) chosen (λ m a s g. leaf-live (letter m a) s) (λ m a e s g. leaf-live (range m a e) s) past-live b ∙ or-zero-l (union 64 chosen (leaf-mask (root p) (p .count) b))
+        state-masks p r (c ∷ w) chosen (λ m a s g. leaf-live (letter m a) s) (λ m a e s g. leaf-live (range m a e) s) past-live b
+        ∙ or-zero-l (union 64 chosen (leaf-mask (root p) (p .count) b))
 
   -- THE TAPE'S END: 01, "The end accepts with flag 1." With flag 0 nothing is open there.
   pub state-end : (b : Bool) → state-set p b [] ≡ pick b (end-mask (root p) (p .count) b)
   state-end b =
       state-masks p r [] nowhere (λ m a s g. refl) (λ m a e s g. refl) (λ x h. refl) b
-      ∙ ap (bitOr (pick b (end-mask (root p) (p .count) b))) (union-none 64 (leaf-mask (root p) (p .count) b)) ∙ or-zero-r (pick b (end-mask (root p) (p .count) b))
+      ∙ ap (bitOr (pick b (end-mask (root p) (p .count) b))) (union-none 64 (leaf-mask (root p) (p .count) b))
+      ∙ or-zero-r (pick b (end-mask (root p) (p .count) b))
 
 -- the step over the masks as they are stored and the followers of a packed table
 abbrev pub step-of : (zero one table : List ℕ) → (takers next : ℕ) → (last : Bool) → Words

@@ -102,7 +102,8 @@ module _ (zs os ts ks : List ℕ) (e : ℕ) where
 
     -- the same, counting down
     pub filling-down : (i next c : ℕ) (last : Bool) (words : List ℕ) (r : Words) → 0 < i → Filling tape old i next last words → c ≡ getD tape (i - 1) 0
-        → r ≡ step-of zs os ts (entry ks c) next last → Filling tape old (i - 1) (r .one) false (set (set words (2 * (i - 1)) (r .zero)) (2 * (i - 1) + 1) (r .one))
+        → r ≡ step-of zs os ts (entry ks c) next last
+        → Filling tape old (i - 1) (r .one) false (set (set words (2 * (i - 1)) (r .zero)) (2 * (i - 1) + 1) (r .one))
     filling-down i next c last words r o f g h =
         let e : i ≡ i - 1 + 1 = omega arith in
         filling-next (i - 1) next c last words r (subst (λ k. Filling tape old k next last words) e f) g h

@@ -48,7 +48,8 @@ module _ (p : Pattern) (r : Rules p) (zs os ts ks : List ℕ) (e : ℕ) (held : 
       go : Dec (x < p .count) → x < p .count
       go (yes y) = y
       go (no y) =
-          absurd (true≢false (sym h ∙ ap (λ z. z && behind next last (follower-in ts x)) (word-past-last (root p) (p .count) (λ t s. takes t c) x (omega arith))))
+          absurd (true≢false (sym h ∙ ap (λ z. z && behind next last (follower-in ts x))
+          (word-past-last (root p) (p .count) (λ t s. takes t c) x (omega arith))))
 
   -- one position from the next, over the stored masks
   pub step-words : (c : ℕ) (w : List ℕ) → is-letter c ≡ true
@@ -56,7 +57,8 @@ module _ (p : Pattern) (r : Rules p) (zs os ts ks : List ℕ) (e : ℕ) (held : 
   step-words c w h =
       ap (λ k. step-of zs os ts k (state-set p true w) (at-end true w)) (good .letters c h)
       ∙ ap₂ (λ x y. record { zero = x; one = y })
-      (union-chosen 64 chosen (entry zs) (leaf-mask (root p) (p .count) false) (λ x l f. good .zeros x (live-inside c (state-set p true w) (at-end true w) x f))
+      (union-chosen 64 chosen (entry zs) (leaf-mask (root p) (p .count) false)
+      (λ x l f. good .zeros x (live-inside c (state-set p true w) (at-end true w) x f))
       ∙ sym (state-step p r ts held c w false))
       (union-chosen 64 chosen (entry os) (leaf-mask (root p) (p .count) true) (λ x l f. good .ones x (live-inside c (state-set p true w) (at-end true w) x f))
       ∙ sym (state-step p r ts held c w true))

@@ -89,8 +89,8 @@ fn recall(
     memo: &mut [u64],
 ) -> Words
     requires { ⌜ (slot < 32) × Remembers (now zero) (now one) (now table) (now memo) ⌝ }
-    ensures { λ r.
-        ⌜ (r ≡ step-of (now (zero .entry)) (now (one .entry)) (now (table .entry)) takers next last) × Remembers (now (zero .entry)) (now (one .entry)) (now (table .entry)) (now (memo .exit)) ⌝ }
+    ensures { λ r. ⌜ r ≡ step-of (now (zero .entry)) (now (one .entry)) (now (table .entry)) takers next last ⌝ }
+    ensures { λ _. ⌜ Remembers (now (zero .entry)) (now (one .entry)) (now (table .entry)) (now (memo .exit)) ⌝ }
 {
     if last {
         return step(zero, one, table, takers, next, last);
@@ -122,7 +122,8 @@ fn sweep(
 )
     requires { ⌜ Sweepable (now tape) (now words) ⌝ }
     ensures { λ _.
-        ⌜ now (words .exit) ≡ in-front (sweep-of (now (zero .entry)) (now (one .entry)) (now (table .entry)) (now (takers .entry)) end (now (tape .entry))) (now (words .entry)) ⌝ }
+        ⌜ now (words .exit) ≡
+        in-front (sweep-of (now (zero .entry)) (now (one .entry)) (now (table .entry)) (now (takers .entry)) end (now (tape .entry))) (now (words .entry)) ⌝ }
 {
     let n = tape.len();
     words[2 * n] = 0;

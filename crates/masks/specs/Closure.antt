@@ -84,7 +84,8 @@ module _ (g h : ℕ → Bool) where
       ∙ dist b (reach g (star l again t) (passes b g v s)) (reach h (star l again t) (passes b h w s))
 
   -- what is open by two sets of open leaves is open by the one or by the other
-  pub reaches-or : {root : Tree} (t : Tree) (s : Location root t) (b v w : Bool) → reaches b (either g h) (v || w) t s ≡ (reaches b g v t s || reaches b h w t s)
+  pub reaches-or :
+      {root : Tree} (t : Tree) (s : Location root t) (b v w : Bool) → reaches b (either g h) (v || w) t s ≡ (reaches b g v t s || reaches b h w t s)
   reaches-or t s b v w = ap (reach (either g h) t) (passes-or s b v w) ∙ reach-or t (passes b g v s) (passes b h w s)
 
 pub reach-none : (t : Tree) → reach nowhere t false ≡ false

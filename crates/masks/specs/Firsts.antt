@@ -69,7 +69,8 @@ nowhere-through t true = sym (and-true (reach nowhere t true))
 nowhere-through t false = reach-none t ∙ sym (and-false (reach nowhere t true))
 
 pub reach-through : (g : ℕ → Bool) (t : Tree) (v : Bool) → reach g t v ≡ (reach g t false || (reach nowhere t true && v))
-reach-through g t v = ap (λ h. reach h t v) (fun-ext (λ x. sym (or-false (g x)))) ∙ reach-or g nowhere t false v ∙ ap (λ z. reach g t false || z) (nowhere-through t v)
+reach-through g t v =
+    ap (λ h. reach h t v) (fun-ext (λ x. sym (or-false (g x)))) ∙ reach-or g nowhere t false v ∙ ap (λ z. reach g t false || z) (nowhere-through t v)
 
 -- a word joined with another where v says so
 joined-bit : (a k y : ℕ) (v : Bool) → test-bit (bitOr a (pick v k)) y ≡ (test-bit a y || (v && test-bit k y))
@@ -90,7 +91,9 @@ pub nothing-bit : (y : ℕ) → test-bit 0 y ≡ false
 nothing-bit y = test-small 0 y (pow-pos y)
 
 -- what a node with these parts comes to behind itself, by what follows it
-pub behind-bit : (g : ℕ → Bool) (t : Tree) (f : First) (k y : ℕ) (v : Bool) → test-bit (f .leaves) y ≡ reach g t false → f .nullable ≡ reach nowhere t true → test-bit k y ≡ v
+pub behind-bit :
+    (g : ℕ → Bool) (t : Tree) (f : First) (k y : ℕ) (v : Bool) → test-bit (f .leaves) y ≡ reach g t false → f .nullable ≡ reach nowhere t true
+    → test-bit k y ≡ v
     → test-bit (bitOr (f .leaves) (pick (f .nullable) k)) y ≡ reach g t v
 behind-bit g t f k y v a n b = joined-bit (f .leaves) k y (f .nullable) ∙ ap₂ (λ x z. x || z) a (ap₂ (λ x z. x && z) n b) ∙ sym (reach-through g t v)
 
@@ -147,7 +150,9 @@ module _ (f : ℕ → Line) (i : ℕ) (below : Below i (f i .node)) (xs : List �
   first-here-of : First-of (tree-of f i) (first-here f i xs ns)
   first-here-of = subst (λ t. First-of t (first-here f i xs ns)) (sym (tree-line f i below)) (go (f i .node) below)
     where
-      go : (k : Node) → Below i k → First-of (made (label-of f i) (tree-of f) k) (first-line i k (first-at xs ns (first-part i k)) (first-at xs ns (second-part i k)))
+      go :
+          (k : Node) → Below i k → First-of (made (label-of f i) (tree-of f) k)
+          (first-line i k (first-at xs ns (first-part i k)) (first-at xs ns (second-part i k)))
       go (Leaf-node x) b = leaf-first-of (label-of f i) (tree-of f) x
       go (Sequence x y) b = in-turn-of (label-of f i) (tree-of f x) (tree-of f y) (first-at xs ns x) (first-at xs ns y) (d .right x (b .0)) (d .right y (b .1))
       go (Alternative x y) b =
@@ -171,5 +176,6 @@ module _ (f : ℕ → Line) (i : ℕ) (below : Below i (f i .node)) (xs : List �
           subst (λ x. First-of (tree-of f x) (first-at (set xs i (v .leaves)) (set ns i (v .nullable)) x)) q
           (subst (First-of (tree-of f i))
           (sym e
-          ∙ sym (first-same (getD-set-same xs i (v .leaves) 0 (omega (arith, d .leaves-long))) (getD-set-same ns i (v .nullable) false (omega (arith, d .nullable-long)))))
+          ∙ sym (first-same (getD-set-same xs i (v .leaves) 0 (omega (arith, d .leaves-long)))
+          (getD-set-same ns i (v .nullable) false (omega (arith, d .nullable-long)))))
           first-here-of)

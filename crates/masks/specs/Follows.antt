@@ -18,7 +18,8 @@ use Rattle.syntax.specs.TreeLaws.{Below}
 use Rattle.bits.specs.Bits.{test-bit}
 use Rattle.bits.specs.Words.{test-or}
 use Rattle.semantics.specs.Automaton.{Location}
-use Rattle.table.specs.HandDown.{first-part, second-part, parts-inside, Rooted, Known, Stores, stores-same, Given, All-given, Hands, given-start, given-next, given-end}
+use Rattle.table.specs.HandDown.{first-part, second-part, parts-inside, Rooted, Known, Stores, stores-same}
+use Rattle.table.specs.HandDown.{Given, All-given, Hands, given-start, given-next, given-end}
 use Rattle.masks.specs.declared.firsts.First.{First}
 use Rattle.masks.specs.declared.follows.Follow.{Follow}
 use Rattle.masks.specs.Closure.{passes, nowhere, reach-none}
@@ -141,7 +142,9 @@ module _ {f : ℕ → Line} {n : ℕ} (whole : Rooted f n) where
       sequence = λ x y a b s v q.
           let g = firsts .right y (omega arith) in (
             record {
-              zeros = λ z. behind-bit (eqb z) (tree-of f y) (first-at xs ns y) (v .zero) z (passes false (eqb z) false s) (g .leaves z) (g .nullable) (q .zeros z);
+              zeros =
+                  λ z. behind-bit (eqb z) (tree-of f y) (first-at xs ns y) (v .zero) z (passes false (eqb z) false s) (g .leaves z) (g .nullable)
+                  (q .zeros z);
               ones = λ z. behind-bit (eqb z) (tree-of f y) (first-at xs ns y) (v .one) z (passes true (eqb z) false s) (g .leaves z) (g .nullable) (q .ones z);
               ends = ap₂ (λ a b. a && b) (g .nullable) (q .ends) ∙ sym (nowhere-through (tree-of f y) (passes true nowhere true s));
             },
@@ -178,5 +181,7 @@ module _ {f : ℕ → Line} {n : ℕ} (whole : Rooted f n) where
   down-end {ks} {es} i e d = subst (λ j. Down f n j ks es) e d
 
   -- when all lines have been passed every line has its follow
-  pub follow-given : {ks : List ℕ} {es : List Bool} → Down f n 0 ks es → (l : ℕ) → l < n → Given f n (Follow-of (tree-of f (n - 1))) (tree-of f l) (follow-at ks es l)
+  pub follow-given :
+      {ks : List ℕ} {es : List Bool} → Down f n 0 ks es → (l : ℕ) → l < n
+      → Given f n (Follow-of (tree-of f (n - 1))) (tree-of f l) (follow-at ks es l)
   follow-given {ks} {es} d = given-end f n (Follow-of (tree-of f (n - 1))) whole (follow-at ks es) (d .given)

@@ -45,10 +45,14 @@ lowest-split (suc k) n one h = go (lowest-split k (n / 2)) (n % 2) refl
         → (d : ℕ) → n % 2 ≡ d → (q : ℕ) × (n ≡ q * 2 ^ suc (under d (trailingZeros k (n / 2))) + 2 ^ under d (trailingZeros k (n / 2)))
     go ih zero e =
         let i = ih (omega arith) (omega arith) in
-        let d : i .0 * 2 ^ suc (suc (trailingZeros k (n / 2))) ≡ 2 * (i .0 * 2 ^ suc (trailingZeros k (n / 2))) = double (i .0) (suc (trailingZeros k (n / 2))) in
+        let d : i .0 * 2 ^ suc (suc (trailingZeros k (n / 2))) ≡ 2 * (i .0 * 2 ^ suc (trailingZeros k (n / 2))) =
+        double (i .0) (suc (trailingZeros k (n / 2))) in
         let f : 2 ^ suc (trailingZeros k (n / 2)) ≡ 2 * 2 ^ trailingZeros k (n / 2) = omega arith in
-        let h : n ≡ 2 * (n / 2) = omega arith in
-        (i .0, h ∙ ap (λ z. 2 * z) (i .1) ∙ mul-add 2 (i .0 * 2 ^ suc (trailingZeros k (n / 2))) (2 ^ trailingZeros k (n / 2)) ∙ ap₂ (λ y z. y + z) (sym d) (sym f))
+        let h : n ≡ 2 * (n / 2) = omega arith in (
+          i .0,
+          h ∙ ap (λ z. 2 * z) (i .1) ∙ mul-add 2 (i .0 * 2 ^ suc (trailingZeros k (n / 2))) (2 ^ trailingZeros k (n / 2))
+              ∙ ap₂ (λ y z. y + z) (sym d) (sym f),
+        )
     go ih (suc d) e = (n / 2, omega arith)
 
 word-same : (n : ℕ) (f g : ℕ → Bool) → ((l : ℕ) → l < n → f l ≡ g l) → word-of n f ≡ word-of n g
@@ -75,7 +79,8 @@ cleared x (suc n) f h e = go (cleared x n f) (decLt x n)
         let q : x ≡ n = omega arith in
         let a : f n ≡ true = ap f (sym q) ∙ e in
         let b : eqb x n ≡ true = ap (λ z. eqb z n) q ∙ eqb-self n in
-        let s : word-of n f ≡ word-of n (λ l. f l && not (eqb x l)) = word-same n f (λ l. f l && not (eqb x l)) (λ l k. sym (ap (λ z. f l && not z) (eqb-other x l (λ y. omega arith)) ∙ and-true (f l))) in
+        let s : word-of n f ≡ word-of n (λ l. f l && not (eqb x l)) =
+        word-same n f (λ l. f l && not (eqb x l)) (λ l k. sym (ap (λ z. f l && not z) (eqb-other x l (λ y. omega arith)) ∙ and-true (f l))) in
         rw (a, b, q) (omega (arith, ap (λ z. word-of n (λ l. f l && not (eqb z l))) q, s))
 
 -- taking the lowest bit out
@@ -105,8 +110,10 @@ module _ (rest x : ℕ) (one : 1 ≤ rest) (h : rest < 2 ^ 64) (e : x ≡ traili
           let l : 2 ^ x < 2 ^ suc x = omega (arith, pow-pos x) in
           let m : 2 ^ x - 1 < 2 ^ suc x = omega arith in
           let n : rest - 1 ≡ q * 2 ^ suc x + (2 ^ x - 1) = omega (arith, pow-pos x) in
-          let z : bitAnd (2 ^ x) (2 ^ x - 1) ≡ 0 = ap (λ y. bitAnd y (2 ^ x - 1)) (sym (one-mul (2 ^ x))) ∙ and-shifted 1 x (2 ^ x - 1) (omega (arith, pow-pos x)) in
-          ap₂ bitAnd r n ∙ and-block (suc x) q q (2 ^ x) (2 ^ x - 1) l m ∙ ap₂ (λ y w. y * 2 ^ suc x + w) (and-self q) z ∙ (let w : q * 2 ^ suc x + 0 ≡ rest - 2 ^ x = omega arith in w)
+          let z : bitAnd (2 ^ x) (2 ^ x - 1) ≡ 0 =
+          ap (λ y. bitAnd y (2 ^ x - 1)) (sym (one-mul (2 ^ x))) ∙ and-shifted 1 x (2 ^ x - 1) (omega (arith, pow-pos x)) in
+          ap₂ bitAnd r n ∙ and-block (suc x) q q (2 ^ x) (2 ^ x - 1) l m ∙ ap₂ (λ y w. y * 2 ^ suc x + w) (and-self q) z
+          ∙ (let w : q * 2 ^ suc x + 0 ≡ rest - 2 ^ x = omega arith in w)
 
   pub lowest-out : (l : ℕ) → l < 64 → test-bit (rest - 2 ^ x) l ≡ (test-bit rest l && not (eqb x l))
   lowest-out l k =
@@ -126,7 +133,9 @@ lowest rest one few = record {
 
 -- numbers with the same bits are equal
 pub same-bits : (x y : ℕ) → ((l : ℕ) → test-bit x l ≡ test-bit y l) → x ≡ y
-same-bits x y h = word-unique (x + y) x (test-bit y) (large x y) (λ l k. h l) ∙ sym (word-self (x + y) y (let e : y + x ≡ x + y = omega arith in rw e at (large y x)))
+same-bits x y h =
+    word-unique (x + y) x (test-bit y) (large x y) (λ l k. h l)
+    ∙ sym (word-self (x + y) y (let e : y + x ≡ x + y = omega arith in rw e at (large y x)))
   where
     under-power : (x : ℕ) → x < 2 ^ x
     under-power zero = omega arith

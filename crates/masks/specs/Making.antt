@@ -61,5 +61,6 @@ module _ (p : Pattern) (r : Rules p) (table : List ℕ) (h : Holds p table) wher
     once = subst (λ t. Planted t (p .count)) (sym tree-is) (root-planted p r);
   }
 
-  pub masks-of-pattern : (zs os ks : List ℕ) (e : ℕ) → Masks-of (tree-of (line-in table) (p .count - 1)) (p .count) zs os ks e → Masks-of (root p) (p .count) zs os ks e
+  pub masks-of-pattern :
+      (zs os ks : List ℕ) (e : ℕ) → Masks-of (tree-of (line-in table) (p .count - 1)) (p .count) zs os ks e → Masks-of (root p) (p .count) zs os ks e
   masks-of-pattern zs os ks e m = subst (λ t. Masks-of t (p .count) zs os ks e) tree-is m

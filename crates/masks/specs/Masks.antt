@@ -107,7 +107,8 @@ module _ {f : ℕ → Line} {n : ℕ} (whole : Rooted f n) (good : Planted (tree
   pub line-takers-are : (c : ℕ) → line-takers f c n ≡ takers (tree-of f (n - 1)) n c
   unfolding takers
   line-takers-are c =
-      word-by-lines (λ t s. takes t c) (λ l. node-takes (f l .node) c) (λ l h s. go (label-of f l) (tree-of f) (f l .node) ∙ sym (ap (λ t. takes t c) (line-made whole l h)))
+      word-by-lines (λ t s. takes t c) (λ l. node-takes (f l .node) c)
+      (λ l h s. go (label-of f l) (tree-of f) (f l .node) ∙ sym (ap (λ t. takes t c) (line-made whole l h)))
     where
       go : (m : Label) (u : ℕ → Tree) (k : Node) → node-takes k c ≡ takes (made m u k) c
       go m u (Leaf-node Nothing) = refl
@@ -122,7 +123,8 @@ module _ {f : ℕ → Line} {n : ℕ} (whole : Rooted f n) (good : Planted (tree
       (b : Bool) (l y k : ℕ) (h : l < n) → test-bit k y ≡ passes b (eqb y) false (after l h .place)
       → (s : Location (tree-of f (n - 1)) (tree-of f l)) → test-bit (bitOr (entry xs l) (pick (getD ns l false) k)) y ≡ reaches b (eqb y) false (tree-of f l) s
   row-reaches b l y k h e s =
-      behind-bit (eqb y) (tree-of f l) (first-at xs ns l) k y (passes b (eqb y) false (after l h .place)) (firsts .right l h .leaves y) (firsts .right l h .nullable) e
+      behind-bit (eqb y) (tree-of f l) (first-at xs ns l) k y (passes b (eqb y) false (after l h .place)) (firsts .right l h .leaves y)
+      (firsts .right l h .nullable) e
       ∙ same-node good (reaches b (eqb y) false) (tree-of f l) (tree-of f l) (after l h .place) s refl
 
   behind-says : (b : Bool) (l y : ℕ) (h : l < n) → test-bit (entry ks (2 * l + bit b)) y ≡ passes b (eqb y) false (after l h .place)
@@ -138,7 +140,8 @@ module _ {f : ℕ → Line} {n : ℕ} (whole : Rooted f n) (good : Planted (tree
   pub row-ends : word-of n (comes-to-end ns es) ≡ end-mask (tree-of f (n - 1)) n true
   unfolding end-mask
   row-ends = word-by-lines (reaches true nowhere true) (comes-to-end ns es) (λ l h s.
-      ap₂ (λ x z. x && z) (firsts .right l h .nullable) (after l h .right .ends) ∙ sym (nowhere-through (tree-of f l) (passes true nowhere true (after l h .place)))
+      ap₂ (λ x z. x && z) (firsts .right l h .nullable) (after l h .right .ends)
+      ∙ sym (nowhere-through (tree-of f l) (passes true nowhere true (after l h .place)))
       ∙ same-node good (reaches true nowhere true) (tree-of f l) (tree-of f l) (after l h .place) s refl)
 
 -- ---- the masks of a tree of n nodes, stored

@@ -13,5 +13,7 @@ pub root-planted : (p : Pattern) → Rules p → Planted (root p) (p .count)
 root-planted p r = planted (root p) (p .count) (root-once p r)
 
 -- what is said of a node goes by its index
-pub same-node : {root : Tree} {n : ℕ} (good : Planted root n) (f : Predicate root) (t u : Tree) (s : Location root t) (q : Location root u) → index t ≡ index u → f t s ≡ f u q
+pub same-node :
+    {root : Tree} {n : ℕ} (good : Planted root n) (f : Predicate root) (t u : Tree) (s : Location root t) (q : Location root u) → index t ≡ index u
+    → f t s ≡ f u q
 same-node {root} good f t u s q e = sym (said-at (good .apart) f t s) ∙ ap (said f root top) e ∙ said-at (good .apart) f u q

@@ -36,13 +36,17 @@ pub record Marked (chosen : ℕ → Bool) (i : ℕ) (before now : List ℕ) : Ty
 -- what is marked so far, and what is left to mark: together all that is to be marked
 pub record Marking (chosen : ℕ → Bool) (i : ℕ) (before : List ℕ) (rest : ℕ → Bool) (now : List ℕ) : Type 0 where
   pub long : length now ≡ length before
-  pub together : (x : ℕ) → x < length before → (l : ℕ) → (test-bit (entry now x) l || (rest x && eqb i l)) ≡ (test-bit (entry before x) l || (chosen x && eqb i l))
+  pub together :
+      (x : ℕ) → x < length before → (l : ℕ)
+      → (test-bit (entry now x) l || (rest x && eqb i l)) ≡ (test-bit (entry before x) l || (chosen x && eqb i l))
 
 module _ (chosen : ℕ → Bool) (i : ℕ) (before : List ℕ) where
   pub marking-start : Marking chosen i before chosen before
   marking-start = record { long = refl; together = λ x h l. refl }
 
-  pub marking-next : (rest next : ℕ → Bool) (now : List ℕ) (x v : ℕ) → x < length before → rest x ≡ true → ((y : ℕ) → y < length before → next y ≡ (rest y && not (eqb x y)))
+  pub marking-next :
+      (rest next : ℕ → Bool) (now : List ℕ) (x v : ℕ) → x < length before → rest x ≡ true
+      → ((y : ℕ) → y < length before → next y ≡ (rest y && not (eqb x y)))
       → v ≡ bitOr (entry now x) (bit true * 2 ^ i) → Marking chosen i before rest now → Marking chosen i before next (set now x v)
   marking-next rest next now x v h r n e m = record {
     long = simp length-set (m .long);
@@ -54,10 +58,13 @@ module _ (chosen : ℕ → Bool) (i : ℕ) (before : List ℕ) where
       here false true = refl
       here false false = refl
 
-      go : (y : ℕ) → y < length before → (l : ℕ) → Dec (x ≡ y) → (test-bit (entry (set now x v) y) l || (next y && eqb i l)) ≡ (test-bit (entry before y) l || (chosen y && eqb i l))
+      go :
+          (y : ℕ) → y < length before → (l : ℕ) → Dec (x ≡ y)
+          → (test-bit (entry (set now x v) y) l || (next y && eqb i l)) ≡ (test-bit (entry before y) l || (chosen y && eqb i l))
       go y k l (yes q) =
           ap₂ (λ a b. a || (b && eqb i l))
-          (ap (λ z. test-bit z l) (ap (λ z. getD (set now x v) z 0) (sym q) ∙ getD-set-same now x v 0 (omega (arith, m .long)) ∙ e) ∙ test-or (entry now x) (bit true * 2 ^ i) l
+          (ap (λ z. test-bit z l) (ap (λ z. getD (set now x v) z 0) (sym q) ∙ getD-set-same now x v 0 (omega (arith, m .long)) ∙ e)
+          ∙ test-or (entry now x) (bit true * 2 ^ i) l
           ∙ ap (λ z. test-bit (entry now x) l || z) (test-single i true l ∙ and-true (eqb i l)))
           (n y k ∙ ap (λ z. rest y && not z) (ap (eqb x) (sym q) ∙ eqb-self x) ∙ none (rest y))
           ∙ here (test-bit (entry now x) l) (eqb i l) ∙ ap₂ (λ a b. test-bit (entry now a) l || (b && eqb i l)) q (sym r ∙ ap rest q) ∙ m .together y k l
@@ -66,9 +73,12 @@ module _ (chosen : ℕ → Bool) (i : ℕ) (before : List ℕ) where
           none true = refl
           none false = refl
       go y k l (no q) =
-          ap₂ (λ a b. test-bit a l || (b && eqb i l)) (getD-set-other now x y v 0 (λ z. q (sym z))) (n y k ∙ ap (λ z. rest y && not z) (ne-eqb x y q) ∙ and-true (rest y)) ∙ m .together y k l
+          ap₂ (λ a b. test-bit a l || (b && eqb i l)) (getD-set-other now x y v 0 (λ z. q (sym z)))
+          (n y k ∙ ap (λ z. rest y && not z) (ne-eqb x y q) ∙ and-true (rest y)) ∙ m .together y k l
 
-  pub marking-end : (rest : ℕ → Bool) (now : List ℕ) → ((x : ℕ) → x < length before → rest x ≡ false) → Marking chosen i before rest now → Marked chosen i before now
+  pub marking-end :
+      (rest : ℕ → Bool) (now : List ℕ) → ((x : ℕ) → x < length before → rest x ≡ false) → Marking chosen i before rest now
+      → Marked chosen i before now
   marking-end rest now n m = record {
     long = m .long;
     bits = λ x h l. sym (or-false (test-bit (entry now x) l)) ∙ ap (λ z. test-bit (entry now x) l || (z && eqb i l)) (sym (n x h)) ∙ m .together x h l;
@@ -89,11 +99,15 @@ module _ (row i mark : ℕ) (before : List ℕ) (m : mark ≡ bit true * 2 ^ i) 
   pub row-start : row < 2 ^ 64 → Row-left row i before row before
   row-start h = record { few = h; it = marking-start (test-bit row) i before }
 
-  pub row-next : (rest : ℕ) (now : List ℕ) (x v : ℕ) → length before ≡ 64 → Row-left row i before rest now → 1 ≤ rest → x ≡ trailingZeros 64 rest → v ≡ bitOr (entry now x) mark
+  pub row-next :
+      (rest : ℕ) (now : List ℕ) (x v : ℕ) → length before ≡ 64 → Row-left row i before rest now → 1 ≤ rest → x ≡ trailingZeros 64 rest
+      → v ≡ bitOr (entry now x) mark
       → Row-left row i before (bitAnd rest (rest - 1)) (set now x v)
   row-next rest now x v long r one e f = rw (lowest-cleared rest x one (r .few) e) (record {
     few = omega (arith, r .few);
-    it = marking-next (test-bit row) i before (test-bit rest) (test-bit (rest - 2 ^ x)) now x v (omega (arith, lowest-lt rest x one (r .few) e)) (lowest-on rest x one (r .few) e)
+    it =
+        marking-next (test-bit row) i before (test-bit rest) (test-bit (rest - 2 ^ x)) now x v (omega (arith, lowest-lt rest x one (r .few) e))
+        (lowest-on rest x one (r .few) e)
         (λ y h. lowest-out rest x one (r .few) e y (omega arith)) (f ∙ ap (bitOr (entry now x)) m) (r .it);
   })
 
@@ -107,7 +121,12 @@ pub record Scattered (f : ℕ → ℕ → Bool) (size i : ℕ) (cells : List ℕ
 
 module _ (f : ℕ → ℕ → Bool) (size : ℕ) where
   pub scattered-start : (cells : List ℕ) → Filled 0 (λ x. 0) size size cells → Scattered f size 0 cells
-  scattered-start cells z = record { long = z .long; bits = λ x h l. ap (λ k. test-bit k l) (z .cells x h) ∙ test-small 0 l (pow-pos l) ∙ sym (ap (λ k. k && f l x) (le-ltb l 0 (omega arith))) }
+  scattered-start cells z =
+      record {
+        long = z .long;
+        bits = λ x h l. ap (λ k. test-bit k l) (z .cells x h) ∙ test-small 0 l (pow-pos l)
+            ∙ sym (ap (λ k. k && f l x) (le-ltb l 0 (omega arith)));
+      }
 
   pub scattered-next : (i : ℕ) (cells now : List ℕ) → Scattered f size i cells → Marked (f i) i cells now → Scattered f size (i + 1) now
   scattered-next i cells now s m = record {
@@ -123,7 +142,9 @@ module _ (f : ℕ → ℕ → Bool) (size : ℕ) where
           drop-false true v = refl
           drop-false false true = refl
           drop-false false false = refl
-      go x l (no a) (yes b) = rw (le-ltb l i (omega arith), lt-ltb l (i + 1) (omega arith)) (ap (λ z. f i x && z) (ap (eqb i) (sym b) ∙ eqb-self i) ∙ and-true (f i x) ∙ ap (λ z. f z x) b)
+      go x l (no a) (yes b) =
+          rw (le-ltb l i (omega arith), lt-ltb l (i + 1) (omega arith))
+          (ap (λ z. f i x && z) (ap (eqb i) (sym b) ∙ eqb-self i) ∙ and-true (f i x) ∙ ap (λ z. f z x) b)
       go x l (no a) (no b) = rw (le-ltb l i (omega arith), le-ltb l (i + 1) (omega arith), ne-eqb i l b) (none (f i x))
         where
           none : (v : Bool) → (v && false) ≡ false
@@ -162,7 +183,9 @@ between-next low high y = go (decLt y low) (equal low y)
     go : Dec (y < low) → Dec (low ≡ y) → (leb (low + 1) y && leb y high) ≡ ((leb low y && leb y high) && not (eqb low y))
     go (yes a) (yes b) = absurd (omega arith)
     go (yes a) (no b) = rw (lt-leb (low + 1) y (omega arith), lt-leb low y a) refl
-    go (no a) (yes b) = rw (lt-leb (low + 1) y (omega arith)) (none (leb low y && leb y high) ∙ ap (λ z. (leb low y && leb y high) && not z) (sym (ap (eqb low) (sym b) ∙ eqb-self low)))
+    go (no a) (yes b) =
+        rw (lt-leb (low + 1) y (omega arith))
+        (none (leb low y && leb y high) ∙ ap (λ z. (leb low y && leb y high) && not z) (sym (ap (eqb low) (sym b) ∙ eqb-self low)))
     go (no a) (no b) = rw (le-leb (low + 1) y (omega arith), le-leb low y (omega arith), ne-eqb low y b) (swap true (leb y high))
 
 pub between-none : (low high y : ℕ) → high < low → between low high y ≡ false
@@ -177,9 +200,12 @@ module _ (low high i mark : ℕ) (before : List ℕ) (m : mark ≡ bit true * 2 
   abbrev pub Range-left : (c : ℕ) → List ℕ → Type 0
   Range-left c now = Marking (between low high) i before (between c high) now
 
-  pub range-next : (c : ℕ) (now : List ℕ) (v : ℕ) → high < length before → c ≤ high → v ≡ bitOr (entry now c) mark → Range-left c now → Range-left (c + 1) (set now c v)
+  pub range-next :
+      (c : ℕ) (now : List ℕ) (v : ℕ) → high < length before → c ≤ high → v ≡ bitOr (entry now c) mark → Range-left c now
+      → Range-left (c + 1) (set now c v)
   range-next c now v h k f r =
-      marking-next (between low high) i before (between c high) (between (c + 1) high) now c v (omega arith) (between-first c high k) (λ y l. between-next c high y) (f ∙ ap (bitOr (entry now c)) m) r
+      marking-next (between low high) i before (between c high) (between (c + 1) high) now c v (omega arith) (between-first c high k)
+      (λ y l. between-next c high y) (f ∙ ap (bitOr (entry now c)) m) r
 
   pub range-end : (c : ℕ) (now : List ℕ) → high < c → Range-left c now → Marked (between low high) i before now
   range-end c now h r = marking-end (between low high) i before (between c high) now (λ x l. between-none c high x h) r
@@ -208,7 +234,8 @@ range-between a b c g = go (leb a c) refl (leb c b) refl
     high = leb-true b 126 (and-snd (leb 33 b) (leb b 126) (and-snd (is-letter a) (is-letter b) letters))
 
     go : (x : Bool) → leb a c ≡ x → (y : Bool) → leb c b ≡ y → (x && y) ≡ ((leb 33 c && leb c 126) && (x && y))
-    go true e true f = sym (ap₂ (λ u v. (u && v) && true) (le-leb 33 c (omega (arith, low, leb-true a c e))) (le-leb c 126 (omega (arith, high, leb-true c b f))))
+    go true e true f =
+        sym (ap₂ (λ u v. (u && v) && true) (le-leb 33 c (omega (arith, low, leb-true a c e))) (le-leb c 126 (omega (arith, high, leb-true c b f))))
     go true e false f = none (leb 33 c && leb c 126)
       where
         none : (v : Bool) → false ≡ (v && false)
@@ -223,10 +250,13 @@ range-between a b c g = go (leb a c) refl (leb c b) refl
 pub leaf-nothing : (leaf : Leaf) (i : ℕ) (cells : List ℕ) → leaf ≡ Nothing → Marked (leaf-takes leaf) i cells cells
 leaf-nothing leaf i cells e = rw e (marked-none i cells)
 
-pub leaf-letter : (leaf : Leaf) (i : ℕ) (before now : List ℕ) (a : ℕ) → leaf ≡ Letter a → Marked (between a a) i before now → Marked (leaf-takes leaf) i before now
+pub leaf-letter :
+    (leaf : Leaf) (i : ℕ) (before now : List ℕ) (a : ℕ) → leaf ≡ Letter a → Marked (between a a) i before now → Marked (leaf-takes leaf) i before now
 leaf-letter leaf i before now a e m = rw e (marked-same (between a a) (leaf-takes (Letter a)) i before now (letter-between a) m)
 
-pub leaf-range : (leaf : Leaf) (i : ℕ) (before now : List ℕ) (a b : ℕ) → leaf-good leaf ≡ true → leaf ≡ Range a b → Marked (between a b) i before now → Marked (leaf-takes leaf) i before now
+pub leaf-range :
+    (leaf : Leaf) (i : ℕ) (before now : List ℕ) (a b : ℕ) → leaf-good leaf ≡ true → leaf ≡ Range a b → Marked (between a b) i before now
+    → Marked (leaf-takes leaf) i before now
 leaf-range leaf i before now a b g e m = rw e (marked-same (between a b) (leaf-takes (Range a b)) i before now (λ c. range-between a b c (rw e at g)) m)
 
 -- the letters of a good leaf have their cells
@@ -236,7 +266,9 @@ leaf-cell leaf a g e = letter-cell a (rw e at g)
 pub range-cell : (leaf : Leaf) (a b : ℕ) → leaf-good leaf ≡ true → leaf ≡ Range a b → b < letter-cells
 range-cell leaf a b g e = letter-cell b (and-snd (is-letter a) (is-letter b) (and-fst (is-letter a && is-letter b) (leb a b) (rw e at g)))
 
-pub node-leaf : (node : Node) (i : ℕ) (before now : List ℕ) (x : Leaf) → node ≡ Leaf-node x → Marked (leaf-takes x) i before now → Marked (node-takes node) i before now
+pub node-leaf :
+    (node : Node) (i : ℕ) (before now : List ℕ) (x : Leaf) → node ≡ Leaf-node x → Marked (leaf-takes x) i before now
+    → Marked (node-takes node) i before now
 node-leaf node i before now x e m = rw e m
 
 pub node-leaf-good : (node : Node) (x : Leaf) → node-good node ≡ true → node ≡ Leaf-node x → leaf-good x ≡ true
@@ -260,5 +292,7 @@ pub columns-next : (rows : ℕ → ℕ) (i w : ℕ) (cells now : List ℕ) → S
     → Scattered (λ l. test-bit (rows l)) 64 (i + 1) now
 columns-next rows i w cells now s e m = scattered-next (λ l. test-bit (rows l)) 64 i cells now s (rw e at m)
 
-pub columns-end : (rows : ℕ → ℕ) (count i : ℕ) (cells : List ℕ) → count ≤ 64 → i ≡ count → Scattered (λ l. test-bit (rows l)) 64 i cells → Filled 0 (column count rows) 64 count cells
+pub columns-end :
+    (rows : ℕ → ℕ) (count i : ℕ) (cells : List ℕ) → count ≤ 64 → i ≡ count → Scattered (λ l. test-bit (rows l)) 64 i cells
+    → Filled 0 (column count rows) 64 count cells
 columns-end rows count i cells h e s = scattered-end (λ l. test-bit (rows l)) 64 count count cells h (rw e at s)

@@ -22,8 +22,10 @@ use Rattle.syntax.specs.TreeLaws.{bit, Below, Rules, obeys-iff, tree-line, tree
 use Rattle.semantics.specs.Automaton.{Location, follower}
 use Rattle.semantics.specs.AutomatonLaws.{loops}
 use Rattle.table.specs.declared.Numbers.{Numbers}
-use Rattle.table.specs.HandDown.{equal, first-part, second-part, Parts-inside, parts-inside, Rooted, rules-rooted, Known, made-has-index, Stores, stores-same, Given, All-given, Hands, given-start, given-next, given-end}
-use Rattle.table.specs.Cells.{row-of, node-from, cell-node, cell-account, cell-line, node-in, account-in, line-in, tree-in, cell-behind, behind-in, follower-in, loops-in, state-index, Followed, Holds, Good}
+use Rattle.table.specs.HandDown.{equal, first-part, second-part, Parts-inside, parts-inside, Rooted, rules-rooted, Known, made-has-index}
+use Rattle.table.specs.HandDown.{Stores, stores-same, Given, All-given, Hands, given-start, given-next, given-end}
+use Rattle.table.specs.Cells.{row-of, node-from, cell-node, cell-account, cell-line, node-in, account-in, line-in, tree-in}
+use Rattle.table.specs.Cells.{cell-behind, behind-in, follower-in, loops-in, state-index, Followed, Holds, Good}
 
 -- ── a cell ──
 -- the numbers of a node say which node it is
@@ -35,7 +37,9 @@ row-node (Sequence p q) = refl
 row-node (Alternative p q) = refl
 row-node (Star p) = refl
 
-pub cell-packed : (x : Line) (r : Numbers) (c : ℕ) → r ≡ row-of (x .node) → c % 256 ≡ r .kind → c / 256 % 256 ≡ r .first → c / 65536 % 256 ≡ r .second → c / 16777216 % 256 ≡ x .account → cell-line c ≡ x
+pub cell-packed :
+    (x : Line) (r : Numbers) (c : ℕ) → r ≡ row-of (x .node) → c % 256 ≡ r .kind → c / 256 % 256 ≡ r .first → c / 65536 % 256 ≡ r .second
+    → c / 16777216 % 256 ≡ x .account → cell-line c ≡ x
 unfolding cell-node cell-account
 cell-packed x r c er ek ea eb eo = rw (ek, ea, eb, eo, er, row-node (x .node))
 
@@ -69,7 +73,9 @@ pub filled-start : (p : Pattern) → Filled p (replicate 64 0) 0
 unfolding cell-node cell-account
 filled-start p = record { low = omega arith; long = refl; lines = λ l h. absurd (omega arith); rest = λ l h k. rw (getD-zeros 64 l) }
 
-pub filled-next : (p : Pattern) (table : List ℕ) (i : ℕ) → Filled p table i → i < p .count → p .count ≤ 64 → (c : ℕ) → cell-line c ≡ line-at p i → Filled p (set table i c) (i + 1)
+pub filled-next :
+    (p : Pattern) (table : List ℕ) (i : ℕ) → Filled p table i → i < p .count → p .count ≤ 64 → (c : ℕ) → cell-line c ≡ line-at p i
+    → Filled p (set table i c) (i + 1)
 filled-next p table i f lt few c e =
     record {
       low = omega arith;
@@ -161,7 +167,11 @@ module _ {f : ℕ → Line} {n : ℕ} (whole : Rooted f n) where
   behind-hands i h = record {
     leaf = λ x v. refl;
     sequence = λ x y a b s v q. (
-      record { state = (let e : y % 256 ≡ y = omega (arith, whole .few) in e) ∙ sym (made-has-index whole y (omega arith)); above = omega (arith, whole .few) },
+      record {
+        state = (let e : y % 256 ≡ y = omega (arith, whole .few) in e)
+            ∙ sym (made-has-index whole y (omega arith));
+        above = omega (arith, whole .few);
+      },
       record { state = q .state; above = q .above },
     );
     alternative = λ x y s v q. (record { state = q .state; above = q .above }, record { state = q .state; above = q .above });
@@ -216,7 +226,9 @@ pub following-end : (start : List ℕ) (n : ℕ) → Rooted (line-in start) n �
 following-end start n whole i table z d = record { long = d .long; lines = d .lines; followed = λ l h. at l h (given l h) }
   where
     given : (l : ℕ) → l < n → Given (line-in start) n (Behind (tree-of (line-in start) (n - 1))) (tree-of (line-in start) l) (behind-in table l)
-    given = given-end (line-in start) n (Behind (tree-of (line-in start) (n - 1))) whole (behind-in table) (subst (λ j. All-given (line-in start) n (Behind (tree-of (line-in start) (n - 1))) j (behind-in table)) z (d .given))
+    given =
+        given-end (line-in start) n (Behind (tree-of (line-in start) (n - 1))) whole (behind-in table)
+        (subst (λ j. All-given (line-in start) n (Behind (tree-of (line-in start) (n - 1))) j (behind-in table)) z (d .given))
 
     bit-is : (b : Bool) → eqb (bit b % 2) 1 ≡ b
     bit-is true = refl
@@ -285,7 +297,8 @@ module _ (p : Pattern) (table : List ℕ) (o : obeys p ≡ true) (h : Holds p ta
         formed = each (λ l x. node-good (x .node) ≡ true)
             (λ l k. and-snd (leb (line-at p l .account) account-limit) (node-good (node-at p l)) (good-line l k)) (λ l. refl);
         accounts = each (λ l x. x .account ≤ account-limit)
-            (λ l k. leb-true (line-at p l .account) account-limit (and-fst (leb (line-at p l .account) account-limit) (node-good (node-at p l)) (good-line l k)))
+            (λ l k. leb-true (line-at p l .account) account-limit
+            (and-fst (leb (line-at p l .account) account-limit) (node-good (node-at p l)) (good-line l k)))
             (λ l. omega arith);
       }
 

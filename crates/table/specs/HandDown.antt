@@ -194,7 +194,9 @@ module _ (f : ℕ → Line) (n : ℕ) {X : Type 0} (Q : (t : Tree) → Location 
         go (inr m) = inr (record { line = m .line; from = omega arith; inside = m .inside; names = m .names })
 
     module _ (i : ℕ) (h : i < n) (first : Node → X → X) (hands : Hands i first) where
-      at-first : (k : Node) → Below i k → (v : X) → Given (tree-of f i) v → Given (made (label-of f i) (tree-of f) k) v → Given (tree-of f (first-part i k)) (first k v)
+      at-first :
+          (k : Node) → Below i k → (v : X) → Given (tree-of f i) v → Given (made (label-of f i) (tree-of f) k) v
+          → Given (tree-of f (first-part i k)) (first k v)
       at-first (Leaf-node x) b v d g = subst (Given (tree-of f i)) (sym (hands .leaf x v)) d
       at-first (Sequence x y) b v d g = record { place = fst (g .place); right = hands .sequence x y (b .0) (b .1) (g .place) v (g .right) .0 }
       at-first (Alternative x y) b v d g = record { place = lft (g .place); right = hands .alternative x y (g .place) v (g .right) .0 }

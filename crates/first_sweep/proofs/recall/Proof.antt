@@ -52,7 +52,12 @@ slice-read-t27 : tie.Need-slice-read-t27
 slice-read-t27 c = search needs
 
 returns-2 : tie.Need-returns-2
-returns-2 c = (remembered _ _ _ _ (c .before .before .before .before .before .before .before .before .pre .1) _ _ _ _ (c .before .before .before .before .before .before .before .before .pre .0) (c .before .before .before .before .before .before .if1 .left) (sym (c .before .before .before .is-kept .ensures) ∙ c .before .before .if2 .taken), c .before .before .before .before .before .before .before .before .pre .1)
+returns-2 c =
+    let c8 = c .before .before .before .before .before .before .before .before in (
+      remembered _ _ _ _ (c8 .pre .1) _ _ _ _ (c8 .pre .0) (c .before .before .before .before .before .before .if1 .left)
+          (sym (c .before .before .before .is-kept .ensures) ∙ c .before .before .if2 .taken),
+      c8 .pre .1,
+    )
 
 step-requires-2 : tie.Need-step-requires-2
 step-requires-2 c κs = search needs
@@ -61,7 +66,12 @@ mul-memo : tie.Need-mul-memo
 mul-memo c = search needs
 
 slice-write-memo : tie.Need-slice-write-memo
-slice-write-memo c = omega (arith, c .before .before .before .before .before .before .before .pre .0, c .before .before .before .before .before .before .before .pre .1 .long)
+slice-write-memo c =
+    omega (
+      arith,
+      c .before .before .before .before .before .before .before .pre .0,
+      c .before .before .before .before .before .before .before .pre .1 .long,
+    )
 
 add-memo : tie.Need-add-memo
 add-memo c = search needs
@@ -70,7 +80,12 @@ mul-memo-2 : tie.Need-mul-memo-2
 mul-memo-2 c = search needs
 
 slice-write-memo-2 : tie.Need-slice-write-memo-2
-slice-write-memo-2 c = simp length-set (omega (arith, c .before .before .before .before .before .before .before .pre .0, c .before .before .before .before .before .before .before .pre .1 .long))
+slice-write-memo-2 c =
+    simp length-set (omega (
+      arith,
+      c .before .before .before .before .before .before .before .pre .0,
+      c .before .before .before .before .before .before .before .pre .1 .long,
+    ))
 
 add-memo-2 : tie.Need-add-memo-2
 add-memo-2 c = search needs
@@ -79,7 +94,12 @@ mul-memo-3 : tie.Need-mul-memo-3
 mul-memo-3 c = search needs
 
 slice-write-memo-3 : tie.Need-slice-write-memo-3
-slice-write-memo-3 c = simp length-set (omega (arith, c .before .before .before .before .before .before .before .pre .0, c .before .before .before .before .before .before .before .pre .1 .long))
+slice-write-memo-3 c =
+    simp length-set (omega (
+      arith,
+      c .before .before .before .before .before .before .before .pre .0,
+      c .before .before .before .before .before .before .before .pre .1 .long,
+    ))
 
 add-memo-3 : tie.Need-add-memo-3
 add-memo-3 c = search needs
@@ -88,13 +108,22 @@ mul-memo-4 : tie.Need-mul-memo-4
 mul-memo-4 c = search needs
 
 slice-write-memo-4 : tie.Need-slice-write-memo-4
-slice-write-memo-4 c = simp length-set (omega (arith, c .before .before .before .before .before .before .before .pre .0, c .before .before .before .before .before .before .before .pre .1 .long))
+slice-write-memo-4 c =
+    simp length-set (omega (
+      arith,
+      c .before .before .before .before .before .before .before .pre .0,
+      c .before .before .before .before .before .before .before .pre .1 .long,
+    ))
 
 same-length : tie.Need-same-length
 same-length c = search needs
 
 returns-3 : tie.Need-returns-3
-returns-3 c = (c .step2 .ensures, remembers-next _ _ _ _ (c .before .before .before .before .before .before .before .pre .1) _ _ _ _ (c .before .before .before .before .before .before .before .pre .0) (c .before .before .before .before .before .if1 .left) _ (c .step2 .ensures))
+returns-3 c = (
+  c .step2 .ensures,
+  remembers-next _ _ _ _ (c .before .before .before .before .before .before .before .pre .1) _ _ _ _
+      (c .before .before .before .before .before .before .before .pre .0) (c .before .before .before .before .before .if1 .left) _ (c .step2 .ensures),
+)
 
 pub recall-spec : {M : Type 1} → statement M
 recall-spec =

@@ -9,7 +9,9 @@ use Rattle.first_sweep.proofs.sweep.Statement.{statement}
 use Rattle.first_sweep.proofs.sweep.Tie as tie
 
 abbrev Inv-loop : tie.InvT-loop
-Inv-loop zero one table takers end tape words₀ n memo₀ next₀ last₀ i₀ words memo next last i = (n ≡ length tape) × (2 * (length tape + 1) ≤ length words₀) × Filling zero one table takers end tape words₀ i next last words × Remembers zero one table memo
+Inv-loop zero one table takers end tape words₀ n memo₀ next₀ last₀ i₀ words memo next last i =
+    (n ≡ length tape) × (2 * (length tape + 1) ≤ length words₀) × Filling zero one table takers end tape words₀ i next last words
+    × Remembers zero one table memo
 
 abbrev μ-loop : tie.MeasureT-loop
 μ-loop zero one table takers end tape words₀ n memo₀ next₀ last₀ i₀ words memo next last i = i
@@ -36,7 +38,9 @@ slice-write-words-2 : tie.Need-slice-write-words-2 Inv-loop μ-loop
 slice-write-words-2 c = simp length-set (omega (arith, c .before .before .pre .room))
 
 loop-holds : tie.Need-loop-holds Inv-loop μ-loop
-loop-holds c = (refl, simp length-set (c .before .before .pre .room), filling-start _ _ _ _ _ _ (c .before .before .args .words .now) (c .before .before .pre .room), remembers-start _ _ _)
+loop-holds c =
+    let c2 = c .before .before in
+    (refl, simp length-set (c2 .pre .room), filling-start _ _ _ _ _ _ (c2 .args .words .now) (c2 .pre .room), remembers-start _ _ _)
 
 sub-i : tie.Need-sub-i Inv-loop μ-loop
 sub-i c = search needs
@@ -78,19 +82,31 @@ mul-words-8 : tie.Need-mul-words-8 Inv-loop μ-loop
 mul-words-8 c = search needs
 
 slice-write-words-4 : tie.Need-slice-write-words-4 Inv-loop μ-loop
-slice-write-words-4 c = simp length-set (omega (arith, c .before .before .before .before .before .before .loop .inv .2 .same, c .before .before .before .before .before .before .loop .inv .2 .inside, c .before .before .before .before .before .before .loop .inv .1))
+slice-write-words-4 c =
+    let c6 = c .before .before .before .before .before .before in
+    simp length-set (omega (arith, c6 .loop .inv .2 .same, c6 .loop .inv .2 .inside, c6 .loop .inv .1))
 
 loop-less : tie.Need-loop-less Inv-loop μ-loop
 loop-less c = search needs
 
 loop-again : tie.Need-loop-again Inv-loop μ-loop
-loop-again c = (c .before .before .before .before .before .before .loop .inv .0, c .before .before .before .before .before .before .loop .inv .1, filling-down _ _ _ _ _ _ _ (c .before .before .before .before .before .before .loop .inv .1) _ _ _ _ _ _ (c .before .before .before .before .before .loop-test .taken) (c .before .before .before .before .before .before .loop .inv .2) refl (c .before .recall .ensures .0), c .before .recall .ensures .1)
+loop-again c =
+    let c6 = c .before .before .before .before .before .before in (
+      c6 .loop .inv .0,
+      c6 .loop .inv .1,
+      filling-down _ _ _ _ _ _ _ (c6 .loop .inv .1) _ _ _ _ _ _
+          (c .before .before .before .before .before .loop-test .taken) (c6 .loop .inv .2) refl (c .before .recall .ensures .0),
+      c .before .recall .ensures .1,
+    )
 
 same-length : tie.Need-same-length Inv-loop μ-loop
 same-length c = c .before .loop .inv .2 .same ∙ simp length-set
 
 returns : tie.Need-returns Inv-loop μ-loop
-returns c = let z : c .before .loop .i ≡ 0 = omega arith in filling-end _ _ _ _ _ _ (c .before .before .before .before .args .words .now) (c .before .before .before .before .pre .room) _ _ _ (rw z at (c .before .loop .inv .2))
+returns c =
+    let z : c .before .loop .i ≡ 0 = omega arith in
+    filling-end _ _ _ _ _ _ (c .before .before .before .before .args .words .now) (c .before .before .before .before .pre .room) _ _ _
+    (rw z at (c .before .loop .inv .2))
 
 pub sweep-spec : {M : Type 1} → statement M
 sweep-spec =

@@ -46,19 +46,31 @@ second-part-requires c κs = search needs
 
 put-behind-requires : tie.Need-put-behind-requires Inv-loop μ-loop
 put-behind-requires c κs =
-    let n = c .before .before .before .before in
-    (omega (arith, c .second-part .ensures, inside n .second, line (n .before .before), n .before .before .before .loop .inv .1 .long), c .before .before .behind .ensures .1)
+    let n = c .before .before .before .before in (
+      omega (arith, c .second-part .ensures, inside n .second, line (n .before .before), n .before .before .before .loop .inv .1 .long),
+      c .before .before .behind .ensures .1,
+    )
 
 first-part-requires : tie.Need-first-part-requires Inv-loop μ-loop
 first-part-requires c κs = search needs
 
 first-behind-requires : tie.Need-first-behind-requires Inv-loop μ-loop
-first-behind-requires c κs = (line (c .before .before .before .before .before .before .before .before .before), c .before .before .before .before .before .behind .ensures .1)
+first-behind-requires c κs =
+    (line (c .before .before .before .before .before .before .before .before .before), c .before .before .before .before .before .behind .ensures .1)
 
 put-behind-requires-2 : tie.Need-put-behind-requires-2 Inv-loop μ-loop
 put-behind-requires-2 c κs =
-    let n = c .before .before .before .before .before .before .before .before in
-    (omega (arith, c .before .first-part .ensures, inside n .first, line (n .before .before), n .before .before .before .loop .inv .1 .long, c .before .before .before .put-behind .ensures .long), c .first-behind .ensures .1)
+    let n = c .before .before .before .before .before .before .before .before in (
+      omega (
+        arith,
+        c .before .first-part .ensures,
+        inside n .first,
+        line (n .before .before),
+        n .before .before .before .loop .inv .1 .long,
+        c .before .before .before .put-behind .ensures .long,
+      ),
+      c .first-behind .ensures .1,
+    )
 
 loop-less : tie.Need-loop-less Inv-loop μ-loop
 loop-less c = search needs
@@ -70,7 +82,8 @@ loop-again c =
     let l = n .before .before .before in (
       l .loop .inv .0,
       following-next _ _ (l .loop .inv .0) _ _ (l .loop .inv .1) (n .before .before .loop-test .taken) _ (n .node-at .ensures) _ _ _ _ _ _
-          (c .before .before .before .before .before .second-part .ensures) (c .before .before .first-part .ensures) (m .behind .ensures .0) (c .before .first-behind .ensures .0)
+          (c .before .before .before .before .before .second-part .ensures) (c .before .before .first-part .ensures) (m .behind .ensures .0)
+          (c .before .first-behind .ensures .0)
           (c .before .before .before .before .put-behind .ensures) (c .put-behind2 .ensures),
     )
 

@@ -38,7 +38,9 @@ loop-less : tie.Need-loop-less Inv-loop μ-loop
 loop-less c = search needs
 
 loop-again : tie.Need-loop-again Inv-loop μ-loop
-loop-again c = filled-next _ _ _ (c .before .before .before .loop .inv) (c .before .before .loop-test .taken) (c .before .before .before .before .before .pre .0) _ (c .cell-of .ensures)
+loop-again c =
+    filled-next _ _ _ (c .before .before .before .loop .inv) (c .before .before .loop-test .taken)
+    (c .before .before .before .before .before .pre .0) _ (c .cell-of .ensures)
 
 same-length : tie.Need-same-length Inv-loop μ-loop
 same-length c = c .before .loop .inv .long ∙ sym (ap length (c .before .before .before .pre .1))

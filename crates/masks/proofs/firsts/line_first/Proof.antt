@@ -34,7 +34,10 @@ first-of-requires c κs = c .before .before .before .before .before .pre .0
 returns : tie.Need-returns
 returns c =
     let s = c .before .before .before .before .before .before in
-    first-line-same (line-in (s .args .table .now)) _ (s .args .firsts .now) (s .args .nullable .now) (c .before .before .before .before .before .node-at .ensures) (c .before .before .before .before .first-part .ensures) (c .before .before .second-part .ensures) (c .before .before .before .first-at .ensures) (c .before .first-at2 .ensures) (c .first-of .ensures)
+    first-line-same (line-in (s .args .table .now)) _ (s .args .firsts .now) (s .args .nullable .now)
+    (c .before .before .before .before .before .node-at .ensures) (c .before .before .before .before .first-part .ensures)
+    (c .before .before .second-part .ensures) (c .before .before .before .first-at .ensures) (c .before .first-at2 .ensures) (c .first-of .ensures)
 
 pub line-first-spec : {M : Type 1} → statement M
-line-first-spec = tie.close (tie.spec node-at-requires first-part-requires first-at-requires second-part-requires first-at-requires-2 first-of-requires returns)
+line-first-spec =
+    tie.close (tie.spec node-at-requires first-part-requires first-at-requires second-part-requires first-at-requires-2 first-of-requires returns)

@@ -18,7 +18,9 @@ loop-holds : tie.Need-loop-holds Inv-loop μ-loop
 loop-holds c = (omega arith, firsts-start _ _ _ (c .pre .2) (c .pre .3))
 
 line-first-requires : tie.Need-line-first-requires Inv-loop μ-loop
-line-first-requires c κs = (omega (arith, c .before .before .before .before .pre .0), c .before .before .before .before .pre .1 .lower _ (omega (arith, c .before .before .before .before .pre .0)))
+line-first-requires c κs =
+    let c4 = c .before .before .before .before in
+    (omega (arith, c4 .pre .0), c4 .pre .1 .lower _ (omega (arith, c4 .pre .0)))
 
 mul-firsts : tie.Need-mul-firsts Inv-loop μ-loop
 mul-firsts c = search needs
@@ -36,10 +38,19 @@ loop-less : tie.Need-loop-less Inv-loop μ-loop
 loop-less c = search needs
 
 loop-again : tie.Need-loop-again Inv-loop μ-loop
-loop-again c = (omega arith, firsts-next _ _ (c .before .before .before .before .before .pre .1 .lower _ (omega (arith, c .before .before .before .before .before .pre .0))) _ _ (c .before .before .before .before .loop .inv .1) _ (omega (arith, c .before .before .before .before .before .pre .0)) (c .line-first .ensures))
+loop-again c =
+    let c5 = c .before .before .before .before .before in (
+      omega arith,
+      firsts-next _ _ (c5 .pre .1 .lower _ (omega (arith, c5 .pre .0))) _ _ (c .before .before .before .before .loop .inv .1) _
+          (omega (arith, c5 .pre .0)) (c .line-first .ensures),
+    )
 
 returns : tie.Need-returns Inv-loop μ-loop
 returns c = firsts-end _ _ _ (omega (arith, c .before .loop .inv .0, c .loop-test .left)) (c .before .loop .inv .1)
 
 pub put-firsts-spec : {M : Type 1} → statement M
-put-firsts-spec = tie.close (tie.spec Inv-loop μ-loop loop-holds line-first-requires mul-firsts element-write-firsts element-write-nullable add-i loop-less loop-again returns)
+put-firsts-spec =
+    tie.close
+    (tie.spec
+    Inv-loop μ-loop loop-holds line-first-requires mul-firsts element-write-firsts element-write-nullable add-i
+    loop-less loop-again returns)

@@ -12,7 +12,8 @@ use Rattle.masks.proofs.follows.put_follows.Statement.{statement}
 use Rattle.masks.proofs.follows.put_follows.Tie as tie
 
 abbrev Inv-loop : tie.InvT-loop
-Inv-loop table count firsts nullable behind₀ ends₀ i₀ behind ends i = Rooted (line-in table) count × Firsts (line-in table) count firsts nullable × Down (line-in table) count i behind ends
+Inv-loop table count firsts nullable behind₀ ends₀ i₀ behind ends i =
+    Rooted (line-in table) count × Firsts (line-in table) count firsts nullable × Down (line-in table) count i behind ends
 
 abbrev μ-loop : tie.MeasureT-loop
 μ-loop table count firsts nullable behind₀ ends₀ i₀ behind ends i = i
@@ -33,7 +34,9 @@ sub-put-follow : tie.Need-sub-put-follow Inv-loop μ-loop
 sub-put-follow c = omega (arith, c .before .before .pre .0 .one)
 
 put-follow-requires : tie.Need-put-follow-requires Inv-loop μ-loop
-put-follow-requires c κs = (omega (arith, c .before .before .pre .0 .one, c .before .before .pre .0 .few), c .before .before .pre .2)
+put-follow-requires c κs =
+    let c2 = c .before .before in
+    (omega (arith, c2 .pre .0 .one, c2 .pre .0 .few), c2 .pre .2)
 
 loop-holds : tie.Need-loop-holds Inv-loop μ-loop
 loop-holds c = let s = c .before .before .before in (s .pre .0, s .pre .1, down-start (s .pre .0) (s .pre .2) (c .put-follow .ensures))
@@ -57,10 +60,21 @@ loop-less : tie.Need-loop-less Inv-loop μ-loop
 loop-less c = search needs
 
 loop-again : tie.Need-loop-again Inv-loop μ-loop
-loop-again c = let n = c .before .before .before .before .before in let l = n .before .before .loop .inv in (l .0, l .1, down-at (l .0) _ _ (l .1) _ (n .before .loop-test .taken) (l .2) (n .node-at .ensures) (c .before .before .before .before .second-part .ensures) (c .before .before .before .first-at .ensures) (c .hand-on .ensures))
+loop-again c =
+    let n = c .before .before .before .before .before in
+    let l = n .before .before .loop .inv in (
+      l .0,
+      l .1,
+      down-at (l .0) _ _ (l .1) _ (n .before .loop-test .taken) (l .2) (n .node-at .ensures)
+          (c .before .before .before .before .second-part .ensures) (c .before .before .before .first-at .ensures) (c .hand-on .ensures),
+    )
 
 returns : tie.Need-returns Inv-loop μ-loop
 returns c = down-end (c .before .loop .inv .0) _ (omega (arith, c .loop-test .left)) (c .before .loop .inv .2)
 
 pub put-follows-spec : {M : Type 1} → statement M
-put-follows-spec = tie.close (tie.spec Inv-loop μ-loop sub-put-follow put-follow-requires loop-holds sub-i node-at-requires second-part-requires first-at-requires hand-on-requires loop-less loop-again returns)
+put-follows-spec =
+    tie.close
+    (tie.spec
+    Inv-loop μ-loop sub-put-follow put-follow-requires loop-holds sub-i node-at-requires second-part-requires
+    first-at-requires hand-on-requires loop-less loop-again returns)

@@ -34,4 +34,5 @@ returns-4 : tie.Need-returns-4
 returns-4 c = rw (c .before .enum-told4 .given .1) (c .before-round .ensures)
 
 pub to-first-spec : {M : Type 1} → statement M
-to-first-spec = tie.close (tie.spec enum-told enum-told-2 before-second-requires enum-told-3 enum-told-4 before-round-requires returns returns-2 returns-3 returns-4)
+to-first-spec =
+    tie.close (tie.spec enum-told enum-told-2 before-second-requires enum-told-3 enum-told-4 before-round-requires returns returns-2 returns-3 returns-4)

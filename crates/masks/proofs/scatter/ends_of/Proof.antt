@@ -19,7 +19,9 @@ abbrev μ-loop : tie.MeasureT-loop
 abbrev ends-in : tie.After-single Inv-loop μ-loop → ℕ → Bool
 ends-in c = let s = c .before .before .before .before .before .before in comes-to-end (s .args .nullable .now) (s .args .ends .now)
 
-here : (c : tie.After-single Inv-loop μ-loop) → c .single .result ≡ bit (ends-in c (c .before .before .before .before .before .loop .i)) * 2 ^ (c .before .before .before .before .before .loop .i)
+here :
+    (c : tie.After-single Inv-loop μ-loop)
+    → c .single .result ≡ bit (ends-in c (c .before .before .before .before .before .loop .i)) * 2 ^ (c .before .before .before .before .before .loop .i)
 here c = c .single .ensures ∙ ap (λ v. bit v * 2 ^ (c .before .before .before .before .before .loop .i)) (c .before .both .ensures)
 
 loop-holds : tie.Need-loop-holds Inv-loop μ-loop
@@ -38,7 +40,13 @@ single-requires : tie.Need-single-requires Inv-loop μ-loop
 single-requires c κs = omega (arith, c .before .before .before .loop-test .taken, c .before .before .before .before .before .pre)
 
 add-word : tie.Need-add-word Inv-loop μ-loop
-add-word c = let l = c .before .before .before .before .before in omega (arith, word-fits (l .loop .i) (ends-in c) (l .loop .word) (c .single .result) (omega (arith, c .before .before .before .before .loop-test .taken, l .before .pre)) (l .loop .inv .1) (here c))
+add-word c =
+    let l = c .before .before .before .before .before in
+    omega (
+      arith,
+      word-fits (l .loop .i) (ends-in c) (l .loop .word) (c .single .result)
+          (omega (arith, c .before .before .before .before .loop-test .taken, l .before .pre)) (l .loop .inv .1) (here c),
+    )
 
 add-i : tie.Need-add-i Inv-loop μ-loop
 add-i c = search needs
@@ -47,10 +55,19 @@ loop-less : tie.Need-loop-less Inv-loop μ-loop
 loop-less c = search needs
 
 loop-again : tie.Need-loop-again Inv-loop μ-loop
-loop-again c = let l = c .before .before .before .before .before in (omega (arith, c .before .before .before .before .loop-test .taken), word-next (l .loop .i) (ends-in c) _ _ (l .loop .inv .1) (here c))
+loop-again c =
+    let l = c .before .before .before .before .before in
+    (omega (arith, c .before .before .before .before .loop-test .taken), word-next (l .loop .i) (ends-in c) _ _ (l .loop .inv .1) (here c))
 
 returns : tie.Need-returns Inv-loop μ-loop
-returns c = let s = c .before .before in let e : c .before .loop .i ≡ s .args .count = omega (arith, c .before .loop .inv .0, c .loop-test .left) in c .before .loop .inv .1 ∙ ap (λ k. word-of k (comes-to-end (s .args .nullable .now) (s .args .ends .now))) e
+returns c =
+    let s = c .before .before in
+    let e : c .before .loop .i ≡ s .args .count = omega (arith, c .before .loop .inv .0, c .loop-test .left) in
+    c .before .loop .inv .1 ∙ ap (λ k. word-of k (comes-to-end (s .args .nullable .now) (s .args .ends .now))) e
 
 pub ends-of-spec : {M : Type 1} → statement M
-ends-of-spec = tie.close (tie.spec Inv-loop μ-loop loop-holds element-copy-out-both element-copy-out-both-2 both-requires single-requires add-word add-i loop-less loop-again returns)
+ends-of-spec =
+    tie.close
+    (tie.spec
+    Inv-loop μ-loop loop-holds element-copy-out-both element-copy-out-both-2 both-requires single-requires
+    add-word add-i loop-less loop-again returns)

@@ -42,7 +42,10 @@ join-requires : tie.Need-join-requires Inv-loop μ-loop
 join-requires c κs = search needs
 
 put-row-requires : tie.Need-put-row-requires Inv-loop μ-loop
-put-row-requires c κs = (omega (arith, c .before .before .before .before .before .loop-test .taken, c .before .before .before .before .before .before .before .pre .0), c .before .before .before .before .before .before .loop .inv .1 .long)
+put-row-requires c κs = (
+  omega (arith, c .before .before .before .before .before .loop-test .taken, c .before .before .before .before .before .before .before .pre .0),
+  c .before .before .before .before .before .before .loop .inv .1 .long,
+)
 
 add-i : tie.Need-add-i Inv-loop μ-loop
 add-i c = search needs
@@ -51,10 +54,24 @@ loop-less : tie.Need-loop-less Inv-loop μ-loop
 loop-less c = search needs
 
 loop-again : tie.Need-loop-again Inv-loop μ-loop
-loop-again c = let s = c .before .before .before .before .before .before .before .before in (omega (arith, c .before .before .before .before .before .before .loop-test .taken), columns-next (row (s .args .firsts .now) (s .args .nullable .now) (s .args .behind .now) (s .args .flag)) _ _ _ _ (c .before .before .before .before .before .before .before .loop .inv .1) (c .before .before .join .ensures) (c .put-row .ensures))
+loop-again c =
+    let s = c .before .before .before .before .before .before .before .before in (
+      omega (arith, c .before .before .before .before .before .before .loop-test .taken),
+      columns-next
+          (row (s .args .firsts .now) (s .args .nullable .now) (s .args .behind .now) (s .args .flag)) _ _ _ _
+          (c .before .before .before .before .before .before .before .loop .inv .1) (c .before .before .join .ensures) (c .put-row .ensures),
+    )
 
 returns : tie.Need-returns Inv-loop μ-loop
-returns c = let s = c .before .before in columns-end (row (s .args .firsts .now) (s .args .nullable .now) (s .args .behind .now) (s .args .flag)) _ _ _ (s .pre .0) (omega (arith, c .before .loop .inv .0, c .loop-test .left)) (c .before .loop .inv .1)
+returns c =
+    let s = c .before .before in
+    columns-end (row (s .args .firsts .now) (s .args .nullable .now) (s .args .behind .now) (s .args .flag)) _ _ _ (s .pre .0)
+    (omega (arith, c .before .loop .inv .0, c .loop-test .left)) (c .before .loop .inv .1)
 
 pub put-columns-spec : {M : Type 1} → statement M
-put-columns-spec = tie.close (tie.spec Inv-loop μ-loop loop-holds mul-join element-copy-out-join mul-join-2 add-join mul-join-3 element-copy-out-join-2 element-copy-out-join-3 join-requires put-row-requires add-i loop-less loop-again returns)
+put-columns-spec =
+    tie.close
+    (tie.spec
+    Inv-loop μ-loop loop-holds mul-join element-copy-out-join mul-join-2 add-join mul-join-3
+    element-copy-out-join-2 element-copy-out-join-3 join-requires put-row-requires add-i loop-less loop-again
+    returns)

@@ -17,7 +17,9 @@ enum-known-leaf-2 : tie.Need-enum-known-leaf-2
 enum-known-leaf-2 c = search needs
 
 put-range-requires-2 : tie.Need-put-range-requires-2
-put-range-requires-2 c κs = let s = c .before .before .before .before in (s .pre .0, range-cell _ _ _ (s .pre .2) (c .before .before .leaf2 .given .1), s .pre .1)
+put-range-requires-2 c κs =
+    let s = c .before .before .before .before in
+    (s .pre .0, range-cell _ _ _ (s .pre .2) (c .before .before .leaf2 .given .1), s .pre .1)
 
 returns : tie.Need-returns
 returns c = leaf-nothing _ _ _ (c .enum-told .given .1)
@@ -26,7 +28,8 @@ returns-2 : tie.Need-returns-2
 returns-2 c = leaf-letter _ _ _ _ _ (c .before .before .before .leaf .given .1) (c .put-range .ensures)
 
 returns-3 : tie.Need-returns-3
-returns-3 c = leaf-range _ _ _ _ _ _ (c .before .before .before .before .before .pre .2) (c .before .before .before .leaf2 .given .1) (c .put-range2 .ensures)
+returns-3 c =
+    leaf-range _ _ _ _ _ _ (c .before .before .before .before .before .pre .2) (c .before .before .before .leaf2 .given .1) (c .put-range2 .ensures)
 
 pub put-leaf-spec : {M : Type 1} → statement M
 put-leaf-spec = tie.close (tie.spec enum-told enum-known-leaf put-range-requires enum-known-leaf-2 put-range-requires-2 returns returns-2 returns-3)

@@ -8,7 +8,9 @@ enum-known-node : tie.Need-enum-known-node
 enum-known-node c = search needs
 
 put-leaf-requires : tie.Need-put-leaf-requires
-put-leaf-requires c κs = let s = c .before .before .before .before in (s .pre .0, s .pre .1, node-leaf-good _ _ (s .pre .2) (c .before .before .node .given .1))
+put-leaf-requires c κs =
+    let s = c .before .before .before .before in
+    (s .pre .0, s .pre .1, node-leaf-good _ _ (s .pre .2) (c .before .before .node .given .1))
 
 enum-told : tie.Need-enum-told
 enum-told c = search needs

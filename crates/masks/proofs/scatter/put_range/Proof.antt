@@ -38,10 +38,19 @@ loop-less : tie.Need-loop-less Inv-loop μ-loop
 loop-less c = search needs
 
 loop-again : tie.Need-loop-again Inv-loop μ-loop
-loop-again c = let s = c .before .before .before .before in range-next (s .args .low) (s .args .high) _ _ _ (c .before .before .before .single .ensures) _ _ _ (omega (arith, s .pre .1, s .pre .2)) (c .before .loop-test .taken) refl (c .before .before .loop .inv)
+loop-again c =
+    let s = c .before .before .before .before in
+    range-next (s .args .low) (s .args .high) _ _ _ (c .before .before .before .single .ensures) _ _ _ (omega (arith, s .pre .1, s .pre .2))
+    (c .before .loop-test .taken) refl (c .before .before .loop .inv)
 
 returns : tie.Need-returns Inv-loop μ-loop
-returns c = let s = c .before .before .before in range-end (s .args .low) (s .args .high) _ _ _ (c .before .before .single .ensures) _ _ (c .loop-test .left) (c .before .loop .inv)
+returns c =
+    let s = c .before .before .before in
+    range-end (s .args .low) (s .args .high) _ _ _ (c .before .before .single .ensures) _ _ (c .loop-test .left) (c .before .loop .inv)
 
 pub put-range-spec : {M : Type 1} → statement M
-put-range-spec = tie.close (tie.spec Inv-loop μ-loop single-requires loop-holds mul-cells element-copy-out-cells mul-cells-2 element-write-cells add-c loop-less loop-again returns)
+put-range-spec =
+    tie.close
+    (tie.spec
+    Inv-loop μ-loop single-requires loop-holds mul-cells element-copy-out-cells mul-cells-2 element-write-cells
+    add-c loop-less loop-again returns)

@@ -45,10 +45,16 @@ loop-less : tie.Need-loop-less Inv-loop μ-loop
 loop-less c = here (c .before) .less
 
 loop-again : tie.Need-loop-again Inv-loop μ-loop
-loop-again c = row-next _ _ _ _ (c .before .before .before .single .ensures) _ _ _ _ (c .before .before .before .before .pre .1) (c .before .before .loop .inv) (omega (arith, c .before .loop-test .taken)) refl refl
+loop-again c =
+    row-next _ _ _ _ (c .before .before .before .single .ensures) _ _ _ _ (c .before .before .before .before .pre .1) (c .before .before .loop .inv)
+    (omega (arith, c .before .loop-test .taken)) refl refl
 
 returns : tie.Need-returns Inv-loop μ-loop
 returns c = row-end _ _ _ _ (c .before .before .single .ensures) _ _ (c .loop-test .left) (c .before .loop .inv)
 
 pub put-row-spec : {M : Type 1} → statement M
-put-row-spec = tie.close (tie.spec Inv-loop μ-loop single-requires loop-holds cast-x sub-rest mul-cells element-copy-out-cells mul-cells-2 element-write-cells loop-less loop-again returns)
+put-row-spec =
+    tie.close
+    (tie.spec
+    Inv-loop μ-loop single-requires loop-holds cast-x sub-rest mul-cells element-copy-out-cells mul-cells-2
+    element-write-cells loop-less loop-again returns)
