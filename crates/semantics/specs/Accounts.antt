@@ -8,8 +8,11 @@ use Rattle.syntax.specs.Tree.{Label, Tree, nothing, letter, range, seq, alt, st
 use Rattle.semantics.specs.Value.{Value}
 
 -- the account that a node hands down: its own, or the one from above if it has none (0)
+abbrev pub handed-down : (own above : ℕ) → ℕ
+handed-down own above = cond (eqb own 0) above own
+
 abbrev pub owner : Label → (above : ℕ) → ℕ
-owner m o = cond (eqb (m .account) 0) o (m .account)
+owner m o = handed-down (m .account) o
 
 abbrev pub join-rounds : {A B : Type 0} → (A → List B) → List A → List B
 join-rounds g [] = []

@@ -1,0 +1,3 @@
+-- What a walk over a code enters at each node, and its laws.
+pub mod Entries
+pub mod Entering
