@@ -1,6 +1,6 @@
 -- Spelling a code: the answer and the tape, for every input. Definitions only.
 use mathlib.Core.Path.{_≡_}
-use mathlib.Core.Bool.{Bool, _&&_, cond}
+use mathlib.Core.Bool.{cond}
 use mathlib.Core.List.{List}
 use Prim.Native.Nat.{ℕ}
 use lib.Dec.{eqb, leb}
@@ -13,8 +13,8 @@ use Rattle.syntax.specs.Tree.{Tree}
 use Rattle.syntax.specs.Trees.{root}
 use Rattle.syntax.specs.Table.{obeys}
 use Rattle.refusals.specs.Refusals.{Answer, answer, refused}
-use Rattle.bits.specs.Bits.{held, handed-good, in-front}
-use Rattle.semantics.specs.Decode.{is-code, spelled}
+use Rattle.bits.specs.Bits.{in-front}
+use Rattle.walks.specs.Whole.{whole-code, letters-of}
 use Rattle.codes.specs.declared.Flattened.{Flattened}
 use Rattle.codes.specs.declared.Flattened.the-variants.{Letters, Refused}
 

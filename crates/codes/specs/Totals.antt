@@ -3,7 +3,7 @@ use mathlib.Core.Path.{_≡_}
 use mathlib.Core.Bool.{Bool, cond}
 use mathlib.Core.Option.{Option, none, some}
 use mathlib.Core.List.{List, []}
-use Prim.Native.Nat.{ℕ}
+use Prim.Native.Nat.{ℕ, _+_}
 use lib.Dec.{eqb, leb}
 use lib.ListN.{length, replicate}
 use Rattle.syntax.specs.declared.Pattern.{Pattern}
@@ -11,7 +11,7 @@ use Rattle.refusals.specs.declared.Refusal.{Refusal}
 use Rattle.syntax.specs.Letter.{letter-limit}
 use Rattle.syntax.specs.Tree.{Tree}
 use Rattle.syntax.specs.Trees.{root}
-use Rattle.syntax.specs.Table.{obeys}
+use Rattle.syntax.specs.Table.{obeys, account-limit}
 use Rattle.refusals.specs.Refusals.{Answer, answer, refused}
 use Rattle.bits.specs.Bits.{held}
 use Rattle.semantics.specs.Value.{Value}
@@ -39,7 +39,7 @@ totals-answer p code count =
     bad-table
 
 abbrev pub no-litres : List ℕ
-no-litres = replicate 10 0
+no-litres = replicate (account-limit + 1) 0
 
 -- 01: "The ten totals are returned, not lent [..]; refused, all are 0."
 unfoldable pub totals-litres : Pattern → (code : List ℕ) → (count : ℕ) → List ℕ

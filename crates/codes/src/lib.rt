@@ -1,19 +1,44 @@
-// Services on codes: spelling a code, and litres by account.
+// Services on codes: spelling a code, litres by account, and whether a code spells a tape. Each walks a code for its measure before anything
+// is written or added.
 ghost use mathlib.Core.Path.{_≡_};
+ghost use Prim.Native.Nat.{_≤_, _<_};
+ghost use lib.ListN.{length};
+ghost use Rattle.syntax.specs.Letter.{letter-limit};
+ghost use Rattle.table.specs.Cells.{Good, tree-in};
+ghost use Rattle.codes.specs.Spells.{code-of-tape};
 ghost use Rattle.codes.specs.Flatten.{Flattens};
 ghost use Rattle.codes.specs.Totals.{Totals, refused-totals};
 
-mod spell; // spell.rt: the walk that writes the letters
-mod total; // total.rt: the walk that adds up litres
-pub mod walk; // walk.rt: whether bits are a whole code, where it stops, and how many letters it spells
+mod compare; // compare.rt: whether a buffer begins with a tape
+mod sums; // sums.rt: adding up entries
 
+use compare::begins;
+use entries::put_entries;
 use refusals::Refusal;
-use spell::spell;
+use sums::add_up;
 use syntax::Pattern;
 use syntax::obeys_rules;
-use table::columns_of;
-use total::charge;
+use table::table_of;
 use walks::measure;
+
+// Whether a code of node l spells a tape: its letters are written and compared.
+pub fn spells(table: &[u64; 64], l: usize, code: &[u8], count: u32, tape: &[u8]) -> bool
+    requires { ⌜ Good (now table) ⌝ }
+    requires { ⌜ (l < 64) × (length (now tape) ≤ letter-limit) ⌝ }
+    ensures { λ r. ⌜ r ≡ code-of-tape (tree-in (now (table .entry)) l) (now (tape .entry)) (now (code .entry)) count ⌝ }
+{
+    let measured = measure(table, l, code, count);
+    if !measured.whole {
+        return false;
+    }
+    if measured.letters as usize != tape.len() {
+        return false;
+    }
+    let mut own = [0u8; Pattern::MAX_LETTERS];
+    let mut accounts = [0u8; 0];
+    put_entries(table, l, 0, code, 0, &mut own, &mut accounts, 0);
+    begins(&own, tape)
+}
 
 // What spelling answers: how many letters, or why not.
 pub enum Flattened {
@@ -28,12 +53,9 @@ pub fn flatten(p: Pattern, code: &[u8], count: u32, tape: &mut [u8]) -> Flattene
     if !obeys_rules(p) {
         return Flattened::Refused(Refusal::Tree(0));
     }
-    let columns = columns_of(p);
-    let kind = columns.kind;
-    let first = columns.first;
-    let second = columns.second;
+    let table = table_of(p);
     let root = p.count - 1;
-    let measured = measure(&kind, &first, &second, root, code, count);
+    let measured = measure(&table, root, code, count);
     if !measured.whole {
         return Flattened::Refused(Refusal::NotACode);
     }
@@ -44,7 +66,8 @@ pub fn flatten(p: Pattern, code: &[u8], count: u32, tape: &mut [u8]) -> Flattene
     if tape.len() < letters {
         return Flattened::Refused(Refusal::TapeTooShort(measured.letters));
     }
-    spell(&kind, &first, &second, root, code, count, 0, tape, 0);
+    let mut accounts = [0u8; 0];
+    put_entries(&table, root, 0, code, 0, tape, &mut accounts, 0);
     Flattened::Letters(measured.letters)
 }
 
@@ -60,12 +83,17 @@ pub struct Totalled {
     pub litres: [u32; 10],
 }
 
+impl Totalled {
+    // Accounts 0 to `Pattern::MAX_ACCOUNT`.
+    pub const ACCOUNTS: usize = 10;
+}
+
 fn no_totals(why: Refusal) -> Totalled
     ensures { λ r. ⌜ r ≡ refused-totals why ⌝ }
 {
     Totalled {
         outcome: TotalsOutcome::Refused(why),
-        litres: [0; 10],
+        litres: [0; Totalled::ACCOUNTS],
     }
 }
 
@@ -76,32 +104,20 @@ pub fn totals(p: Pattern, code: &[u8], count: u32) -> Totalled
     if !obeys_rules(p) {
         return no_totals(Refusal::Tree(0));
     }
-    let columns = columns_of(p);
-    let kind = columns.kind;
-    let first = columns.first;
-    let second = columns.second;
-    let account = columns.account;
+    let table = table_of(p);
     let root = p.count - 1;
-    let measured = measure(&kind, &first, &second, root, code, count);
+    let measured = measure(&table, root, code, count);
     if !measured.whole {
         return no_totals(Refusal::NotACode);
     }
-    if Pattern::MAX_LETTERS < measured.letters as usize {
+    let n = measured.letters as usize;
+    if Pattern::MAX_LETTERS < n {
         return no_totals(Refusal::TapeTooLong);
     }
-    let mut litres: [u32; 10] = [0; 10];
-    charge(
-        &kind,
-        &first,
-        &second,
-        &account,
-        root,
-        0,
-        code,
-        count,
-        0,
-        &mut litres,
-    );
+    let mut letters = [0u8; Pattern::MAX_LETTERS];
+    let mut accounts = [0u8; Pattern::MAX_LETTERS];
+    put_entries(&table, root, 0, code, 0, &mut letters, &mut accounts, 0);
+    let litres = add_up(&letters, &accounts, n);
     Totalled {
         outcome: TotalsOutcome::Added,
         litres,
