@@ -87,10 +87,10 @@ module _ (p : Pattern) (code : List ℕ) (count : ℕ) where
         exactly : length (letters-of (root p) code count) ≡ m .letters
         exactly = let n = measured-letters (root p) code count m em f in omega arith
 
-        module _ (xs ys : List ℕ) (long : length xs ≡ letter-limit) (wide : length ys ≡ letter-limit) where
-          pub totals-ready : Entering code (root p) 0 0 (length xs) 0
-          totals-ready = whole-entering (root p) code count whole (length xs) (omega (arith, exactly))
+        pub totals-ready : (size : ℕ) → size ≡ letter-limit → Entering code (root p) 0 0 size 0
+        totals-ready size s = whole-entering (root p) code count whole size (omega (arith, exactly))
 
+        module _ (xs ys : List ℕ) (long : length xs ≡ letter-limit) (wide : length ys ≡ letter-limit) where
           module _ {xs' ys' : List ℕ} {x : Entered} (k : Enters code (root p) 0 0 0 xs ys xs' ys' x) where
             many : m .letters ≡ length (k .entries)
             many = sym exactly ∙ sym (entered-count (root p) code count whole k)

@@ -1,86 +1,110 @@
+-- `codes::totals` meets its contract.
+use Rattle.codes.specs.FlattenLaws.{measured-root, entering-root, entered-root}
+use Rattle.codes.specs.TotalsLaws.{totals-bad, totals-not, totals-long, totals-ready, totals-owned, totals-done}
+use Rattle.table.specs.CellLaws.{holds-good}
+use Rattle.syntax.specs.TreeLaws.{obeys-iff}
+use borrow.Author.Tests.{not-true, not-false}
+use mathlib.Core.Path.{refl, sym, _∙_}
+use native.Mathlib.Omega.{arith}
 use borrow.Author.Needs.{needs}
 use Rattle.codes.proofs.totals.Statement.{statement}
 use Rattle.codes.proofs.totals.Tie as tie
-use Rattle.codes.proofs.totals.Reads as reads
-use Rattle.codes.proofs.totals.Lts as lts
-use Rattle.codes.proofs.no_totals.Reads as no-totals-reads
-use Rattle.codes.proofs.sums.add_up.Reads as add-up-reads
-use Rattle.entries.proofs.put_entries.Reads as put-entries-reads
-use Rattle.syntax.proofs.obeys_rules.Reads as obeys-rules-reads
-use Rattle.table.proofs.table_of.Reads as table-of-reads
-use Rattle.walks.proofs.measure.Reads as measure-reads
 
--- src/lib.rt:104:9
 obeys-rules-requires : tie.Need-obeys-rules-requires
 obeys-rules-requires c κs = search needs
 
--- src/lib.rt:105:9
 no-totals-requires : tie.Need-no-totals-requires
 no-totals-requires c κs = search needs
 
--- src/lib.rt:105:9
 returns : tie.Need-returns
-returns c = search needs
+returns c = rw (c .no-totals .ensures) (totals-bad _ _ _ (sym (c .before .before .obeys-rules .ensures) ∙ not-true _ (c .before .if1 .taken)))
 
--- src/lib.rt:107:17
 table-of-requires : tie.Need-table-of-requires
-table-of-requires c κs = search needs
+table-of-requires c κs = obeys-iff _ .0 (sym (c .before .obeys-rules .ensures) ∙ not-false _ (c .if1 .left)) .few
 
--- src/lib.rt:108:16
 sub-root : tie.Need-sub-root
-sub-root c = search needs
+sub-root c = 
+    let tested = c .before .before in
+    let r = obeys-iff _ .0 (sym (tested .before .obeys-rules .ensures) ∙ not-false _ (tested .if1 .left)) in
+    omega (arith, r .one)
 
--- src/lib.rt:109:9
 measure-requires : tie.Need-measure-requires
-measure-requires c κs = search needs
+measure-requires c κs = 
+    let held = c .before .before in
+    let tested = held .before in
+    let o = sym (tested .before .obeys-rules .ensures) ∙ not-false _ (tested .if1 .left) in
+    let r = obeys-iff _ .0 o in
+    (holds-good _ _ o (held .table-of .ensures), omega (arith, r .one, r .few))
 
--- src/lib.rt:111:9
 no-totals-requires-2 : tie.Need-no-totals-requires-2
 no-totals-requires-2 c κs = search needs
 
--- src/lib.rt:111:9
 returns-2 : tie.Need-returns-2
-returns-2 c = search needs
+returns-2 c = 
+    let walked = c .before .before .before in
+    let held = walked .before .before .before in
+    let tested = held .before in
+    let o = sym (tested .before .obeys-rules .ensures) ∙ not-false _ (tested .if1 .left) in
+    let m = measured-root _ _ o (held .table-of .ensures) _ _ _ (walked .measure .ensures) in
+    rw (c .no-totals2 .ensures) (totals-not _ _ _ o _ m (not-true _ (c .before .if2 .taken)))
 
--- src/lib.rt:113:13
 cast-n : tie.Need-cast-n
 cast-n c = search needs
 
--- src/lib.rt:115:9
 no-totals-requires-3 : tie.Need-no-totals-requires-3
 no-totals-requires-3 c κs = search needs
 
--- src/lib.rt:115:9
 returns-3 : tie.Need-returns-3
-returns-3 c = search needs
+returns-3 c = 
+    let walked = c .before .before .before .before .before in
+    let held = walked .before .before .before in
+    let tested = held .before in
+    let o = sym (tested .before .obeys-rules .ensures) ∙ not-false _ (tested .if1 .left) in
+    let m = measured-root _ _ o (held .table-of .ensures) _ _ _ (walked .measure .ensures) in
+    rw (c .no-totals3 .ensures) (totals-long _ _ _ o _ m (not-false _ (c .before .before .before .if2 .left)) (c .before .if3 .taken))
 
--- src/lib.rt:119:43
 slice-aggregate-put-entries : tie.Need-slice-aggregate-put-entries
 slice-aggregate-put-entries c = search needs
 
--- src/lib.rt:119:57
 slice-aggregate-put-entries-2 : tie.Need-slice-aggregate-put-entries-2
 slice-aggregate-put-entries-2 c = search needs
 
--- src/lib.rt:119:5
 put-entries-requires : tie.Need-put-entries-requires
-put-entries-requires c κs = search needs
+put-entries-requires c κs = 
+    let walked = c .before .before .before .before .before .before .before in
+    let held = walked .before .before .before in
+    let tested = held .before in
+    let o = sym (tested .before .obeys-rules .ensures) ∙ not-false _ (tested .if1 .left) in
+    let m = measured-root _ _ o (held .table-of .ensures) _ _ _ (walked .measure .ensures) in
+    let r = obeys-iff _ .0 o in
+    let ready = totals-ready _ _ _ o _ m (not-false _ (c .before .before .before .before .before .if2 .left)) (c .before .before .before .if3 .left) _ refl in
+    (holds-good _ _ o (held .table-of .ensures), (omega (arith, r .one, r .few), entering-root _ _ o (held .table-of .ensures) _ _ ready))
 
--- src/lib.rt:120:25
 slice-aggregate-add-up : tie.Need-slice-aggregate-add-up
 slice-aggregate-add-up c = search needs
 
--- src/lib.rt:120:35
 slice-aggregate-add-up-2 : tie.Need-slice-aggregate-add-up-2
 slice-aggregate-add-up-2 c = search needs
 
--- src/lib.rt:120:9
 add-up-requires : tie.Need-add-up-requires
-add-up-requires c κs = search needs
+add-up-requires c κs = 
+    let walked = c .before .before .before .before .before .before .before .before .before .before .before .before in
+    let held = walked .before .before .before in
+    let tested = held .before in
+    let o = sym (tested .before .obeys-rules .ensures) ∙ not-false _ (tested .if1 .left) in
+    let m = measured-root _ _ o (held .table-of .ensures) _ _ _ (walked .measure .ensures) in
+    totals-owned _ _ _ o _ m (not-false _ (c .before .before .before .before .before .before .before .before .before .before .if2 .left)) (c .before .before .before .before .before .before .before .before .if3 .left) _ _ refl refl
+    (entered-root _ _ o (held .table-of .ensures) (c .before .before .before .before .put-entries .ensures))
 
--- src/lib.rt:101:1
 returns-4 : tie.Need-returns-4
-returns-4 c = search needs
+returns-4 c = 
+    let walked = c .before .before .before .before .before .before .before .before .before .before .before .before .before in
+    let held = walked .before .before .before in
+    let tested = held .before in
+    let o = sym (tested .before .obeys-rules .ensures) ∙ not-false _ (tested .if1 .left) in
+    let m = measured-root _ _ o (held .table-of .ensures) _ _ _ (walked .measure .ensures) in
+    totals-done _ _ _ o _ m (not-false _ (c .before .before .before .before .before .before .before .before .before .before .before .if2 .left)) (c .before .before .before .before .before .before .before .before .before .if3 .left) _ _ refl refl
+    (entered-root _ _ o (held .table-of .ensures) (c .before .before .before .before .before .put-entries .ensures)) _ (c .add-up .ensures)
 
 pub totals-spec : {M : Type 1} → statement M
 totals-spec =
