@@ -112,8 +112,8 @@ module _ (p : Pattern) (code : List ℕ) (count : ℕ) where
                   omega (arith, enters-long k, exactly),
                   h,
                   subst (λ l. Owned l (m .letters)) (sym accounts-are)
-                  (entries-owned (k .entries) (drop (length (accounts-in (k .entries))) ys)
-                  (subst (All (λ e. e .1 < account-limit + 1)) (sym (entered-value (root p) code count whole v e k)) own) (m .letters) many),
+                      (entries-owned (k .entries) (drop (length (accounts-in (k .entries))) ys)
+                      (subst (All (λ e. e .1 < account-limit + 1)) (sym (entered-value (root p) code count whole v e k)) own) (m .letters) many),
                 )
 
             entries-are : pairs (m .letters) xs' ys' ≡ entries-of (root p) code count

@@ -25,7 +25,9 @@ use Rattle.table.specs.Cells.{node-in, account-in, tree-in, Good}
 use Rattle.walks.specs.Words.{same-seen, then-some}
 use Rattle.walks.specs.Lines.{line-as, star-as, first-lower, second-lower, side-lower, star-lower}
 use Rattle.entries.specs.declared.Entered.{Entered}
-use Rattle.entries.specs.Entries.{Entries, accounts-in, entries-at, entries-then, leaf-tree, leaf-entries, entries-stays, entries-nothing, entries-letter, entries-short, entries-range, entries-outside, entries-seq, entries-alt-none, entries-side, entries-star-none, entries-stop, entries-round}
+use Rattle.entries.specs.Entries.{Entries, accounts-in, entries-at, entries-then, leaf-tree, leaf-entries, entries-stays}
+use Rattle.entries.specs.Entries.{entries-short, entries-range, entries-outside, entries-seq, entries-alt-none, entries-side}
+use Rattle.entries.specs.Entries.{entries-star-none, entries-stop, entries-round}
 
 -- the bits from `at` on are entries that a slice of `size` cells has room for from n on
 pub record Entering (code : List ℕ) (t : Tree) (above at size n : ℕ) : Type 0 where

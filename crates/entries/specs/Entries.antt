@@ -17,7 +17,8 @@ use Rattle.bits.specs.Bits.{bit-at, number-at, held}
 use Rattle.semantics.specs.Accounts.{owner, entries}
 use Rattle.semantics.specs.Decode.{Read, read}
 use Rattle.semantics.specs.Positions.{Seen, see, seen, and-then, number-at as bits-number}
-use Rattle.semantics.specs.PositionLaws.{see-stays, see-nothing, see-letter, see-short, see-range, see-outside, see-seq, see-alt-none, see-left, see-right, see-star-none, see-stop, see-round}
+use Rattle.semantics.specs.PositionLaws.{see-stays, see-nothing, see-letter, see-short, see-range, see-outside, see-seq}
+use Rattle.semantics.specs.PositionLaws.{see-alt-none, see-left, see-right, see-star-none, see-stop, see-round}
 use Rattle.walks.specs.Handed.{held-length, held-bit, held-number}
 
 abbrev pub Entries : Type 0

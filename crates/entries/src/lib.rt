@@ -40,10 +40,19 @@ fn put_entry(letters: &mut [u8], accounts: &mut [u8], n: usize, c: u8, account: 
 }
 
 // A leaf that has been handed its account.
-fn put_leaf(leaf: Leaf, account: u8, code: &[u8], at: u32, letters: &mut [u8], accounts: &mut [u8], n: usize) -> Entered
+fn put_leaf(
+    leaf: Leaf,
+    account: u8,
+    code: &[u8],
+    at: u32,
+    letters: &mut [u8],
+    accounts: &mut [u8],
+    n: usize,
+) -> Entered
     requires { ⌜ Entering (now code) (leaf-tree leaf) account at (length (now letters)) n ⌝ }
     ensures { λ r.
-        ⌜ Enters (now (code .entry)) (leaf-tree leaf) account at n (now (letters .entry)) (now (accounts .entry)) (now (letters .exit)) (now (accounts .exit)) r ⌝ }
+        ⌜ Enters (now (code .entry)) (leaf-tree leaf) account at n
+        (now (letters .entry)) (now (accounts .entry)) (now (letters .exit)) (now (accounts .exit)) r ⌝ }
 {
     match leaf {
         Leaf::Nothing => Entered { at, n },
@@ -64,34 +73,44 @@ fn put_leaf(leaf: Leaf, account: u8, code: &[u8], at: u32, letters: &mut [u8], a
 
 // Writes the entries of node l, whose bits start at `at`, from cell n on; `above` is the account that the nodes above hand down. The code is
 // known to be whole, so the walk stops by itself where the code stops. Rounds are a loop: calls go no deeper than the tree.
-pub fn put_entries(table: &[u64; 64], l: usize, above: u8, code: &[u8], at: u32, letters: &mut [u8], accounts: &mut [u8], n: usize) -> Entered
-    requires { ⌜ Good (now table) ⌝ }
-    requires { ⌜ l < 64 ⌝ }
+pub fn put_entries(
+    table: &[u64; 64],
+    l: usize,
+    above: u8,
+    code: &[u8],
+    at: u32,
+    letters: &mut [u8],
+    accounts: &mut [u8],
+    n: usize,
+) -> Entered
+    requires { ⌜ Good (now table) × (l < 64) ⌝ }
     requires { ⌜ Entering (now code) (tree-in (now table) l) above at (length (now letters)) n ⌝ }
     ensures { λ r.
-        ⌜ Enters (now (code .entry)) (tree-in (now (table .entry)) l) above at n (now (letters .entry)) (now (accounts .entry)) (now (letters .exit)) (now (accounts .exit)) r ⌝ }
+        ⌜ Enters (now (code .entry)) (tree-in (now (table .entry)) l) above at n
+        (now (letters .entry)) (now (accounts .entry)) (now (letters .exit)) (now (accounts .exit)) r ⌝ }
 {
     let own = account_at(table, l);
     let owner = handed_down(own, above);
-    let node = node_at(table, l);
-    match node {
+    match node_at(table, l) {
         Node::Leaf(leaf) => put_leaf(leaf, owner, code, at, letters, accounts, n),
         Node::Sequence(p, q) => {
             let one = put_entries(table, p as usize, owner, code, at, letters, accounts, n);
-            put_entries(table, q as usize, owner, code, one.at, letters, accounts, one.n)
+            let second = q as usize;
+            put_entries(table, second, owner, code, one.at, letters, accounts, one.n)
         }
         Node::Alternative(p, q) => {
-            let side = side_at(code, at, p, q);
-            put_entries(table, side as usize, owner, code, at + 1, letters, accounts, n)
+            let side = side_at(code, at, p, q) as usize;
+            put_entries(table, side, owner, code, at + 1, letters, accounts, n)
         }
         Node::Star(p) => {
+            let part = p as usize;
             let mut here = at;
             let mut m = n;
             loop {
                 if bit_at(code, here) {
                     return Entered { at: here + 1, n: m };
                 }
-                let one = put_entries(table, p as usize, owner, code, here + 1, letters, accounts, m);
+                let one = put_entries(table, part, owner, code, here + 1, letters, accounts, m);
                 here = one.at;
                 m = one.n;
             }

@@ -19,13 +19,13 @@ table-of-requires : tie.Need-table-of-requires
 table-of-requires c κs = obeys-iff _ .0 (sym (c .before .obeys-rules .ensures) ∙ not-false _ (c .if1 .left)) .few
 
 sub-root : tie.Need-sub-root
-sub-root c = 
+sub-root c =
     let tested = c .before .before in
     let r = obeys-iff _ .0 (sym (tested .before .obeys-rules .ensures) ∙ not-false _ (tested .if1 .left)) in
     omega (arith, r .one)
 
 measure-requires : tie.Need-measure-requires
-measure-requires c κs = 
+measure-requires c κs =
     let held = c .before .before in
     let tested = held .before in
     let o = sym (tested .before .obeys-rules .ensures) ∙ not-false _ (tested .if1 .left) in
@@ -33,7 +33,7 @@ measure-requires c κs =
     (holds-good _ _ o (held .table-of .ensures), omega (arith, r .one, r .few))
 
 returns-2 : tie.Need-returns-2
-returns-2 c = 
+returns-2 c =
     let walked = c .before .before in
     let held = walked .before .before .before in
     let tested = held .before in
@@ -45,7 +45,7 @@ cast-letters : tie.Need-cast-letters
 cast-letters c = search needs
 
 returns-3 : tie.Need-returns-3
-returns-3 c = 
+returns-3 c =
     let walked = c .before .before .before .before in
     let held = walked .before .before .before in
     let tested = held .before in
@@ -54,7 +54,7 @@ returns-3 c =
     flatten-long _ _ _ _ o _ m (not-false _ (c .before .before .if2 .left)) (c .if3 .taken)
 
 returns-4 : tie.Need-returns-4
-returns-4 c = 
+returns-4 c =
     let walked = c .before .before .before .before .before in
     let held = walked .before .before .before in
     let tested = held .before in
@@ -66,7 +66,7 @@ slice-aggregate-put-entries : tie.Need-slice-aggregate-put-entries
 slice-aggregate-put-entries c = search needs
 
 put-entries-requires : tie.Need-put-entries-requires
-put-entries-requires c κs = 
+put-entries-requires c κs =
     let walked = c .before .before .before .before .before .before .before .before in
     let held = walked .before .before .before in
     let tested = held .before in
@@ -80,7 +80,7 @@ same-length : tie.Need-same-length
 same-length c = search needs
 
 returns-5 : tie.Need-returns-5
-returns-5 c = 
+returns-5 c =
     let walked = c .before .before .before .before .before .before .before .before .before .before .before .before in
     let held = walked .before .before .before in
     let tested = held .before in

@@ -16,7 +16,7 @@ cast-if2 : tie.Need-cast-if2
 cast-if2 c = search needs
 
 returns-2 : tie.Need-returns-2
-returns-2 c = 
+returns-2 c =
     spells-other _ _ _ _ (c .before .before .before .before .before .before .before .pre .1 .1) _ (c .before .before .before .before .measure .ensures) (not-false _ (c .before .before .if1 .left)) (c .if2 .taken)
 
 slice-aggregate-put-entries : tie.Need-slice-aggregate-put-entries
@@ -26,7 +26,7 @@ slice-aggregate-put-entries-2 : tie.Need-slice-aggregate-put-entries-2
 slice-aggregate-put-entries-2 c = search needs
 
 put-entries-requires : tie.Need-put-entries-requires
-put-entries-requires c κs = 
+put-entries-requires c κs =
     let start = c .before .before .before .before .before .before .before .before .before in
     let ready = spells-ready _ (start .args .tape .now) _ _ (start .pre .1 .1) _ (c .before .before .before .before .before .before .measure .ensures) (not-false _ (c .before .before .before .before .if1 .left)) (c .before .before .if2 .left) _ refl in
     (start .pre .0, (start .pre .1 .0, ready))
@@ -38,7 +38,7 @@ begins-requires : tie.Need-begins-requires
 begins-requires c κs = search needs
 
 returns-3 : tie.Need-returns-3
-returns-3 c = 
+returns-3 c =
     let two = c .before .before .before .before .before .before .before in
     let one = two .before .before in
     let measured = one .before .before in

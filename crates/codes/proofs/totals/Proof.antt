@@ -23,13 +23,13 @@ table-of-requires : tie.Need-table-of-requires
 table-of-requires c κs = obeys-iff _ .0 (sym (c .before .obeys-rules .ensures) ∙ not-false _ (c .if1 .left)) .few
 
 sub-root : tie.Need-sub-root
-sub-root c = 
+sub-root c =
     let tested = c .before .before in
     let r = obeys-iff _ .0 (sym (tested .before .obeys-rules .ensures) ∙ not-false _ (tested .if1 .left)) in
     omega (arith, r .one)
 
 measure-requires : tie.Need-measure-requires
-measure-requires c κs = 
+measure-requires c κs =
     let held = c .before .before in
     let tested = held .before in
     let o = sym (tested .before .obeys-rules .ensures) ∙ not-false _ (tested .if1 .left) in
@@ -40,7 +40,7 @@ no-totals-requires-2 : tie.Need-no-totals-requires-2
 no-totals-requires-2 c κs = search needs
 
 returns-2 : tie.Need-returns-2
-returns-2 c = 
+returns-2 c =
     let walked = c .before .before .before in
     let held = walked .before .before .before in
     let tested = held .before in
@@ -55,7 +55,7 @@ no-totals-requires-3 : tie.Need-no-totals-requires-3
 no-totals-requires-3 c κs = search needs
 
 returns-3 : tie.Need-returns-3
-returns-3 c = 
+returns-3 c =
     let walked = c .before .before .before .before .before in
     let held = walked .before .before .before in
     let tested = held .before in
@@ -70,7 +70,7 @@ slice-aggregate-put-entries-2 : tie.Need-slice-aggregate-put-entries-2
 slice-aggregate-put-entries-2 c = search needs
 
 put-entries-requires : tie.Need-put-entries-requires
-put-entries-requires c κs = 
+put-entries-requires c κs =
     let walked = c .before .before .before .before .before .before .before in
     let held = walked .before .before .before in
     let tested = held .before in
@@ -87,7 +87,7 @@ slice-aggregate-add-up-2 : tie.Need-slice-aggregate-add-up-2
 slice-aggregate-add-up-2 c = search needs
 
 add-up-requires : tie.Need-add-up-requires
-add-up-requires c κs = 
+add-up-requires c κs =
     let walked = c .before .before .before .before .before .before .before .before .before .before .before .before in
     let held = walked .before .before .before in
     let tested = held .before in
@@ -97,7 +97,7 @@ add-up-requires c κs =
     (entered-root _ _ o (held .table-of .ensures) (c .before .before .before .before .put-entries .ensures))
 
 returns-4 : tie.Need-returns-4
-returns-4 c = 
+returns-4 c =
     let walked = c .before .before .before .before .before .before .before .before .before .before .before .before .before in
     let held = walked .before .before .before in
     let tested = held .before in

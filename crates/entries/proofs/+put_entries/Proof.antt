@@ -2,17 +2,19 @@
 use Rattle.bits.specs.Bits.{bit-at}
 use Rattle.semantics.specs.Code.{code-limit}
 use Rattle.table.specs.Cells.{tree-in}
-use Rattle.entries.specs.Entering.{Line, line-known, first-below, second-below, side-below, star-below, leaf-is, seq-is, side-is, stop-is, round-is, alt-in, star-in}
-use Rattle.entries.specs.Entering.{entering-stays, enters-stays, first-entering, second-entering, both-entered, same-entering, same-entered, none-entered, Turns, turns-start, turns-more}
+use Rattle.entries.specs.Entering.{Line, line-known, first-below, second-below, side-below, star-below}
+use Rattle.entries.specs.Entering.{leaf-is, seq-is, side-is, stop-is, round-is, alt-in, star-in}
+use Rattle.entries.specs.Entering.{entering-stays, first-entering, second-entering, same-entering}
+use Rattle.entries.specs.Entering.{enters-stays, both-entered, same-entered, none-entered, Turns, turns-start, turns-more}
 use lib.ListN.{length}
 use native.Mathlib.Omega.{arith}
 use borrow.Author.Needs.{needs}
 use Prim.Native.Nat.{ℕ, _*_, _-_, _<_}
 use borrow.Fn.Kinds.{In}
 use borrow.Fn.PlainCycle.{Measures, is, falls, and}
-use Rattle.entries.proofs.put_entries.Reads as put-entries
-use Rattle.entries.proofs.put_entries.Kinds as put-entries-kinds
-use Rattle.entries.proofs.+put_entries.Lts-put_entries as put-entries-lts
+use Rattle.entries.proofs.put_entries.Reads as reads
+use Rattle.entries.proofs.put_entries.Kinds as kinds
+use Rattle.entries.proofs.+put_entries.Lts-put_entries as lts
 use Rattle.bits.proofs.bit_at.Reads as bit-at-reads
 use Rattle.entries.proofs.handed_down.Reads as handed-down-reads
 use Rattle.entries.proofs.put_leaf.Reads as put-leaf-reads
@@ -22,249 +24,293 @@ use Rattle.walks.proofs.side_at.Reads as side-at-reads
 use Rattle.entries.proofs.+put_entries.{statement}
 use Rattle.entries.proofs.+put_entries.Tie.{close}
 
-abbrev μ-put-entries : Measures 4 put-entries-kinds.ps ℕ
-μ-put-entries κs a = a .1 .0
+abbrev μ : Measures 4 kinds.ps ℕ
+μ κs a = a .1 .0
 
-abbrev put-entries-at : ℕ → In 4 put-entries-kinds.ps
-put-entries-at t =
-    and 4 put-entries-kinds.ps (is 4 put-entries-kinds.ps μ-put-entries t) put-entries.Pre
+abbrev called : ℕ → In 4 kinds.ps
+called t =
+    and 4 kinds.ps (is 4 kinds.ps μ t) reads.Pre
 
-abbrev put-entries-below : ℕ → In 4 put-entries-kinds.ps
-put-entries-below t =
-    and 4 put-entries-kinds.ps (falls 4 put-entries-kinds.ps _<_ μ-put-entries t) put-entries.Pre
+abbrev below : ℕ → In 4 kinds.ps
+below t =
+    and 4 kinds.ps (falls 4 kinds.ps _<_ μ t) reads.Pre
 
 -- what the callees promise, and `put-entries` itself below the measure t
-abbrev given : ℕ → put-entries-lts.Claims
-given t = (account-at-reads.Asked, account-at-reads.Learnt, handed-down-reads.Asked, handed-down-reads.Learnt, node-at-reads.Asked, node-at-reads.Learnt, put-leaf-reads.Asked, put-leaf-reads.Learnt, put-entries-below t, put-entries.Post, side-at-reads.Asked, side-at-reads.Learnt, bit-at-reads.Asked, bit-at-reads.Learnt)
+abbrev given : ℕ → lts.Claims
+given t = (
+  account-at-reads.Asked,
+  account-at-reads.Learnt,
+  handed-down-reads.Asked,
+  handed-down-reads.Learnt,
+  node-at-reads.Asked,
+  node-at-reads.Learnt,
+  put-leaf-reads.Asked,
+  put-leaf-reads.Learnt,
+  below t,
+  reads.Post,
+  side-at-reads.Asked,
+  side-at-reads.Learnt,
+  bit-at-reads.Asked,
+  bit-at-reads.Learnt,
+)
 
-abbrev put-entries-Inv-loop : put-entries-lts.InvT-loop
-put-entries-Inv-loop table l above code at letters₀ accounts₀ n own owner p here₀ m₀ letters accounts here m =
+abbrev Inv : lts.InvT-loop
+Inv table l above code at letters₀ accounts₀ n own owner p part here₀ m₀ letters accounts here m =
     Turns code (tree-in table l) above at n letters₀ accounts₀ here m letters accounts
 
-abbrev put-entries-μ-loop : put-entries-lts.MeasureT-loop
-put-entries-μ-loop table l above code at letters₀ accounts₀ n own owner p here₀ m₀ letters accounts here m = code-limit - here
+abbrev μ-loop : lts.MeasureT-loop
+μ-loop table l above code at letters₀ accounts₀ n own owner p part here₀ m₀ letters accounts here m = code-limit - here
 
--- what is known of the line once its node is read, and that a star's next bit is there
-line : (t : ℕ) (d : put-entries-lts.After-node-at (given t) (put-entries-at t) put-entries.Post put-entries-Inv-loop put-entries-μ-loop)
-    → Line (d .before .before .before .before .before .before .args .table .now) (d .before .before .before .before .before .before .args .l) (d .before .before .before .before .before .before .args .above) (d .before .handed-down .result) (d .node-at .result)
+-- the place where the node has been read, and the start from there
+abbrev Read : ℕ → Type 0
+Read t = lts.After-node-at (given t) (called t) reads.Post Inv μ-loop
+
+abbrev start : (t : ℕ) → Read t → lts.Start (given t) (called t) reads.Post Inv μ-loop
+start t d = d .before .before .before .before .before .before
+
+-- what is known of the line there, and what is to be entered
+line : (t : ℕ) (d : Read t)
+    → Line (start t d .args .table .now) (start t d .args .l) (start t d .args .above) (d .before .handed-down .result) (d .node-at .result)
 line t d =
-    let start = d .before .before .before .before .before .before in
-    line-known (start .pre .1 .0) (start .pre .1 .1 .0) (d .node-at .ensures) (d .before .before .account-at .ensures) (d .before .handed-down .ensures)
+    let (good, small) = start t d .pre .1 .0 in
+    line-known good small (d .node-at .ensures) (d .before .before .account-at .ensures) (d .before .handed-down .ensures)
 
-bit-there : (t : ℕ) (d : put-entries-lts.At-loop (given t) (put-entries-at t) put-entries.Post put-entries-Inv-loop put-entries-μ-loop)
-    → d .loop .here < length (d .before .before .before .before .before .before .before .before .before .before .args .code .now) * 8
-bit-there t d = star-in (line t (d .before .before .before .before)) _ _ (d .loop .inv .ready) _ (d .before .before .node4 .given .1)
+-- a star's next bit is there
+bit-there : (t : ℕ) (d : lts.At-loop (given t) (called t) reads.Post Inv μ-loop)
+    → d .loop .here < length (start t (d .before .before .before .before) .args .code .now) * 8
+bit-there t d = star-in (line t (d .before .before .before .before)) _ _ (d .loop .inv .ready) _ (d .before .before .p3 .given .1)
 
-put-entries-account-at-requires : (t : ℕ) → put-entries-lts.Need-account-at-requires (given t) (put-entries-at t) put-entries.Post put-entries-Inv-loop put-entries-μ-loop
-put-entries-account-at-requires t c κs = search needs
+account-at-requires : (t : ℕ) → lts.Need-account-at-requires (given t) (called t) reads.Post Inv μ-loop
+account-at-requires t c κs = search needs
 
-put-entries-handed-down-requires : (t : ℕ) → put-entries-lts.Need-handed-down-requires (given t) (put-entries-at t) put-entries.Post put-entries-Inv-loop put-entries-μ-loop
-put-entries-handed-down-requires t c κs = search needs
+handed-down-requires : (t : ℕ) → lts.Need-handed-down-requires (given t) (called t) reads.Post Inv μ-loop
+handed-down-requires t c κs = search needs
 
-put-entries-node-at-requires : (t : ℕ) → put-entries-lts.Need-node-at-requires (given t) (put-entries-at t) put-entries.Post put-entries-Inv-loop put-entries-μ-loop
-put-entries-node-at-requires t c κs = search needs
+node-at-requires : (t : ℕ) → lts.Need-node-at-requires (given t) (called t) reads.Post Inv μ-loop
+node-at-requires t c κs = search needs
 
-put-entries-enum-known-node : (t : ℕ) → put-entries-lts.Need-enum-known-node (given t) (put-entries-at t) put-entries.Post put-entries-Inv-loop put-entries-μ-loop
-put-entries-enum-known-node t c = search needs
+enum-known-leaf : (t : ℕ) → lts.Need-enum-known-leaf (given t) (called t) reads.Post Inv μ-loop
+enum-known-leaf t c = search needs
 
-put-entries-put-leaf-requires : (t : ℕ) → put-entries-lts.Need-put-leaf-requires (given t) (put-entries-at t) put-entries.Post put-entries-Inv-loop put-entries-μ-loop
-put-entries-put-leaf-requires t c κs = 
+put-leaf-requires : (t : ℕ) → lts.Need-put-leaf-requires (given t) (called t) reads.Post Inv μ-loop
+put-leaf-requires t c κs =
     let d = c .before .before .before .before .before in
-    let ready = d .before .before .before .before .before .before .pre .1 .1 .1 in
-    same-entering (leaf-is (line t d) _ _ _ (c .before .before .before .node .given .1) (ready .low)) ready
+    same-entering (leaf-is (line t d) _ _ _ (c .before .before .before .leaf .given .1) (start t d .pre .1 .1 .low)) (start t d .pre .1 .1)
 
-put-entries-enum-known-node-2 : (t : ℕ) → put-entries-lts.Need-enum-known-node-2 (given t) (put-entries-at t) put-entries.Post put-entries-Inv-loop put-entries-μ-loop
-put-entries-enum-known-node-2 t c = search needs
+enum-known-p : (t : ℕ) → lts.Need-enum-known-p (given t) (called t) reads.Post Inv μ-loop
+enum-known-p t c = search needs
 
-put-entries-cast-put-entries : (t : ℕ) → put-entries-lts.Need-cast-put-entries (given t) (put-entries-at t) put-entries.Post put-entries-Inv-loop put-entries-μ-loop
-put-entries-cast-put-entries t c = 
-    let h = first-below (line t (c .before .before .before)) _ _ (c .before .node2 .given .1) in
-    omega (arith, c .before .before .before .before .before .before .before .before .before .pre)
-
-put-entries-put-entries-requires : (t : ℕ) → put-entries-lts.Need-put-entries-requires (given t) (put-entries-at t) put-entries.Post put-entries-Inv-loop put-entries-μ-loop
-put-entries-put-entries-requires t c κs = 
-    let d = c .before .before .before .before .before in
-    let start = d .before .before .before .before .before .before in
-    let ready = start .pre .1 .1 .1 in
-    let e = c .before .before .before .node2 .given .1 in
-    let h = first-below (line t d) _ _ e in
-    (omega (arith, start .pre), (start .pre .1 .0, (omega (arith, start .pre), first-entering (seq-is (line t d) _ _ _ _ e (ready .low)) ready)))
-
-put-entries-cast-put-entries-2 : (t : ℕ) → put-entries-lts.Need-cast-put-entries-2 (given t) (put-entries-at t) put-entries.Post put-entries-Inv-loop put-entries-μ-loop
-put-entries-cast-put-entries-2 t c = 
-    let h = second-below (line t (c .before .before .before .before .before .before .before .before .before .before)) _ _ (c .before .before .before .before .before .before .before .before .node2 .given .1) in
-    omega (arith, c .before .before .before .before .before .before .before .before .before .before .before .before .before .before .before .before .pre)
-
-put-entries-put-entries-requires-2 : (t : ℕ) → put-entries-lts.Need-put-entries-requires-2 (given t) (put-entries-at t) put-entries.Post put-entries-Inv-loop put-entries-μ-loop
-put-entries-put-entries-requires-2 t c κs = 
-    let d = c .before .before .before .before .before .before .before .before .before .before .before .before in
-    let start = d .before .before .before .before .before .before in
-    let ready = start .pre .1 .1 .1 in
-    let e = c .before .before .before .before .before .before .before .before .before .before .node2 .given .1 in
-    let h = second-below (line t d) _ _ e in
-    (omega (arith, start .pre), (start .pre .1 .0,
-    (omega (arith, start .pre), second-entering (seq-is (line t d) _ _ _ _ e (ready .low)) (c .before .before .before .before .before .before .put-entries .ensures) ready)))
-
-put-entries-enum-known-node-3 : (t : ℕ) → put-entries-lts.Need-enum-known-node-3 (given t) (put-entries-at t) put-entries.Post put-entries-Inv-loop put-entries-μ-loop
-put-entries-enum-known-node-3 t c = search needs
-
-put-entries-side-at-requires : (t : ℕ) → put-entries-lts.Need-side-at-requires (given t) (put-entries-at t) put-entries.Post put-entries-Inv-loop put-entries-μ-loop
-put-entries-side-at-requires t c κs = 
+cast-put-entries : (t : ℕ) → lts.Need-cast-put-entries (given t) (called t) reads.Post Inv μ-loop
+cast-put-entries t c =
     let d = c .before .before .before in
-    let h = alt-in (line t d) _ _ (d .before .before .before .before .before .before .pre .1 .1 .1) _ _ (c .before .node3 .given .1) in
-    omega arith
+    omega (arith, line t d .below, first-below (line t d) _ _ (c .before .p .given .1))
 
-put-entries-cast-put-entries-3 : (t : ℕ) → put-entries-lts.Need-cast-put-entries-3 (given t) (put-entries-at t) put-entries.Post put-entries-Inv-loop put-entries-μ-loop
-put-entries-cast-put-entries-3 t c = 
+put-entries-requires : (t : ℕ) → lts.Need-put-entries-requires (given t) (called t) reads.Post Inv μ-loop
+put-entries-requires t c κs =
+    let d = c .before .before .before .before .before in
+    let known = line t d in
+    let e = c .before .before .before .p .given .1 in
+    let h = first-below known _ _ e in
+    let ready = first-entering (seq-is known _ _ _ _ e (start t d .pre .1 .1 .low)) (start t d .pre .1 .1) in
+    (omega (arith, h, start t d .pre .0), ((known .good, omega (arith, h, known .below)), ready))
+
+cast-second : (t : ℕ) → lts.Need-cast-second (given t) (called t) reads.Post Inv μ-loop
+cast-second t c =
+    let d = c .before .before .before .before .before .before .before .before .before .before in
+    omega (arith, line t d .below, second-below (line t d) _ _ (c .before .before .before .before .before .before .before .before .p .given .1))
+
+put-entries-requires-2 : (t : ℕ) → lts.Need-put-entries-requires-2 (given t) (called t) reads.Post Inv μ-loop
+put-entries-requires-2 t c κs =
+    let d = c .before .before .before .before .before .before .before .before .before .before .before .before in
+    let known = line t d in
+    let e = c .before .before .before .before .before .before .before .before .before .before .p .given .1 in
+    let h = second-below known _ _ e in
+    let ready = second-entering (seq-is known _ _ _ _ e (start t d .pre .1 .1 .low)) (c .before .before .before .before .before .before .put-entries .ensures) (start t d .pre .1 .1) in
+    (omega (arith, h, start t d .pre .0), ((known .good, omega (arith, h, known .below)), ready))
+
+enum-known-p-2 : (t : ℕ) → lts.Need-enum-known-p-2 (given t) (called t) reads.Post Inv μ-loop
+enum-known-p-2 t c = search needs
+
+side-at-requires : (t : ℕ) → lts.Need-side-at-requires (given t) (called t) reads.Post Inv μ-loop
+side-at-requires t c κs =
+    let d = c .before .before .before in
+    omega (arith, alt-in (line t d) _ _ (start t d .pre .1 .1) _ _ (c .before .p2 .given .1))
+
+cast-side : (t : ℕ) → lts.Need-cast-side (given t) (called t) reads.Post Inv μ-loop
+cast-side t c =
     let d = c .before .before .before .before in
-    let start = d .before .before .before .before .before .before in
-    let h = side-below (line t d) _ _ (c .before .before .node3 .given .1) (bit-at 8 (start .args .code .now) (start .args .at)) _ (c .side-at .ensures) in
-    omega (arith, start .pre)
+    let begin = start t d in
+    let known = line t d in
+    let e = c .before .before .p2 .given .1 in
+    let h = side-below known _ _ e (bit-at 8 (begin .args .code .now) (begin .args .at)) _ (c .side-at .ensures) in
+    omega (arith, h, known .below)
 
-put-entries-add-put-entries : (t : ℕ) → put-entries-lts.Need-add-put-entries (given t) (put-entries-at t) put-entries.Post put-entries-Inv-loop put-entries-μ-loop
-put-entries-add-put-entries t c = 
-    let ready = c .before .before .before .before .before .before .before .before .before .before .pre .1 .1 .1 in
+add-put-entries : (t : ℕ) → lts.Need-add-put-entries (given t) (called t) reads.Post Inv μ-loop
+add-put-entries t c =
+    let ready = start t (c .before .before .before .before) .pre .1 .1 in
     omega (arith, ready .high, entering-stays ready)
 
-put-entries-put-entries-requires-3 : (t : ℕ) → put-entries-lts.Need-put-entries-requires-3 (given t) (put-entries-at t) put-entries.Post put-entries-Inv-loop put-entries-μ-loop
-put-entries-put-entries-requires-3 t c κs = 
+put-entries-requires-3 : (t : ℕ) → lts.Need-put-entries-requires-3 (given t) (called t) reads.Post Inv μ-loop
+put-entries-requires-3 t c κs =
     let d = c .before .before .before .before .before .before in
-    let start = d .before .before .before .before .before .before in
-    let ready = start .pre .1 .1 .1 in
-    let e = c .before .before .before .before .node3 .given .1 in
-    let h = side-below (line t d) _ _ e (bit-at 8 (start .args .code .now) (start .args .at)) _ (c .before .before .side-at .ensures) in
-    (omega (arith, start .pre), (start .pre .1 .0,
-    (omega (arith, start .pre), same-entering (side-is (line t d) _ _ _ _ _ e (alt-in (line t d) _ _ ready _ _ e) (c .before .before .side-at .ensures)) ready)))
+    let begin = start t d in
+    let known = line t d in
+    let e = c .before .before .before .before .p2 .given .1 in
+    let h = side-below known _ _ e (bit-at 8 (begin .args .code .now) (begin .args .at)) _ (c .before .before .side-at .ensures) in
+    let there = alt-in known _ _ (begin .pre .1 .1) _ _ e in
+    let ready = same-entering (side-is known _ _ _ _ _ e there (c .before .before .side-at .ensures)) (begin .pre .1 .1) in
+    (omega (arith, h, begin .pre .0), ((known .good, omega (arith, h, known .below)), ready))
 
-put-entries-enum-known-node-4 : (t : ℕ) → put-entries-lts.Need-enum-known-node-4 (given t) (put-entries-at t) put-entries.Post put-entries-Inv-loop put-entries-μ-loop
-put-entries-enum-known-node-4 t c = search needs
+enum-known-p-3 : (t : ℕ) → lts.Need-enum-known-p-3 (given t) (called t) reads.Post Inv μ-loop
+enum-known-p-3 t c = search needs
 
-put-entries-loop-holds : (t : ℕ) → put-entries-lts.Need-loop-holds (given t) (put-entries-at t) put-entries.Post put-entries-Inv-loop put-entries-μ-loop
-put-entries-loop-holds t c = turns-start (c .before .before .before .before .before .before .before .before .before .pre .1 .1 .1)
+cast-part : (t : ℕ) → lts.Need-cast-part (given t) (called t) reads.Post Inv μ-loop
+cast-part t c =
+    let d = c .before .before .before in
+    omega (arith, line t d .below, star-below (line t d) _ (c .before .p3 .given .1))
 
-put-entries-bit-at-requires : (t : ℕ) → put-entries-lts.Need-bit-at-requires (given t) (put-entries-at t) put-entries.Post put-entries-Inv-loop put-entries-μ-loop
-put-entries-bit-at-requires t c κs = 
-    let h = bit-there t c in
-    omega arith
+loop-holds : (t : ℕ) → lts.Need-loop-holds (given t) (called t) reads.Post Inv μ-loop
+loop-holds t c = turns-start (start t (c .before .before .before) .pre .1 .1)
 
-put-entries-add-t44 : (t : ℕ) → put-entries-lts.Need-add-t44 (given t) (put-entries-at t) put-entries.Post put-entries-Inv-loop put-entries-μ-loop
-put-entries-add-t44 t c = 
-    let i = c .before .before .loop .inv .ready in
-    omega (arith, i .high, entering-stays i)
+bit-at-requires : (t : ℕ) → lts.Need-bit-at-requires (given t) (called t) reads.Post Inv μ-loop
+bit-at-requires t c κs = omega (arith, bit-there t c)
 
-put-entries-same-length : (t : ℕ) → put-entries-lts.Need-same-length (given t) (put-entries-at t) put-entries.Post put-entries-Inv-loop put-entries-μ-loop
-put-entries-same-length t c = c .before .before .loop .inv .long
+add-t46 : (t : ℕ) → lts.Need-add-t46 (given t) (called t) reads.Post Inv μ-loop
+add-t46 t c =
+    let ready = c .before .before .loop .inv .ready in
+    omega (arith, ready .high, entering-stays ready)
 
-put-entries-same-length-2 : (t : ℕ) → put-entries-lts.Need-same-length-2 (given t) (put-entries-at t) put-entries.Post put-entries-Inv-loop put-entries-μ-loop
-put-entries-same-length-2 t c = c .before .before .loop .inv .wide
+same-length : (t : ℕ) → lts.Need-same-length (given t) (called t) reads.Post Inv μ-loop
+same-length t c = c .before .before .loop .inv .long
 
-put-entries-returns : (t : ℕ) → put-entries-lts.Need-returns (given t) (put-entries-at t) put-entries.Post put-entries-Inv-loop put-entries-μ-loop
-put-entries-returns t c = 
-    c .before .before .loop .inv .finish _ _ _ (none-entered _ _ (stop-is (line t (c .before .before .before .before .before .before)) _ _ _ (c .before .before .before .before .node4 .given .1) (bit-there t (c .before .before)) _ (c .before .bit-at .ensures) (c .if1 .taken)))
+same-length-2 : (t : ℕ) → lts.Need-same-length-2 (given t) (called t) reads.Post Inv μ-loop
+same-length-2 t c = c .before .before .loop .inv .wide
 
-put-entries-cast-put-entries-4 : (t : ℕ) → put-entries-lts.Need-cast-put-entries-4 (given t) (put-entries-at t) put-entries.Post put-entries-Inv-loop put-entries-μ-loop
-put-entries-cast-put-entries-4 t c = 
-    let h = star-below (line t (c .before .before .before .before .before .before)) _ (c .before .before .before .before .node4 .given .1) in
-    omega (arith, c .before .before .before .before .before .before .before .before .before .before .before .before .pre)
+returns : (t : ℕ) → lts.Need-returns (given t) (called t) reads.Post Inv μ-loop
+returns t c =
+    let at-loop = c .before .before in
+    let known = line t (at-loop .before .before .before .before) in
+    let e = at-loop .before .before .p3 .given .1 in
+    let stop = stop-is known _ _ _ e (bit-there t at-loop) _ (c .before .bit-at .ensures) (c .if1 .taken) in
+    at-loop .loop .inv .finish _ _ _ (none-entered _ _ stop)
 
-put-entries-add-put-entries-2 : (t : ℕ) → put-entries-lts.Need-add-put-entries-2 (given t) (put-entries-at t) put-entries.Post put-entries-Inv-loop put-entries-μ-loop
-put-entries-add-put-entries-2 t c = 
-    let i = c .before .before .loop .inv .ready in
-    omega (arith, i .high, entering-stays i)
+add-put-entries-2 : (t : ℕ) → lts.Need-add-put-entries-2 (given t) (called t) reads.Post Inv μ-loop
+add-put-entries-2 t c =
+    let ready = c .before .before .loop .inv .ready in
+    omega (arith, ready .high, entering-stays ready)
 
-put-entries-put-entries-requires-4 : (t : ℕ) → put-entries-lts.Need-put-entries-requires-4 (given t) (put-entries-at t) put-entries.Post put-entries-Inv-loop put-entries-μ-loop
-put-entries-put-entries-requires-4 t c κs = 
-    let d = c .before .before .before .before .before .before .before .before in
-    let start = d .before .before .before .before .before .before in
-    let e = c .before .before .before .before .before .before .node4 .given .1 in
-    let h = star-below (line t d) _ e in
-    (omega (arith, start .pre), (start .pre .1 .0, (omega (arith, start .pre),
-    first-entering (round-is (line t d) _ _ _ e (bit-there t (c .before .before .before .before)) _ (c .before .before .before .bit-at .ensures) (c .before .before .if1 .left)) (c .before .before .before .before .loop .inv .ready))))
+put-entries-requires-4 : (t : ℕ) → lts.Need-put-entries-requires-4 (given t) (called t) reads.Post Inv μ-loop
+put-entries-requires-4 t c κs =
+    let at-loop = c .before .before .before .before in
+    let d = at-loop .before .before .before .before in
+    let known = line t d in
+    let e = at-loop .before .before .p3 .given .1 in
+    let h = star-below known _ e in
+    let parts = round-is known _ _ _ e (bit-there t at-loop) _ (c .before .before .before .bit-at .ensures) (c .before .before .if1 .left) in
+    let ready = first-entering parts (at-loop .loop .inv .ready) in
+    (omega (arith, h, start t d .pre .0), ((known .good, omega (arith, h, known .below)), ready))
 
-put-entries-loop-less : (t : ℕ) → put-entries-lts.Need-loop-less (given t) (put-entries-at t) put-entries.Post put-entries-Inv-loop put-entries-μ-loop
-put-entries-loop-less t c = 
-    let parts = round-is (line t (c .before .before .before .before .before .before .before .before .before .before .before .before .before)) _ _ _ (c .before .before .before .before .before .before .before .before .before .before .before .node4 .given .1) (bit-there t (c .before .before .before .before .before .before .before .before .before)) _ (c .before .before .before .before .before .before .before .before .bit-at .ensures) (c .before .before .before .before .before .before .before .if1 .left) in
-    let one = first-entering parts (c .before .before .before .before .before .before .before .before .before .loop .inv .ready) in
-    omega (arith, one .high, entering-stays one, enters-stays (c .before .before .before .before .put-entries4 .ensures) (parts .within))
+loop-less : (t : ℕ) → lts.Need-loop-less (given t) (called t) reads.Post Inv μ-loop
+loop-less t c =
+    let after = c .before .before .before .before in
+    let at-loop = after .before .before .before .before .before in
+    let known = line t (at-loop .before .before .before .before) in
+    let e = at-loop .before .before .p3 .given .1 in
+    let again = after .before .before .before in
+    let parts = round-is known _ _ _ e (bit-there t at-loop) _ (again .before .bit-at .ensures) (again .if1 .left) in
+    let one = first-entering parts (at-loop .loop .inv .ready) in
+    omega (arith, one .high, entering-stays one, enters-stays (after .put-entries4 .ensures) (parts .within))
 
-put-entries-loop-again : (t : ℕ) → put-entries-lts.Need-loop-again (given t) (put-entries-at t) put-entries.Post put-entries-Inv-loop put-entries-μ-loop
-put-entries-loop-again t c = 
-    let parts = round-is (line t (c .before .before .before .before .before .before .before .before .before .before .before .before .before)) _ _ _ (c .before .before .before .before .before .before .before .before .before .before .before .node4 .given .1) (bit-there t (c .before .before .before .before .before .before .before .before .before)) _ (c .before .before .before .before .before .before .before .before .bit-at .ensures) (c .before .before .before .before .before .before .before .if1 .left) in
-    turns-more (c .before .before .before .before .before .before .before .before .before .loop .inv) parts (c .before .before .before .before .put-entries4 .ensures)
+loop-again : (t : ℕ) → lts.Need-loop-again (given t) (called t) reads.Post Inv μ-loop
+loop-again t c =
+    let after = c .before .before .before .before in
+    let at-loop = after .before .before .before .before .before in
+    let known = line t (at-loop .before .before .before .before) in
+    let e = at-loop .before .before .p3 .given .1 in
+    let again = after .before .before .before in
+    let parts = round-is known _ _ _ e (bit-there t at-loop) _ (again .before .bit-at .ensures) (again .if1 .left) in
+    turns-more (at-loop .loop .inv) parts (after .put-entries4 .ensures)
 
-put-entries-same-length-3 : (t : ℕ) → put-entries-lts.Need-same-length-3 (given t) (put-entries-at t) put-entries.Post put-entries-Inv-loop put-entries-μ-loop
-put-entries-same-length-3 t c = search needs
+same-length-3 : (t : ℕ) → lts.Need-same-length-3 (given t) (called t) reads.Post Inv μ-loop
+same-length-3 t c = search needs
 
-put-entries-same-length-4 : (t : ℕ) → put-entries-lts.Need-same-length-4 (given t) (put-entries-at t) put-entries.Post put-entries-Inv-loop put-entries-μ-loop
-put-entries-same-length-4 t c = search needs
+same-length-4 : (t : ℕ) → lts.Need-same-length-4 (given t) (called t) reads.Post Inv μ-loop
+same-length-4 t c = search needs
 
-put-entries-returns-2 : (t : ℕ) → put-entries-lts.Need-returns-2 (given t) (put-entries-at t) put-entries.Post put-entries-Inv-loop put-entries-μ-loop
-put-entries-returns-2 t c = 
+returns-2 : (t : ℕ) → lts.Need-returns-2 (given t) (called t) reads.Post Inv μ-loop
+returns-2 t c =
     let d = c .before .before .before .before .before .before .before .before .before .before in
-    same-entered (leaf-is (line t d) _ _ _ (c .before .before .before .before .before .before .before .before .node .given .1) (d .before .before .before .before .before .before .pre .1 .1 .1 .low)) (c .before .before .before .before .put-leaf .ensures)
+    let e = c .before .before .before .before .before .before .before .before .leaf .given .1 in
+    same-entered (leaf-is (line t d) _ _ _ e (start t d .pre .1 .1 .low)) (c .before .before .before .before .put-leaf .ensures)
 
-put-entries-same-length-5 : (t : ℕ) → put-entries-lts.Need-same-length-5 (given t) (put-entries-at t) put-entries.Post put-entries-Inv-loop put-entries-μ-loop
-put-entries-same-length-5 t c = search needs
+same-length-5 : (t : ℕ) → lts.Need-same-length-5 (given t) (called t) reads.Post Inv μ-loop
+same-length-5 t c = search needs
 
-put-entries-same-length-6 : (t : ℕ) → put-entries-lts.Need-same-length-6 (given t) (put-entries-at t) put-entries.Post put-entries-Inv-loop put-entries-μ-loop
-put-entries-same-length-6 t c = search needs
+same-length-6 : (t : ℕ) → lts.Need-same-length-6 (given t) (called t) reads.Post Inv μ-loop
+same-length-6 t c = search needs
 
-put-entries-returns-3 : (t : ℕ) → put-entries-lts.Need-returns-3 (given t) (put-entries-at t) put-entries.Post put-entries-Inv-loop put-entries-μ-loop
-put-entries-returns-3 t c = 
-    let d = c .before .before .before .before .before .before .before .before .before .before .before .before .before .before .before .before .before in
-    both-entered (seq-is (line t d) _ _ _ _ (c .before .before .before .before .before .before .before .before .before .before .before .before .before .before .before .node2 .given .1) (d .before .before .before .before .before .before .pre .1 .1 .1 .low)) (c .before .before .before .before .before .before .before .before .before .before .before .put-entries .ensures) (c .before .before .before .before .put-entries2 .ensures)
+returns-3 : (t : ℕ) → lts.Need-returns-3 (given t) (called t) reads.Post Inv μ-loop
+returns-3 t c =
+    let two = c .before .before .before .before in
+    let one = two .before .before .before .before .before .before .before in
+    let d = one .before .before .before .before .before .before in
+    let parts = seq-is (line t d) _ _ _ _ (one .before .before .before .before .p .given .1) (start t d .pre .1 .1 .low) in
+    both-entered parts (one .put-entries .ensures) (two .put-entries2 .ensures)
 
-put-entries-same-length-7 : (t : ℕ) → put-entries-lts.Need-same-length-7 (given t) (put-entries-at t) put-entries.Post put-entries-Inv-loop put-entries-μ-loop
-put-entries-same-length-7 t c = search needs
+same-length-7 : (t : ℕ) → lts.Need-same-length-7 (given t) (called t) reads.Post Inv μ-loop
+same-length-7 t c = search needs
 
-put-entries-same-length-8 : (t : ℕ) → put-entries-lts.Need-same-length-8 (given t) (put-entries-at t) put-entries.Post put-entries-Inv-loop put-entries-μ-loop
-put-entries-same-length-8 t c = search needs
+same-length-8 : (t : ℕ) → lts.Need-same-length-8 (given t) (called t) reads.Post Inv μ-loop
+same-length-8 t c = search needs
 
-put-entries-returns-4 : (t : ℕ) → put-entries-lts.Need-returns-4 (given t) (put-entries-at t) put-entries.Post put-entries-Inv-loop put-entries-μ-loop
-put-entries-returns-4 t c = 
+returns-4 : (t : ℕ) → lts.Need-returns-4 (given t) (called t) reads.Post Inv μ-loop
+returns-4 t c =
     let d = c .before .before .before .before .before .before .before .before .before .before .before in
-    let e = c .before .before .before .before .before .before .before .before .before .node3 .given .1 in
-    same-entered (side-is (line t d) _ _ _ _ _ e (alt-in (line t d) _ _ (d .before .before .before .before .before .before .pre .1 .1 .1) _ _ e) (c .before .before .before .before .before .before .before .side-at .ensures)) (c .before .before .before .before .put-entries3 .ensures)
+    let known = line t d in
+    let e = c .before .before .before .before .before .before .before .before .before .p2 .given .1 in
+    let there = alt-in known _ _ (start t d .pre .1 .1) _ _ e in
+    let same = side-is known _ _ _ _ _ e there (c .before .before .before .before .before .before .before .side-at .ensures) in
+    same-entered same (c .before .before .before .before .put-entries3 .ensures)
 
 pub +put-entries-spec : {M : Type 1} → statement M
-+put-entries-spec = close μ-put-entries λ t. put-entries-lts.spec (given t)
-    (put-entries-at t)
-    put-entries.Post
-    put-entries-Inv-loop
-    put-entries-μ-loop
-    (put-entries-account-at-requires t)
-    (put-entries-handed-down-requires t)
-    (put-entries-node-at-requires t)
-    (put-entries-enum-known-node t)
-    (put-entries-put-leaf-requires t)
-    (put-entries-enum-known-node-2 t)
-    (put-entries-cast-put-entries t)
-    (put-entries-put-entries-requires t)
-    (put-entries-cast-put-entries-2 t)
-    (put-entries-put-entries-requires-2 t)
-    (put-entries-enum-known-node-3 t)
-    (put-entries-side-at-requires t)
-    (put-entries-cast-put-entries-3 t)
-    (put-entries-add-put-entries t)
-    (put-entries-put-entries-requires-3 t)
-    (put-entries-enum-known-node-4 t)
-    (put-entries-loop-holds t)
-    (put-entries-bit-at-requires t)
-    (put-entries-add-t44 t)
-    (put-entries-same-length t)
-    (put-entries-same-length-2 t)
-    (put-entries-returns t)
-    (put-entries-cast-put-entries-4 t)
-    (put-entries-add-put-entries-2 t)
-    (put-entries-put-entries-requires-4 t)
-    (put-entries-loop-less t)
-    (put-entries-loop-again t)
-    (put-entries-same-length-3 t)
-    (put-entries-same-length-4 t)
-    (put-entries-returns-2 t)
-    (put-entries-same-length-5 t)
-    (put-entries-same-length-6 t)
-    (put-entries-returns-3 t)
-    (put-entries-same-length-7 t)
-    (put-entries-same-length-8 t)
-    (put-entries-returns-4 t)
++put-entries-spec = close μ λ t. lts.spec (given t)
+    (called t)
+    reads.Post
+    Inv
+    μ-loop
+    (account-at-requires t)
+    (handed-down-requires t)
+    (node-at-requires t)
+    (enum-known-leaf t)
+    (put-leaf-requires t)
+    (enum-known-p t)
+    (cast-put-entries t)
+    (put-entries-requires t)
+    (cast-second t)
+    (put-entries-requires-2 t)
+    (enum-known-p-2 t)
+    (side-at-requires t)
+    (cast-side t)
+    (add-put-entries t)
+    (put-entries-requires-3 t)
+    (enum-known-p-3 t)
+    (cast-part t)
+    (loop-holds t)
+    (bit-at-requires t)
+    (add-t46 t)
+    (same-length t)
+    (same-length-2 t)
+    (returns t)
+    (add-put-entries-2 t)
+    (put-entries-requires-4 t)
+    (loop-less t)
+    (loop-again t)
+    (same-length-3 t)
+    (same-length-4 t)
+    (returns-2 t)
+    (same-length-5 t)
+    (same-length-6 t)
+    (returns-3 t)
+    (same-length-7 t)
+    (same-length-8 t)
+    (returns-4 t)

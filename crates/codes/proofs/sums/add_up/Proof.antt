@@ -26,7 +26,7 @@ shared-slice-read-charge-letter-2 : tie.Need-shared-slice-read-charge-letter-2 I
 shared-slice-read-charge-letter-2 c = omega (arith, c .before .before .before .before .before .before .before .pre .0)
 
 charge-letter-requires : tie.Need-charge-letter-requires Inv-loop μ-loop
-charge-letter-requires c κs = 
+charge-letter-requires c κs =
     let start = c .before .before .before .before .before .before .before in
     let here = c .before .before .before .before .loop .inv in
     let more = c .before .before .before .loop-test .taken in
@@ -40,7 +40,7 @@ loop-less : tie.Need-loop-less Inv-loop μ-loop
 loop-less c = search needs
 
 loop-again : tie.Need-loop-again Inv-loop μ-loop
-loop-again c = 
+loop-again c =
     let start = c .before .before .before .before .before .before .before .before .before in
     summed-next _ _ _ _ _ (c .before .before .before .before .before .before .loop .inv) (c .before .before .before .before .before .loop-test .taken) (start .pre .0) (start .pre .2 .wide) _ (c .before .charge-letter .ensures)
 
