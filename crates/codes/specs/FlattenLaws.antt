@@ -41,9 +41,14 @@ module _ (p : Pattern) (table : List ℕ) (o : obeys p ≡ true) (h : Holds p ta
 
 module _ (p : Pattern) (code : List ℕ) (count : ℕ) (tape : List ℕ) where
   -- a refusal leaves the tape
-  refusal : (r : Flattened) (a : Answer) → flatten-answer p code count (length tape) ≡ a → eqb (a .number) 0 ≡ false → flattened-answer r ≡ a → Flattens p code count tape tape r
+  refusal : (r : Flattened) (a : Answer) → flatten-answer p code count (length tape) ≡ a → eqb (a .number) 0 ≡ false
+      → flattened-answer r ≡ a → Flattens p code count tape tape r
   unfolding flatten-tape
-  refusal r a e z f = record { answers = f ∙ sym e; leaves = sym (ap (λ b. cond b (in-front (letters-of (root p) code count) tape) tape) (ap (λ x. eqb (x .number) 0) e ∙ z)) }
+  refusal r a e z f =
+      record {
+        answers = f ∙ sym e;
+        leaves = sym (ap (λ b. cond b (in-front (letters-of (root p) code count) tape) tape) (ap (λ x. eqb (x .number) 0) e ∙ z));
+      }
 
   pub flatten-bad : obeys p ≡ false → Flattens p code count tape tape (Refused (Tree-fault 0))
   unfolding flatten-answer

@@ -138,7 +138,8 @@ module _ (xs ys : List ℕ) (n : ℕ) where
     -- no sum passes nine litres a letter
     pub summed-room : i < n → n ≤ letter-limit → (a c : ℕ) → a ≤ account-limit → getD s a 0 + litres c ≤ 9 * letter-limit
     summed-room h few a c o =
-        omega (arith, ap (λ z. getD z a 0) (k .is), sum-total (pairs i xs ys) a (omega arith), total-small a (pairs i xs ys), pairs-length i xs ys, litres-small c)
+        let e = ap (λ z. getD z a 0) (k .is) ∙ sum-total (pairs i xs ys) a (omega arith) in
+        omega (arith, total-small a (pairs i xs ys), pairs-length i xs ys, litres-small c)
 
     pub summed-next : i < n → n ≤ length xs → n ≤ length ys → (s' : List ℕ) → s' ≡ charge-one s (getD ys i 0) (getD xs i 0) → Summed xs ys s' n (i + 1)
     summed-next h long wide s' e =

@@ -37,7 +37,11 @@ use Rattle.entries.specs.WholeLaws.{whole-entering, entered-value, entered-lett
 use Rattle.codes.specs.Sums.{pairs, pairs-entries, Owned, entries-owned}
 
 -- ── every account of a pattern that obeys the rules is an account ──
-made-accounts : (m : Label) (t : ℕ → Tree) (i : ℕ) (x : Node) → m .account < account-limit + 1 → Below i x → ((q : ℕ) → q < i → Accounts (account-limit + 1) (t q)) → Accounts (account-limit + 1) (made m t x)
+abbrev Known : Tree → Type 0
+Known t = Accounts (account-limit + 1) t
+
+made-accounts : (m : Label) (t : ℕ → Tree) (i : ℕ) (x : Node) → m .account < account-limit + 1 → Below i x → ((q : ℕ) → q < i → Known (t q))
+    → Known (made m t x)
 made-accounts m t i (Leaf-node Nothing) h b r = h
 made-accounts m t i (Leaf-node (Letter c)) h b r = h
 made-accounts m t i (Leaf-node (Range x y)) h b r = h
@@ -46,23 +50,32 @@ made-accounts m t i (Alternative p q) h b r = (h, r p (b .0), r q (b .1))
 made-accounts m t i (Star p) h b r = (h, r p b)
 
 module _ (f : ℕ → Line) (n : ℕ) (lower : (l : ℕ) → l < n → Below l (f l .node)) (few : (l : ℕ) → l < n → f l .account < account-limit + 1) where
-  tree-accounts : (k l : ℕ) → l < k → l < n → Accounts (account-limit + 1) (tree-of f l)
+  tree-accounts : (k l : ℕ) → l < k → l < n → Known (tree-of f l)
   tree-accounts zero l h s = absurd (omega arith)
   tree-accounts (suc k) l h s =
-      subst (Accounts (account-limit + 1)) (sym (tree-line f l (lower l s)))
-      (made-accounts (record { index = l; account = f l .account }) (tree-of f) l (f l .node) (few l s) (lower l s) (λ q b. tree-accounts k q (omega arith) (omega arith)))
+      subst (Known) (sym (tree-line f l (lower l s)))
+      (made-accounts (record { index = l; account = f l .account }) (tree-of f) l (f l .node) (few l s) (lower l s)
+      (λ q b. tree-accounts k q (omega arith) (omega arith)))
 
 pub root-accounts : (p : Pattern) → obeys p ≡ true → Accounts (account-limit + 1) (root p)
 unfolding root line-good
 root-accounts p o =
     let r = obeys-iff p .0 o in
     let one = r .one in
-    tree-accounts (line-at p) (p .count) (r .lower) (λ l k. omega (arith, leb-true (line-at p l .account) account-limit (and-fst (leb (line-at p l .account) account-limit) (node-good (node-at p l)) (r .formed l k)))) (p .count) (p .count - 1) (omega arith) (omega arith)
+    let few : (l : ℕ) → l < p .count → leb (line-at p l .account) account-limit ≡ true =
+    λ l k. and-fst (leb (line-at p l .account) account-limit) (node-good (node-at p l)) (r .formed l k) in
+    tree-accounts (line-at p) (p .count) (r .lower) (λ l k. omega (arith, leb-true (line-at p l .account) account-limit (few l k))) (p .count)
+    (p .count - 1) (omega arith) (omega arith)
 
 module _ (p : Pattern) (code : List ℕ) (count : ℕ) where
-  refusal : (r : Refusal) → totals-answer p code count ≡ refused r → eqb (refused r .number) 0 ≡ false → Totals p code count (record { outcome = Refused r; litres = no-litres })
+  refusal : (r : Refusal) → totals-answer p code count ≡ refused r → eqb (refused r .number) 0 ≡ false
+      → Totals p code count (record { outcome = Refused r; litres = no-litres })
   unfolding totals-litres
-  refusal r e z = record { answers = sym e; gives = sym (ap (λ b. cond b (totals (entries-of (root p) code count)) no-litres) (ap (λ x. eqb (x .number) 0) e ∙ z)) }
+  refusal r e z =
+      record {
+        answers = sym e;
+        gives = sym (ap (λ b. cond b (totals (entries-of (root p) code count)) no-litres) (ap (λ x. eqb (x .number) 0) e ∙ z));
+      }
 
   pub totals-bad : obeys p ≡ false → Totals p code count (record { outcome = Refused (Tree-fault 0); litres = no-litres })
   unfolding totals-answer
@@ -95,15 +108,22 @@ module _ (p : Pattern) (code : List ℕ) (count : ℕ) where
             many : m .letters ≡ length (k .entries)
             many = sym exactly ∙ sym (entered-count (root p) code count whole k)
 
-            accounts-are : ys' ≡ accounts-in (k .entries) ++ drop (length (accounts-in (k .entries))) ys
+            -- what the arrays had behind the entries
+            abbrev xs-rest : List ℕ
+            xs-rest = drop (length (letters-of (root p) code count)) xs
+
+            abbrev ys-rest : List ℕ
+            ys-rest = drop (length (accounts-in (k .entries))) ys
+
+            accounts-are : ys' ≡ accounts-in (k .entries) ++ ys-rest
             unfolding in-front
             accounts-are = accounts-front (root p) code count whole k (omega (arith, exactly))
 
-            letters-are : xs' ≡ letters (k .entries) ++ drop (length (letters-of (root p) code count)) xs
+            letters-are : xs' ≡ letters (k .entries) ++ xs-rest
             unfolding in-front
             letters-are =
                 letters-front (root p) code count whole k (omega (arith, exactly))
-                ∙ ap (λ l. l ++ drop (length (letters-of (root p) code count)) xs) (sym (entered-letters (root p) code count whole k))
+                ∙ ap (λ l. l ++ xs-rest) (sym (entered-letters (root p) code count whole k))
 
             pub totals-owned : (m .letters ≤ length xs') × (m .letters ≤ letter-limit) × Owned ys' (m .letters)
             totals-owned =
@@ -112,7 +132,7 @@ module _ (p : Pattern) (code : List ℕ) (count : ℕ) where
                   omega (arith, enters-long k, exactly),
                   h,
                   subst (λ l. Owned l (m .letters)) (sym accounts-are)
-                      (entries-owned (k .entries) (drop (length (accounts-in (k .entries))) ys)
+                      (entries-owned (k .entries) ys-rest
                       (subst (All (λ e. e .1 < account-limit + 1)) (sym (entered-value (root p) code count whole v e k)) own) (m .letters) many),
                 )
 
@@ -121,8 +141,8 @@ module _ (p : Pattern) (code : List ℕ) (count : ℕ) where
             entries-are =
                 let (v, e) = whole-value (root p) code count whole in
                 ap₂ (pairs (m .letters)) letters-are accounts-are
-                ∙ ap (λ n. pairs n (letters (k .entries) ++ drop (length (letters-of (root p) code count)) xs) (accounts-in (k .entries) ++ drop (length (accounts-in (k .entries))) ys)) many
-                ∙ pairs-entries (k .entries) (drop (length (letters-of (root p) code count)) xs) (drop (length (accounts-in (k .entries))) ys)
+                ∙ ap (λ n. pairs n (letters (k .entries) ++ xs-rest) (accounts-in (k .entries) ++ ys-rest)) many
+                ∙ pairs-entries (k .entries) xs-rest ys-rest
                 ∙ entered-value (root p) code count whole v e k ∙ ap (entries-by (root p)) (sym e)
 
             pub totals-done : (s : List ℕ) → s ≡ totals (pairs (m .letters) xs' ys') → Totals p code count (record { outcome = Added; litres = s })
@@ -137,7 +157,8 @@ abbrev pub sum-list : List ℕ → ℕ
 sum-list [] = 0
 sum-list (x ∷ xs) = x + sum-list xs
 
-pub totals-add-up : (p : Pattern) (code : List ℕ) (count : ℕ) → obeys p ≡ true → whole-code (root p) code count ≡ true → sum-list (totals (entries-of (root p) code count)) ≡ digits (letters-of (root p) code count)
+pub totals-add-up : (p : Pattern) (code : List ℕ) (count : ℕ) → obeys p ≡ true → whole-code (root p) code count ≡ true
+    → sum-list (totals (entries-of (root p) code count)) ≡ digits (letters-of (root p) code count)
 unfolding totals entries-of
 totals-add-up p code count o w =
     let (v, e) = whole-value (root p) code count w in

@@ -1,5 +1,6 @@
 -- `codes::flatten` meets its contract.
-use Rattle.codes.specs.FlattenLaws.{measured-root, entering-root, entered-root, flatten-bad, flatten-not, flatten-long, flatten-short, flatten-ready, flatten-done}
+use Rattle.codes.specs.FlattenLaws.{measured-root, entering-root, entered-root}
+use Rattle.codes.specs.FlattenLaws.{flatten-bad, flatten-not, flatten-long, flatten-short, flatten-ready, flatten-done}
 use Rattle.table.specs.CellLaws.{holds-good}
 use Rattle.syntax.specs.TreeLaws.{obeys-iff}
 use borrow.Author.Tests.{not-true, not-false}
@@ -67,27 +68,35 @@ slice-aggregate-put-entries c = search needs
 
 put-entries-requires : tie.Need-put-entries-requires
 put-entries-requires c κs =
-    let walked = c .before .before .before .before .before .before .before .before in
+    let room = c .before .before .before in
+    let short = room .before in
+    let whole = short .before .before in
+    let walked = whole .before .before in
     let held = walked .before .before .before in
     let tested = held .before in
     let o = sym (tested .before .obeys-rules .ensures) ∙ not-false _ (tested .if1 .left) in
     let m = measured-root _ _ o (held .table-of .ensures) _ _ _ (walked .measure .ensures) in
     let r = obeys-iff _ .0 o in
-    let ready = flatten-ready _ _ _ (tested .before .before .before .before .args .tape .now) o _ m (not-false _ (c .before .before .before .before .before .before .if2 .left)) (c .before .before .before .before .if3 .left) (c .before .before .before .if4 .left) in
-    (holds-good _ _ o (held .table-of .ensures), (omega (arith, r .one, r .few), entering-root _ _ o (held .table-of .ensures) _ _ ready))
+    let tape = tested .before .before .before .before .args .tape .now in
+    let ready = flatten-ready _ _ _ tape o _ m (not-false _ (whole .if2 .left)) (short .if3 .left) (room .if4 .left) in
+    ((holds-good _ _ o (held .table-of .ensures), omega (arith, r .one, r .few)), entering-root _ _ o (held .table-of .ensures) _ _ ready)
 
 same-length : tie.Need-same-length
 same-length c = search needs
 
 returns-5 : tie.Need-returns-5
 returns-5 c =
-    let walked = c .before .before .before .before .before .before .before .before .before .before .before .before in
+    let put = c .before .before .before in
+    let room = put .before .before .before .before in
+    let short = room .before in
+    let whole = short .before .before in
+    let walked = whole .before .before in
     let held = walked .before .before .before in
     let tested = held .before in
     let o = sym (tested .before .obeys-rules .ensures) ∙ not-false _ (tested .if1 .left) in
     let m = measured-root _ _ o (held .table-of .ensures) _ _ _ (walked .measure .ensures) in
-    flatten-done _ _ _ _ o _ m (not-false _ (c .before .before .before .before .before .before .before .before .before .before .if2 .left)) (c .before .before .before .before .before .before .before .before .if3 .left) (c .before .before .before .before .before .before .before .if4 .left)
-    (entered-root _ _ o (held .table-of .ensures) (c .before .before .before .put-entries .ensures))
+    flatten-done _ _ _ _ o _ m (not-false _ (whole .if2 .left)) (short .if3 .left) (room .if4 .left)
+    (entered-root _ _ o (held .table-of .ensures) (put .put-entries .ensures))
 
 pub flatten-spec : {M : Type 1} → statement M
 flatten-spec =

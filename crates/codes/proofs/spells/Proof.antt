@@ -17,7 +17,10 @@ cast-if2 c = search needs
 
 returns-2 : tie.Need-returns-2
 returns-2 c =
-    spells-other _ _ _ _ (c .before .before .before .before .before .before .before .pre .1 .1) _ (c .before .before .before .before .measure .ensures) (not-false _ (c .before .before .if1 .left)) (c .if2 .taken)
+    let whole = c .before .before in
+    let measured = whole .before .before in
+    let start = measured .before .before .before in
+    spells-other _ _ _ _ (start .pre .1 .1) _ (measured .measure .ensures) (not-false _ (whole .if1 .left)) (c .if2 .taken)
 
 slice-aggregate-put-entries : tie.Need-slice-aggregate-put-entries
 slice-aggregate-put-entries c = search needs
@@ -27,9 +30,13 @@ slice-aggregate-put-entries-2 c = search needs
 
 put-entries-requires : tie.Need-put-entries-requires
 put-entries-requires c κs =
-    let start = c .before .before .before .before .before .before .before .before .before in
-    let ready = spells-ready _ (start .args .tape .now) _ _ (start .pre .1 .1) _ (c .before .before .before .before .before .before .measure .ensures) (not-false _ (c .before .before .before .before .if1 .left)) (c .before .before .if2 .left) _ refl in
-    (start .pre .0, (start .pre .1 .0, ready))
+    let same = c .before .before in
+    let whole = same .before .before in
+    let measured = whole .before .before in
+    let start = measured .before .before .before in
+    let tape = start .args .tape .now in
+    let ready = spells-ready _ tape _ _ (start .pre .1 .1) _ (measured .measure .ensures) (not-false _ (whole .if1 .left)) (same .if2 .left) _ refl in
+    ((start .pre .0, start .pre .1 .0), ready)
 
 slice-aggregate-begins : tie.Need-slice-aggregate-begins
 slice-aggregate-begins c = search needs
@@ -39,11 +46,11 @@ begins-requires c κs = search needs
 
 returns-3 : tie.Need-returns-3
 returns-3 c =
-    let two = c .before .before .before .before .before .before .before in
-    let one = two .before .before in
-    let measured = one .before .before in
+    let same = c .before .before .before .before .before .before .before in
+    let whole = same .before .before in
+    let measured = whole .before .before in
     let start = measured .before .before .before in
-    spells-same _ _ _ _ (start .pre .1 .1) _ (measured .measure .ensures) (not-false _ (one .if1 .left)) (two .if2 .left) _ refl
+    spells-same _ _ _ _ (start .pre .1 .1) _ (measured .measure .ensures) (not-false _ (whole .if1 .left)) (same .if2 .left) _ refl
     (c .before .before .before .before .put-entries .ensures) _ (c .begins .ensures)
 
 pub spells-spec : {M : Type 1} → statement M

@@ -71,14 +71,16 @@ slice-aggregate-put-entries-2 c = search needs
 
 put-entries-requires : tie.Need-put-entries-requires
 put-entries-requires c κs =
-    let walked = c .before .before .before .before .before .before .before in
+    let short = c .before .before .before in
+    let whole = short .before .before in
+    let walked = whole .before .before in
     let held = walked .before .before .before in
     let tested = held .before in
     let o = sym (tested .before .obeys-rules .ensures) ∙ not-false _ (tested .if1 .left) in
     let m = measured-root _ _ o (held .table-of .ensures) _ _ _ (walked .measure .ensures) in
     let r = obeys-iff _ .0 o in
-    let ready = totals-ready _ _ _ o _ m (not-false _ (c .before .before .before .before .before .if2 .left)) (c .before .before .before .if3 .left) _ refl in
-    (holds-good _ _ o (held .table-of .ensures), (omega (arith, r .one, r .few), entering-root _ _ o (held .table-of .ensures) _ _ ready))
+    let ready = totals-ready _ _ _ o _ m (not-false _ (whole .if2 .left)) (short .if3 .left) _ refl in
+    ((holds-good _ _ o (held .table-of .ensures), omega (arith, r .one, r .few)), entering-root _ _ o (held .table-of .ensures) _ _ ready)
 
 slice-aggregate-add-up : tie.Need-slice-aggregate-add-up
 slice-aggregate-add-up c = search needs
@@ -88,23 +90,29 @@ slice-aggregate-add-up-2 c = search needs
 
 add-up-requires : tie.Need-add-up-requires
 add-up-requires c κs =
-    let walked = c .before .before .before .before .before .before .before .before .before .before .before .before in
+    let put = c .before .before .before .before in
+    let short = put .before .before .before .before in
+    let whole = short .before .before in
+    let walked = whole .before .before in
     let held = walked .before .before .before in
     let tested = held .before in
     let o = sym (tested .before .obeys-rules .ensures) ∙ not-false _ (tested .if1 .left) in
     let m = measured-root _ _ o (held .table-of .ensures) _ _ _ (walked .measure .ensures) in
-    totals-owned _ _ _ o _ m (not-false _ (c .before .before .before .before .before .before .before .before .before .before .if2 .left)) (c .before .before .before .before .before .before .before .before .if3 .left) _ _ refl refl
-    (entered-root _ _ o (held .table-of .ensures) (c .before .before .before .before .put-entries .ensures))
+    totals-owned _ _ _ o _ m (not-false _ (whole .if2 .left)) (short .if3 .left) _ _ refl refl
+    (entered-root _ _ o (held .table-of .ensures) (put .put-entries .ensures))
 
 returns-4 : tie.Need-returns-4
 returns-4 c =
-    let walked = c .before .before .before .before .before .before .before .before .before .before .before .before .before in
+    let put = c .before .before .before .before .before in
+    let short = put .before .before .before .before in
+    let whole = short .before .before in
+    let walked = whole .before .before in
     let held = walked .before .before .before in
     let tested = held .before in
     let o = sym (tested .before .obeys-rules .ensures) ∙ not-false _ (tested .if1 .left) in
     let m = measured-root _ _ o (held .table-of .ensures) _ _ _ (walked .measure .ensures) in
-    totals-done _ _ _ o _ m (not-false _ (c .before .before .before .before .before .before .before .before .before .before .before .if2 .left)) (c .before .before .before .before .before .before .before .before .before .if3 .left) _ _ refl refl
-    (entered-root _ _ o (held .table-of .ensures) (c .before .before .before .before .before .put-entries .ensures)) _ (c .add-up .ensures)
+    totals-done _ _ _ o _ m (not-false _ (whole .if2 .left)) (short .if3 .left) _ _ refl refl
+    (entered-root _ _ o (held .table-of .ensures) (put .put-entries .ensures)) _ (c .add-up .ensures)
 
 pub totals-spec : {M : Type 1} → statement M
 totals-spec =

@@ -125,7 +125,8 @@ put-entries-requires-2 t c κs =
     let known = line t d in
     let e = c .before .before .before .before .before .before .before .before .before .before .p .given .1 in
     let h = second-below known _ _ e in
-    let ready = second-entering (seq-is known _ _ _ _ e (start t d .pre .1 .1 .low)) (c .before .before .before .before .before .before .put-entries .ensures) (start t d .pre .1 .1) in
+    let parts = seq-is known _ _ _ _ e (start t d .pre .1 .1 .low) in
+    let ready = second-entering parts (c .before .before .before .before .before .before .put-entries .ensures) (start t d .pre .1 .1) in
     (omega (arith, h, start t d .pre .0), ((known .good, omega (arith, h, known .below)), ready))
 
 enum-known-p-2 : (t : ℕ) → lts.Need-enum-known-p-2 (given t) (called t) reads.Post Inv μ-loop

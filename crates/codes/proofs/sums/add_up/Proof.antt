@@ -41,8 +41,9 @@ loop-less c = search needs
 
 loop-again : tie.Need-loop-again Inv-loop μ-loop
 loop-again c =
-    let start = c .before .before .before .before .before .before .before .before .before in
-    summed-next _ _ _ _ _ (c .before .before .before .before .before .before .loop .inv) (c .before .before .before .before .before .loop-test .taken) (start .pre .0) (start .pre .2 .wide) _ (c .before .charge-letter .ensures)
+    let turn = c .before .before .before .before .before in
+    let start = turn .before .before .before .before in
+    summed-next _ _ _ _ _ (turn .before .loop .inv) (turn .loop-test .taken) (start .pre .0) (start .pre .2 .wide) _ (c .before .charge-letter .ensures)
 
 returns : tie.Need-returns Inv-loop μ-loop
 returns c = summed-end _ _ _ _ _ (c .before .loop .inv) (c .loop-test .left)
