@@ -1,13 +1,13 @@
-/* Wumbyra: a verified reader of water meter tapes, for C and C++ (x86-64 Linux).
+/* Wumbyra 1.0.0: a verified reader of water meter tapes, for C and C++ (x86-64 Linux).
  *
- * Link with target/staticlib/libcapi.a, which `rt staticlib capi` writes; it needs memcpy and memset and nothing else.
+ * Link with target/staticlib/libwumbyra.a, which `rt staticlib wumbyra` writes; it needs memcpy and memset and nothing else.
  * Every function is proved to answer, and to leave in every buffer, what the definitions of the services give on the table
- * that its pattern text loads as (crates/capi, specs/Packed). What is not proved: this header, the compiler's back end, and
+ * that its pattern text loads as (crates/wumbyra, specs/Packed). What is not proved: this header, the compiler's back end, and
  * how deep the stack goes; recursion follows the pattern's tree, at most 64 calls, and never the tape's length.
  *
  * Rules for every call
  *  - A buffer is passed as a pointer and a length in elements. No pointer is NULL, even where the length is 0.
- *  - `words` is aligned for uint64_t.
+ *  - `words` is aligned for uint64_t, `litres` for uint32_t.
  *  - A buffer that is written (not const) overlaps no other argument. Those that are read may overlap each other.
  *  - Whatever bytes the arguments hold, the call returns an answer. It keeps no pointer and has no state: calls on different
  *    buffers may run at the same time.
@@ -30,7 +30,8 @@
  *   WUMBYRA_TAPE_TOO_SHORT   9    the tape buffer is shorter than what the code spells         letters needed
  *   WUMBYRA_NO_SUCH_VISIT   10    no such node, or it is visited at most `visit` times         0
  *
- *  Where several causes hold, the first in the order that is given with the call is answered.
+ *  Where several causes hold, the first in the order that is given with the call is answered. A number that is not in that
+ *  order is never answered by the call.
  *
  * Codes
  *  A code is bytes and a bit count. Bits fill bytes from the highest; the bytes are exactly enough for the count, unused bits
@@ -44,6 +45,14 @@
 #ifdef __cplusplus
 extern "C" {
 #endif
+
+/* The version of this header. wumbyra_version() tells that of the library that is linked: the two differ only where a program
+ * was compiled with another header than its library's. A call that is added raises the minor number; one that is changed or
+ * dropped raises the major number. */
+#define WUMBYRA_VERSION_MAJOR 1
+#define WUMBYRA_VERSION_MINOR 0
+#define WUMBYRA_VERSION_PATCH 0
+#define WUMBYRA_VERSION_NUMBER (WUMBYRA_VERSION_MAJOR * 10000 + WUMBYRA_VERSION_MINOR * 100 + WUMBYRA_VERSION_PATCH)
 
 enum {
     WUMBYRA_OK = 0,
@@ -95,38 +104,77 @@ static inline uint32_t wumbyra_span_length(uint64_t answer)
     return wumbyra_value(answer) & 0xffffu;
 }
 
-/* Whether a pattern text loads. Order 1, 2. Value: the line count; at 1 and 2 the first line at fault. */
+/* The version of the library: major * 10000 + minor * 100 + patch, as WUMBYRA_VERSION_NUMBER is of the header's. */
+uint32_t wumbyra_version(void);
+
+/* Whether a pattern text loads.
+ *
+ * Order: 1, 2. Value: the line count.
+ *
+ *   1  the first line at fault; of no text, line 0
+ *   2  the first line at fault, where each line has the form of a line
+ *
+ * No buffer is written. */
 uint64_t wumbyra_load(const uint8_t *text, size_t text_len);
 
-/* The code of the greedy reading of a tape. Order 2, 3, 4, 6, 5, 7. Value: the code's bit count.
+/* The code of the greedy reading of a tape.
+ *
+ * Order: 2, 3, 4, 6, 5, 7. Value: the code's bit count.
  * Written: words[0] to words[2 * n + 1], where bit l of words[2 * i + b] says that the letters from i on can be read from
  * node l on with flag b; and the code's bytes, (bits + 7) / 8 of them.
- * Left as they were: words and code at 2, 3, 4, 6; code at 5 and 7, where the words are filled. */
+ *
+ *   2, 3, 4, 6  words and code are left as they were
+ *   5, 7        code is left as it was; words are filled */
 uint64_t wumbyra_parse(const uint8_t *text, size_t text_len, const uint8_t *tape, size_t tape_len, uint64_t *words,
                        size_t words_len, uint8_t *code, size_t code_len);
 
-/* What a code spells. Order 2, 8, 3, 9. Value: the number of letters.
- * Written: the letters, from tape[0] on. Left as it was: tape, at every refusal. */
+/* What a code spells.
+ *
+ * Order: 2, 8, 3, 9. Value: the number of letters.
+ * Written: the letters, from tape[0] on.
+ *
+ *   2, 8, 3, 9  tape is left as it was */
 uint64_t wumbyra_flatten(const uint8_t *text, size_t text_len, const uint8_t *code, size_t code_len, uint32_t count,
                          uint8_t *tape, size_t tape_len);
 
 /* The canonical code of what a code spells: two codes of a pattern spell the same tape exactly if their canonical codes are
- * equal. Order 2, 8, 3, 9, 6, 5, 7. Value: the canonical code's bit count.
+ * equal.
+ *
+ * Order: 2, 8, 3, 9, 6, 5, 7. Value: the canonical code's bit count.
  * Written: the letters to tape, their words to words, the canonical code to canonical.
- * Left as they were: all at 2, 8, 3, 9; words and canonical at 6, where the tape is filled; canonical at 7, where tape and
- * words are filled. (5 does not occur: the code is itself a reading of what it spells.) */
+ *
+ *   2, 8, 3, 9  tape, words and canonical are left as they were
+ *   6           words and canonical are left as they were; tape is filled
+ *   7           canonical is left as it was; tape and words are filled
+ *   5           does not occur: the code is itself a reading of what it spells */
 uint64_t wumbyra_canonicalize(const uint8_t *text, size_t text_len, const uint8_t *code, size_t code_len, uint32_t count,
                               uint8_t *tape, size_t tape_len, uint64_t *words, size_t words_len, uint8_t *canonical,
                               size_t canonical_len);
 
 /* The piece of the tape that a visit of a node covers; visits are counted from 0 as the code enters them, and a K with all its
- * rounds is one visit. Order 2, 3, 4, 8, 10. Value: start << 16 | length. */
+ * rounds is one visit.
+ *
+ * Order: 2, 3, 4, 8, 10. Value: start << 16 | length; at a refusal that of the table of causes.
+ * No buffer is written. */
 uint64_t wumbyra_span(const uint8_t *text, size_t text_len, const uint8_t *tape, size_t tape_len, const uint8_t *code,
                       size_t code_len, uint32_t count, uint32_t node, uint32_t visit);
 
-/* The litres of an account, 0 to 9; of an account above 9, 0. Order 2, 8, 3. Value: the litres, at a refusal 0. */
+/* The litres of one account, 0 to 9; of an account above 9, 0.
+ *
+ * Order: 2, 8, 3. Value: the litres; at a refusal 0.
+ * No buffer is written. */
 uint64_t wumbyra_total(const uint8_t *text, size_t text_len, const uint8_t *code, size_t code_len, uint32_t count,
                        uint32_t account);
+
+/* The litres of all accounts, by one pass over the code.
+ *
+ * Order: 2, 8, 3. Value: 0.
+ * Written: litres[a] is the total of account a, for as many accounts from 0 on as cells are lent, and at most
+ * WUMBYRA_ACCOUNTS; fewer cells are no refusal. Cells behind the last account are left as they were.
+ *
+ *   2, 8, 3  the same cells are written, and all with 0 */
+uint64_t wumbyra_totals(const uint8_t *text, size_t text_len, const uint8_t *code, size_t code_len, uint32_t count,
+                        uint32_t *litres, size_t litres_len);
 
 #ifdef __cplusplus
 }

@@ -24,20 +24,36 @@ int main(void)
     const size_t len = sizeof pattern - 1;
     uint64_t words[2 * (letters + 1)], again[2 * (letters + 1)];
     uint8_t code[WUMBYRA_CODE_BYTES(letters)], canonical[WUMBYRA_CODE_BYTES(letters)], spelled[letters];
+    uint32_t litres[WUMBYRA_ACCOUNTS + 1];
     uint64_t answer;
     uint32_t bits, i;
 
+    if (wumbyra_version() != WUMBYRA_VERSION_NUMBER || WUMBYRA_VERSION_NUMBER != 10000) {
+        printf("the library's version is %u, the header's %d\n", wumbyra_version(), WUMBYRA_VERSION_NUMBER);
+        failed = 1;
+    }
     expect("load", wumbyra_load(text, len), WUMBYRA_OK, 6);
     expect("load no text", wumbyra_load(text, 0), WUMBYRA_LINE_FORM, 0);
     answer = wumbyra_parse(text, len, read, letters, words, WUMBYRA_WORDS(letters), code, WUMBYRA_CODE_BYTES(letters));
     expect("parse", answer, WUMBYRA_OK, 21);
     bits = wumbyra_value(answer);
     printf("tape\t%d\t%u\t%02x%02x%02x\n", letters, bits, code[0], code[1], code[2]);
-    for (i = 1; i < WUMBYRA_ACCOUNTS; i++) {
-        uint32_t litres = wumbyra_value(wumbyra_total(text, len, code, 3, bits, i));
-        if (litres > 0)
-            printf("account\t%u\t%u\n", i, litres);
+    litres[WUMBYRA_ACCOUNTS] = 7;
+    expect("totals", wumbyra_totals(text, len, code, 3, bits, litres, WUMBYRA_ACCOUNTS + 1), WUMBYRA_OK, 0);
+    for (i = 0; i < WUMBYRA_ACCOUNTS; i++) {
+        expect("total", wumbyra_total(text, len, code, 3, bits, i), WUMBYRA_OK, litres[i]);
+        if (litres[i] > 0)
+            printf("account\t%u\t%u\n", i, litres[i]);
     }
+    if (litres[WUMBYRA_ACCOUNTS] != 7)
+        failed = 1;
+    litres[1] = 7;
+    expect("totals of one account", wumbyra_totals(text, len, code, 3, bits, litres, 1), WUMBYRA_OK, 0);
+    if (litres[0] != 0 || litres[1] != 7)
+        failed = 1;
+    expect("totals refused", wumbyra_totals(text, len, code, 3, 25, litres, 2), WUMBYRA_NOT_A_CODE, 0);
+    if (litres[0] != 0 || litres[1] != 0 || litres[9] != 2)
+        failed = 1;
     expect("total of no account", wumbyra_total(text, len, code, 3, bits, 10), WUMBYRA_OK, 0);
     expect("flatten", wumbyra_flatten(text, len, code, 3, bits, spelled, letters), WUMBYRA_OK, letters);
     if (memcmp(spelled, tape, letters) != 0)

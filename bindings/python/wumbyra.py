@@ -2,8 +2,8 @@
 
 The shared library is made from the static one:
 
-    rt staticlib capi
-    gcc -shared -o libwumbyra.so -Wl,--whole-archive target/staticlib/libcapi.a -Wl,--no-whole-archive
+    rt staticlib wumbyra
+    gcc -shared -o libwumbyra.so -Wl,--whole-archive target/staticlib/libwumbyra.a -Wl,--no-whole-archive
 
 WUMBYRA_LIBRARY names it; without that it is looked for in target/bindings/python of the repository.
 """
@@ -13,6 +13,7 @@ import os
 import pathlib
 
 MAX_LETTERS = 3600
+ACCOUNTS = 10
 CAUSES = {
     1: "a line has not the form of a line",
     2: "the pattern is no tree",
@@ -49,14 +50,22 @@ def _library():
         "wumbyra_canonicalize": 2 * buffer + number + 3 * buffer,
         "wumbyra_span": 3 * buffer + 3 * number,
         "wumbyra_total": 2 * buffer + 2 * number,
+        "wumbyra_totals": 2 * buffer + number + buffer,
     }.items():
         function = getattr(library, name)
         function.argtypes = parameters
         function.restype = ctypes.c_uint64
+    library.wumbyra_version.argtypes = []
+    library.wumbyra_version.restype = ctypes.c_uint32
     return library
 
 
 _LIBRARY = _library()
+
+
+def version():
+    """The version of the library: major * 10000 + minor * 100 + patch."""
+    return _LIBRARY.wumbyra_version()
 
 
 def _value(answer):
@@ -124,3 +133,12 @@ class Pattern:
     def total(self, code, bits, account):
         """The litres of an account, 0 for one above 9."""
         return _value(_LIBRARY.wumbyra_total(*_read(self.text), *_read(bytes(code)), _u32(bits), _u32(account)))
+
+    def totals(self, code, bits):
+        """The litres of accounts 0 to 9, by one pass over the code."""
+        litres = (ctypes.c_uint32 * ACCOUNTS)()
+        _value(self._totals_into(code, bits, litres))
+        return list(litres)
+
+    def _totals_into(self, code, bits, litres):
+        return _LIBRARY.wumbyra_totals(*_read(self.text), *_read(bytes(code)), _u32(bits), litres, len(litres))

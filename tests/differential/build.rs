@@ -1,4 +1,4 @@
-//! Links libcapi.a, which `rt staticlib capi` writes. WUMBYRA_LIB names its folder.
+//! Links libwumbyra.a, which `rt staticlib wumbyra` writes. WUMBYRA_LIB names its folder.
 
 fn main() {
     println!("cargo:rerun-if-env-changed=WUMBYRA_LIB");
@@ -6,7 +6,7 @@ fn main() {
         let here = std::env::var("CARGO_MANIFEST_DIR").expect("set by cargo");
         format!("{here}/../../target/staticlib")
     });
-    println!("cargo:rerun-if-changed={folder}/libcapi.a");
+    println!("cargo:rerun-if-changed={folder}/libwumbyra.a");
     println!("cargo:rustc-link-search=native={folder}");
-    println!("cargo:rustc-link-lib=static=capi");
+    println!("cargo:rustc-link-lib=static=wumbyra");
 }

@@ -2,6 +2,7 @@
 
 mod c {
     extern "C" {
+        pub fn wumbyra_version() -> u32;
         pub fn wumbyra_load(text: *const u8, text_len: usize) -> u64;
         pub fn wumbyra_parse(
             text: *const u8,
@@ -54,6 +55,15 @@ mod c {
             count: u32,
             account: u32,
         ) -> u64;
+        pub fn wumbyra_totals(
+            text: *const u8,
+            text_len: usize,
+            code: *const u8,
+            code_len: usize,
+            count: u32,
+            litres: *mut u32,
+            litres_len: usize,
+        ) -> u64;
     }
 }
 
@@ -62,6 +72,10 @@ pub struct Answer(pub u64);
 
 // Each pointer below comes from a slice and is passed with its length. The
 // calls keep none of them and write only to those that are `*mut`.
+
+pub fn version() -> u32 {
+    unsafe { c::wumbyra_version() }
+}
 
 pub fn load(text: &[u8]) -> Answer {
     Answer(unsafe { c::wumbyra_load(text.as_ptr(), text.len()) })
@@ -146,6 +160,20 @@ pub fn total(text: &[u8], code: &[u8], count: u32, account: u32) -> Answer {
             code.len(),
             count,
             account,
+        )
+    })
+}
+
+pub fn totals(text: &[u8], code: &[u8], count: u32, litres: &mut [u32]) -> Answer {
+    Answer(unsafe {
+        c::wumbyra_totals(
+            text.as_ptr(),
+            text.len(),
+            code.as_ptr(),
+            code.len(),
+            count,
+            litres.as_mut_ptr(),
+            litres.len(),
         )
     })
 }

@@ -4,7 +4,7 @@
 //! let pattern = wumbyra::Pattern::load(b"0\tL\t1\t7\n1\tK\t-\t0\n").unwrap();
 //! let parsed = pattern.parse(b"77").unwrap();
 //! assert_eq!(parsed.code.bits, 3);
-//! assert_eq!(pattern.total(&parsed.code, 1), Ok(14));
+//! assert_eq!(pattern.totals(&parsed.code), Ok([0, 14, 0, 0, 0, 0, 0, 0, 0, 0]));
 //! ```
 //!
 //! The functions that end in `_into` take buffers from the caller and leave in them what include/wumbyra.h says; the others
@@ -22,6 +22,13 @@ use std::ops::Range;
 pub const MAX_LETTERS: usize = 3_600;
 /// Bytes of a code at most.
 pub const MAX_CODE_BYTES: usize = 65_536;
+/// Accounts, from 0 on.
+pub const ACCOUNTS: usize = 10;
+
+/// The version of the library that is linked: major * 10000 + minor * 100 + patch.
+pub fn version() -> u32 {
+    calls::version()
+}
 
 /// Words that a tape of so many letters takes.
 pub const fn words_for(letters: usize) -> usize {
@@ -158,13 +165,18 @@ impl Pattern {
         calls::total(&self.text, &code.bytes, code.bits, account).value()
     }
 
-    /// The litres of accounts 0 to 9.
-    pub fn totals(&self, code: &Code) -> Result<[u32; 10], Refusal> {
-        let mut litres = [0; 10];
-        for (account, cell) in (0..).zip(&mut litres) {
-            *cell = self.total(code, account)?;
-        }
+    /// The litres of accounts 0 to 9, by one pass over the code.
+    pub fn totals(&self, code: &Code) -> Result<[u32; ACCOUNTS], Refusal> {
+        let mut litres = [0; ACCOUNTS];
+        self.totals_into(code, &mut litres)?;
         Ok(litres)
+    }
+
+    /// As many totals from account 0 on as there are cells, at most `ACCOUNTS`, are left in the buffer; they are 0 at a refusal.
+    /// Cells behind them are left as they were.
+    pub fn totals_into(&self, code: &Code, litres: &mut [u32]) -> Result<(), Refusal> {
+        calls::totals(&self.text, &code.bytes, code.bits, litres).value()?;
+        Ok(())
     }
 }
 

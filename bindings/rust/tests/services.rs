@@ -1,6 +1,8 @@
-//! The worked examples of the scope, and each refusal with what is left in the buffers.
+//! The worked examples of the scope, each refusal with what is left in the buffers, and the version.
 
-use wumbyra::{code_bytes_for, words_for, Code, Pattern, Refusal};
+use wumbyra::{code_bytes_for, version, words_for, Code, Pattern, Refusal, ACCOUNTS};
+
+const HEADER: &str = include_str!("../../../include/wumbyra.h");
 
 const LISTING: &[u8] =
     b"0\tR\t-\t0\t9\n1\tL\t-\tW\n2\tS\t9\t1\t0\n3\tR\t1\t0\t9\n4\tA\t-\t2\t3\n5\tK\t-\t4\n";
@@ -126,6 +128,65 @@ fn buffers_that_are_one_short_are_left_as_they_were() {
         Err(Refusal::WordsTooShort { needed: 18 })
     );
     assert_eq!(letters, *b"aaaaaaaa\x07");
+}
+
+#[test]
+fn totals_in_any_number_of_cells() {
+    let listing = pattern(LISTING);
+    let read = listing.parse(b"3W2").expect("it is read").code;
+    let expected = [0, 3, 0, 0, 0, 0, 0, 0, 0, 2, 77, 77];
+    for cells in 0..=expected.len() {
+        let mut litres = [77; 12];
+        assert_eq!(listing.totals_into(&read, &mut litres[..cells]), Ok(()));
+        let written = cells.min(ACCOUNTS);
+        assert_eq!(litres[..written], expected[..written]);
+        assert_eq!(litres[written..], [77; 12][written..]);
+        for (account, total) in (0..).zip(&litres[..written]) {
+            assert_eq!(listing.total(&read, account), Ok(*total));
+        }
+    }
+}
+
+#[test]
+fn refused_totals_are_zeros() {
+    let listing = pattern(LISTING);
+    for (cells, written) in [(0, 0), (4, 4), (10, 10), (12, 10)] {
+        let mut litres = [77; 12];
+        assert_eq!(
+            listing.totals_into(&code("0"), &mut litres[..cells]),
+            Err(Refusal::NotACode)
+        );
+        assert_eq!(litres[..written], [0; 12][..written]);
+        assert_eq!(litres[written..], [77; 12][written..]);
+    }
+    assert_eq!(listing.totals(&code("0")), Err(Refusal::NotACode));
+    let long = Code {
+        bytes: [vec![0; 450], vec![0x40]].concat(),
+        bits: 3_602,
+    };
+    let star = pattern(b"0\tL\t4\t7\n1\tK\t-\t0\n");
+    assert_eq!(star.totals(&long), Err(Refusal::TapeTooLong));
+}
+
+/// The number of a macro of the header.
+fn defined(name: &str) -> u32 {
+    let line = format!("#define WUMBYRA_{name} ");
+    let number = HEADER.lines().find_map(|text| text.strip_prefix(&line));
+    number
+        .and_then(|n| n.parse().ok())
+        .expect("a macro with a number")
+}
+
+#[test]
+fn the_library_has_the_headers_version() {
+    let [major, minor, patch] =
+        ["MAJOR", "MINOR", "PATCH"].map(|part| defined(&format!("VERSION_{part}")));
+    assert_eq!(version(), major * 10_000 + minor * 100 + patch);
+    assert_eq!(ACCOUNTS as u32, defined("ACCOUNTS"));
+    assert_eq!(
+        env!("CARGO_PKG_VERSION"),
+        format!("{major}.{minor}.{patch}")
+    );
 }
 
 #[test]

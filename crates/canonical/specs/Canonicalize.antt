@@ -6,17 +6,18 @@ use Prim.Native.Nat.{ℕ, zero, suc, _+_, _*_, _≤_, _<_}
 use lib.Dec.{ltb}
 use lib.ListN.{length}
 use Rattle.syntax.specs.declared.Pattern.{Pattern}
+use Rattle.refusals.specs.declared.Refusal.{Refusal}
 use Rattle.refusals.specs.declared.Refusal.the-variants.{WordsTooShort}
 use Rattle.refusals.specs.Refusals.{Answer, answer, refused}
 use Rattle.syntax.specs.Trees.{root}
 use Rattle.bits.specs.Bits.{in-front}
 use Rattle.first_sweep.specs.StateSets.{words}
 use Rattle.codes.specs.declared.Flattened.{Flattened}
-use Rattle.codes.specs.declared.Flattened.the-variants.{Letters, Refused as Not-flattened}
+use Rattle.codes.specs.declared.Flattened.the-variants.{Refused as Not-flattened}
 use Rattle.walks.specs.Whole.{letters-of}
 use Rattle.codes.specs.Flatten.{flatten-answer}
 use Rattle.parser.specs.declared.Parsed.{Parsed}
-use Rattle.parser.specs.declared.Parsed.the-variants.{Bits as Parsed-bits, Refused as Not-parsed}
+use Rattle.parser.specs.declared.Parsed.the-variants.{Refused as Not-parsed}
 use Rattle.parser.specs.Parse.{Reads-greedily}
 use Rattle.canonical.specs.declared.Canonicalized.{Canonicalized}
 use Rattle.canonical.specs.declared.Canonicalized.the-variants.{Bits, Refused}
@@ -25,14 +26,12 @@ abbrev pub canonicalized-answer : Canonicalized → Answer
 canonicalized-answer (Bits n) = answer 0 n
 canonicalized-answer (Refused r) = refused r
 
--- what a stage's answer becomes
-abbrev pub passed-flattened : Flattened → Canonicalized
-passed-flattened (Letters n) = Bits n
-passed-flattened (Not-flattened r) = Refused r
+-- why a stage refused: what settling passes on
+abbrev pub Unspelled : Flattened → Refusal → Type 0
+Unspelled a why = a ≡ Not-flattened why
 
-abbrev pub passed-parsed : Parsed → Canonicalized
-passed-parsed (Parsed-bits n) = Bits n
-passed-parsed (Not-parsed r) = Refused r
+abbrev pub Unread : Parsed → Refusal → Type 0
+Unread a why = a ≡ Not-parsed why
 
 -- 01: "Settling a code spells it and reads the result: 2, 8, 3, 9, 6, 5, 7." Of reading's causes 6 is left, then the second sweep's:
 -- "6 [..] marks, code [left as they were]; settling has filled the tape".
@@ -46,6 +45,8 @@ Settles-by zero e p ls ts us ws vs xs ys a = (us ≡ in-front ls ts) × Read-by 
 Settles-by (suc n) e p ls ts us ws vs xs ys a = (a ≡ e) × (us ≡ ts) × (vs ≡ ws) × (ys ≡ xs)
 
 -- THE PROMISE of settling, for every table, code as handed in, and lent buffers
-unfoldable pub Canonicalizes : Pattern → (code : List ℕ) → (count : ℕ) → (tape tape-now words words-now canonical canonical-now : List ℕ) → Canonicalized → Type 0
+unfoldable pub Canonicalizes : Pattern → (code : List ℕ) → (count : ℕ) → (tape tape-now words words-now canonical canonical-now : List ℕ)
+    → Canonicalized → Type 0
 Canonicalizes p code count ts us ws vs xs ys r =
-    Settles-by (flatten-answer p code count (length ts) .number) (flatten-answer p code count (length ts)) p (letters-of (root p) code count) ts us ws vs xs ys (canonicalized-answer r)
+    Settles-by (flatten-answer p code count (length ts) .number) (flatten-answer p code count (length ts)) p
+    (letters-of (root p) code count) ts us ws vs xs ys (canonicalized-answer r)

@@ -55,7 +55,9 @@ module _ (p : Pattern) (good : obeys p ≡ true) where
     earliest = record {
       is = packed-is;
       spells-it = packed-spells;
-      solid = rw (held-pack 8 (omega arith) g) (solid-iff t g .0 (is-code-iff t g .1 (canonical-code p good (spells c) (c .few) g canonical-tape), hollow-greedy t (spells c) readable-tape));
+      solid =
+          rw (held-pack 8 (omega arith) g) (solid-iff t g .0
+          (is-code-iff t g .1 (canonical-code p good (spells c) (c .few) g canonical-tape), hollow-greedy t (spells c) readable-tape));
       first = λ xs n d s e other.
           let q = greedy-code-iff t (spells c) (root-choices p good) (c .few) g .1 canonical-tape in
           let k = coded xs n (d .whole) in
@@ -81,13 +83,15 @@ module _ (p : Pattern) (good : obeys p ≡ true) where
       ran : Ran
       ran =
           let s =
-          settles p (c .bytes) (c .count) (x .tape) (x .tape-now) (x .words) (x .words-now) (x .out) (x .out-now) (x .result) (x .kept) good (c .is .whole) (c .few) (x .tape-room)
-          (x .word-room) in
+          settles p (c .bytes) (c .count) (x .tape) (x .tape-now) (x .words) (x .words-now) (x .out) (x .out-now) (x .result) (x .kept) good
+          (c .is .whole) (c .few) (x .tape-room) (x .word-room) in
           let m = s .1 .1 .fits g canonical-tape (x .code-room g canonical-tape) in
           record {
             settled = record { count = length g; answers = m .0 };
             count-is = refl;
-            bytes-are = ap (take (cell-count 8 (length g))) (m .1) ∙ ap (λ k. take k (in-front (pack 8 g) (x .out))) (sym (length-pack 8 g)) ∙ take-in-front (pack 8 g) (x .out);
+            bytes-are =
+                ap (take (cell-count 8 (length g))) (m .1) ∙ ap (λ k. take k (in-front (pack 8 g) (x .out))) (sym (length-pack 8 g))
+                ∙ take-in-front (pack 8 g) (x .out);
           }
 
   module _ (c : Code p) (x : Run p c) where
@@ -96,11 +100,18 @@ module _ (p : Pattern) (good : obeys p ≡ true) where
         let r = ran c x in
         record {
           settled = r .settled;
-          earliest = subst (λ k. Earliest p (spells c) (bytes-of x (r .settled)) k) (sym (r .count-is)) (subst (λ l. Earliest p (spells c) l (length (g c))) (sym (r .bytes-are)) (earliest c));
+          earliest =
+              subst (λ k. Earliest p (spells c) (bytes-of x (r .settled)) k) (sym (r .count-is))
+              (subst (λ l. Earliest p (spells c) l (length (g c))) (sym (r .bytes-are)) (earliest c));
           again = λ d eb en y.
               let q = ran d y in
-              let e : spells d ≡ spells c = ap₂ (tape-of p) (eb ∙ r .bytes-are) (en ∙ r .count-is) ∙ packed-spells c in
-              (q .settled, (q .count-is ∙ ap (λ w. length (greedy t w)) e ∙ sym (r .count-is), q .bytes-are ∙ ap (λ w. pack 8 (greedy t w)) e ∙ sym (r .bytes-are)));
+              let e : spells d ≡ spells c = ap₂ (tape-of p) (eb ∙ r .bytes-are) (en ∙ r .count-is) ∙ packed-spells c in (
+                q .settled,
+                (
+                  q .count-is ∙ ap (λ w. length (greedy t w)) e ∙ sym (r .count-is),
+                  q .bytes-are ∙ ap (λ w. pack 8 (greedy t w)) e ∙ sym (r .bytes-are),
+                ),
+              );
         }
 
 -- THE THIRD DEMAND
@@ -116,7 +127,10 @@ third-demand p good a b x y =
       two = two;
       equal = (
         λ e. sym (one .earliest .spells-it) ∙ ap₂ (tape-of p) (e .1) (e .0) ∙ two .earliest .spells-it,
-        λ e. (r .count-is ∙ ap (λ w. length (greedy (root p) w)) e ∙ sym (q .count-is), r .bytes-are ∙ ap (λ w. pack 8 (greedy (root p) w)) e ∙ sym (q .bytes-are)),
+        λ e. (
+          r .count-is ∙ ap (λ w. length (greedy (root p) w)) e ∙ sym (q .count-is),
+          r .bytes-are ∙ ap (λ w. pack 8 (greedy (root p) w)) e ∙ sym (q .bytes-are),
+        ),
       );
     }
 

@@ -4,6 +4,4 @@ pub mod RoundTrip
 pub mod Demand
 pub mod Demanded
 pub mod Rejected
-pub mod Agree
-pub mod AgreeLaws
 pub mod Unique

@@ -69,7 +69,9 @@ C10-not-handed-back x s =
 abbrev pub P4 : Pattern
 P4 = record {
   count = 9;
-  lines = one-letter 97 ∷ one-letter 97 ∷ one-letter 98 ∷ line (Sequence 1 2) ∷ line (Alternative 0 3) ∷ one-letter 98 ∷ line (Leaf-node Nothing) ∷ line (Alternative 5 6) ∷ line (Sequence 4 7) ∷ replicate 55 blank;
+  lines =
+      one-letter 97 ∷ one-letter 97 ∷ one-letter 98 ∷ line (Sequence 1 2) ∷ line (Alternative 0 3) ∷ one-letter 98 ∷ line (Leaf-node Nothing)
+      ∷ line (Alternative 5 6) ∷ line (Sequence 4 7) ∷ replicate 55 blank;
 }
 
 obeys-P4 : obeys P4 ≡ true
@@ -109,4 +111,5 @@ C6-not-handed-back x s e =
     let other : Equal (0 ∷ []) (192 ∷ []) 2 2 → ⊥ = λ q. let z : _≡_ {A = ℕ} 0 192 = ap (λ l. getD l 0 0) (q .1) in omega arith in
     false≢true
     (sym later-C6
-    ∙ handed-back P4 obeys-P4 C6 x s e .first (0 ∷ []) 2 (record { small = small-byte 0 (omega arith); whole = whole-00 }) (spells-00 ∙ sym spells-C6) solid-00 other)
+    ∙ handed-back P4 obeys-P4 C6 x s e .first (0 ∷ []) 2 (record { small = small-byte 0 (omega arith); whole = whole-00 })
+    (spells-00 ∙ sym spells-C6) solid-00 other)

@@ -41,7 +41,9 @@ module _ (p : Pattern) (good : obeys p ≡ true) (tape : List ℕ) (few : length
       ap (spelled (root p)) (held-pack 8 (omega arith) bits ∙ sym e) ∙ spelled-greedy (root p) tape r
 
 -- what a whole code spells can be read
-pub letters-readable : (p : Pattern) (code : List ℕ) (count : ℕ) → whole-code (root p) code count ≡ true → readable (root p) (letters-of (root p) code count) ≡ true
+pub letters-readable : (p : Pattern) (code : List ℕ) (count : ℕ) → whole-code (root p) code count ≡ true
+    → readable (root p) (letters-of (root p) code count) ≡ true
 unfolding whole-code letters-of
 letters-readable p code count w =
-    code-readable (root p) (held 8 code count) (is-code-iff (root p) (held 8 code count) .0 (and-snd (handed-good code count) (is-code (root p) (held 8 code count)) w))
+    code-readable (root p) (held 8 code count)
+    (is-code-iff (root p) (held 8 code count) .0 (and-snd (handed-good code count) (is-code (root p) (held 8 code count)) w))

@@ -1,9 +1,8 @@
 // Settling a code: it is spelled, and what it spells is read. 01: the settled code; here: the canonical code.
-ghost use mathlib.Core.Path.{_≡_};
-ghost use Rattle.canonical.specs.Canonicalize.{Canonicalizes, passed-flattened, passed-parsed};
-
-pub mod agree; // agree.rt: the third demand on one run
-
+ghost use Prim.Native.Nat.{_≤_};
+ghost use Rattle.codes.specs.Flatten.{flattened-answer};
+ghost use Rattle.parser.specs.Parse.{parsed-answer};
+ghost use Rattle.canonical.specs.Canonicalize.{Canonicalizes, Unspelled, Unread};
 use codes::Flattened;
 use codes::flatten;
 use parser::Parsed;
@@ -17,24 +16,26 @@ pub enum Canonicalized {
     Refused(Refusal),
 }
 
-// A refusal of spelling, passed on.
-fn pass_flattened(answer: Flattened) -> Canonicalized
-    ensures { λ r. ⌜ r ≡ passed-flattened answer ⌝ }
+// Why a code was not spelled. Nothing but a refusal is handed in.
+fn why_unspelled(answer: Flattened) -> Refusal
+    requires { ⌜ 1 ≤ flattened-answer answer .number ⌝ }
+    ensures { λ r. ⌜ Unspelled answer r ⌝ }
 {
-    match answer {
-        Flattened::Refused(why) => Canonicalized::Refused(why),
-        Flattened::Letters(n) => Canonicalized::Bits(n),
-    }
+    let Flattened::Refused(why) = answer else {
+        return Refusal::NotACode;
+    };
+    why
 }
 
-// A refusal of reading, passed on.
-fn pass_parsed(answer: Parsed) -> Canonicalized
-    ensures { λ r. ⌜ r ≡ passed-parsed answer ⌝ }
+// Why a tape was not read. Nothing but a refusal is handed in.
+fn why_unread(answer: Parsed) -> Refusal
+    requires { ⌜ 1 ≤ parsed-answer answer .number ⌝ }
+    ensures { λ r. ⌜ Unread answer r ⌝ }
 {
-    match answer {
-        Parsed::Refused(why) => Canonicalized::Refused(why),
-        Parsed::Bits(n) => Canonicalized::Bits(n),
-    }
+    let Parsed::Refused(why) = answer else {
+        return Refusal::Unreadable;
+    };
+    why
 }
 
 pub fn canonicalize(
@@ -50,12 +51,12 @@ pub fn canonicalize(
 {
     let flattened = flatten(p, code, count, tape);
     let Flattened::Letters(n) = flattened else {
-        return pass_flattened(flattened);
+        return Canonicalized::Refused(why_unspelled(flattened));
     };
     let k = n as usize;
     let read = parse(p, &tape[..k], words, canonical);
     let Parsed::Bits(bits) = read else {
-        return pass_parsed(read);
+        return Canonicalized::Refused(why_unread(read));
     };
     Canonicalized::Bits(bits)
 }

@@ -1,4 +1,5 @@
 pub mod Packed
 pub mod PackedLaws
+pub mod CellLaws
 pub mod Unloaded
 pub mod SpanParts

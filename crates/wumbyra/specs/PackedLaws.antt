@@ -10,10 +10,11 @@ use lib.Dec.{leb, ltb, eqb}
 use lib.ListN.{length, getD}
 use Rattle.syntax.specs.declared.Pattern.{Pattern}
 use Rattle.refusals.specs.declared.Refusal.{Refusal}
-use Rattle.refusals.specs.declared.Refusal.the-variants.{LineForm, Tree as Tree-fault, TapeTooLong, TapeByte, Unreadable, WordsTooShort, CodeTooShort, NotACode, TapeTooShort, NoSuchVisit}
+use Rattle.refusals.specs.declared.Refusal.the-variants.{TapeByte}
 use Rattle.loading.specs.declared.Loaded.{Loaded}
 use Rattle.syntax.specs.Letter.{first-bad, letter-limit}
 use Rattle.refusals.specs.Refusals.{answer, refused, number}
+use Rattle.refusals.specs.RefusalLaws.{number-positive}
 use Rattle.syntax.specs.Table.{obeys}
 use Rattle.syntax.specs.Trees.{root}
 use Rattle.loading.specs.Load.{load-table, load-answer, outcome-answer, Loads}
@@ -30,7 +31,7 @@ use Rattle.parser.specs.declared.Parsed.{Parsed}
 use Rattle.parser.specs.Parse.{parsed-answer, Parses}
 use Rattle.canonical.specs.declared.Canonicalized.{Canonicalized}
 use Rattle.canonical.specs.Canonicalize.{canonicalized-answer, Canonicalizes}
-use Rattle.wumbyra.specs.Packed.{unpacked, Parses-text, Flattens-text, Canonicalizes-text, shown-answer, span-text, total-text}
+use Rattle.wumbyra.specs.Packed.{unpacked, Parses-text, Flattens-text, Canonicalizes-text, shown-answer, span-text, total-text, in-cells, Totals-text}
 
 -- unpacking takes back what was packed
 pub unpack : (n v : ℕ) → v < 4294967296 → unpacked (n * 4294967296 + v) ≡ answer n v
@@ -48,14 +49,16 @@ module _ (text : List ℕ) (l : Loaded) (h : Loads text l) where
   pub load-packed : (r : ℕ) → unpacked r ≡ outcome-answer (l .outcome) → unpacked r ≡ load-answer text
   load-packed r e = e ∙ h .answers
 
-  pub parse-packed : (tape ws us xs ys : List ℕ) (a : Parsed) → Parses (l .pattern) tape ws us xs ys a → (r : ℕ) → unpacked r ≡ parsed-answer a → Parses-text text tape ws us xs ys r
+  pub parse-packed : (tape ws us xs ys : List ℕ) (a : Parsed) → Parses (l .pattern) tape ws us xs ys a → (r : ℕ) → unpacked r ≡ parsed-answer a
+      → Parses-text text tape ws us xs ys r
   parse-packed tape ws us xs ys a p r e = record {
     parsed = a;
     answers = e;
     parses = subst (λ t. Parses t tape ws us xs ys a) (h .gives) p;
   }
 
-  pub flatten-packed : (code : List ℕ) (count : ℕ) (ts us : List ℕ) (a : Flattened) → Flattens (l .pattern) code count ts us a → (r : ℕ) → unpacked r ≡ flattened-answer a → Flattens-text text code count ts us r
+  pub flatten-packed : (code : List ℕ) (count : ℕ) (ts us : List ℕ) (a : Flattened) → Flattens (l .pattern) code count ts us a → (r : ℕ)
+      → unpacked r ≡ flattened-answer a → Flattens-text text code count ts us r
   flatten-packed code count ts us a p r e =
       let q = subst (λ t. Flattens t code count ts us a) (h .gives) p in
       record { answers = e ∙ q .answers; leaves = q .leaves }
@@ -77,9 +80,17 @@ module _ (text : List ℕ) (l : Loaded) (h : Loads text l) where
       let q = subst (λ t. Totals t code count a) (h .gives) p in
       e ∙ ap₂ (λ x y. answer (x .number) (getD y account 0)) (q .answers) (q .gives)
 
+  pub totals-packed :
+      (code : List ℕ) (count : ℕ) (a : Totalled) → Totals (l .pattern) code count a → (cells after : List ℕ) → after ≡ in-cells (a .litres) cells
+      → (r : ℕ) → unpacked r ≡ totals-outcome (a .outcome) → Totals-text text code count cells after r
+  totals-packed code count a p cells after e r f =
+      let q = subst (λ t. Totals t code count a) (h .gives) p in
+      record { answers = f ∙ q .answers; leaves = e ∙ ap (λ ls. in-cells ls cells) (q .gives) }
+
 -- ── spans ──
 -- number 0 is answered only for a visit that there is, of a tape that is not too long
-answered : (o h b : Bool) (i : ℕ) (w : Bool) (v : Option Visit) → (cond o (cond h (cond b (refused (TapeByte i)) (cond w (visit-answer v) no-code)) too-long) bad-table) .number ≡ 0
+answered : (o h b : Bool) (i : ℕ) (w : Bool) (v : Option Visit)
+    → (cond o (cond h (cond b (refused (TapeByte i)) (cond w (visit-answer v) no-code)) too-long) bad-table) .number ≡ 0
     → (h ≡ true) × ((x : Visit) × (v ≡ some x))
 answered false h b i w v e = absurd (omega arith)
 answered true false b i w v e = absurd (omega arith)
@@ -87,18 +98,6 @@ answered true true true i w v e = absurd (omega arith)
 answered true true false i false v e = absurd (omega arith)
 answered true true false i true none e = absurd (omega arith)
 answered true true false i true (some x) e = (refl, (x, refl))
-
-positive : (r : Refusal) → 1 ≤ number r
-positive (LineForm l) = omega arith
-positive (Tree-fault l) = omega arith
-positive TapeTooLong = omega arith
-positive (TapeByte i) = omega arith
-positive Unreadable = omega arith
-positive (WordsTooShort n) = omega arith
-positive (CodeTooShort n) = omega arith
-positive NotACode = omega arith
-positive (TapeTooShort n) = omega arith
-positive NoSuchVisit = omega arith
 
 module _ (p : Pattern) (tape code : List ℕ) (count l k : ℕ) (s : Spanned) (h : Spans p tape code count l k s) where
   shown-zero : s .outcome ≡ Shown → span-answer p tape code count l k .number ≡ 0
@@ -108,16 +107,21 @@ module _ (p : Pattern) (tape code : List ℕ) (count l k : ℕ) (s : Spanned) (h
   pub shown-small : s .outcome ≡ Shown → s .start + s .length ≤ letter-limit
   unfolding span-answer
   shown-small e =
-      let (a, v) = answered (obeys p) (leb (length tape) letter-limit) (ltb (first-bad tape) (length tape)) (first-bad tape) (code-of-tape (root p) tape code count) (span-visit p code count l k) (shown-zero e) in
+      let (a, v) =
+      answered (obeys p) (leb (length tape) letter-limit) (ltb (first-bad tape) (length tape)) (first-bad tape)
+      (code-of-tape (root p) tape code count) (span-visit p code count l k) (shown-zero e) in
       omega (arith, part p tape code count l k s h .fits, leb-true (length tape) letter-limit a)
 
   span-some : s .outcome ≡ Shown → (x : Visit) × (span-shown p tape code count l k ≡ some x)
   unfolding span-answer span-shown
   span-some e =
-      let (a, (x, q)) = answered (obeys p) (leb (length tape) letter-limit) (ltb (first-bad tape) (length tape)) (first-bad tape) (code-of-tape (root p) tape code count) (span-visit p code count l k) (shown-zero e) in
+      let (a, (x, q)) =
+      answered (obeys p) (leb (length tape) letter-limit) (ltb (first-bad tape) (length tape)) (first-bad tape)
+      (code-of-tape (root p) tape code count) (span-visit p code count l k) (shown-zero e) in
       (x, ap (λ n. cond (eqb n 0) (span-visit p code count l k) none) (shown-zero e) ∙ q)
 
-  span-shows : s .outcome ≡ Shown → answer 0 (s .start * 65536 + s .length) ≡ shown-answer (span-answer p tape code count l k) (span-shown p tape code count l k)
+  span-shows : s .outcome ≡ Shown
+      → answer 0 (s .start * 65536 + s .length) ≡ shown-answer (span-answer p tape code count l k) (span-shown p tape code count l k)
   span-shows e =
       let (x, q) = span-some e in
       ap₂ (λ i n. answer 0 (i * 65536 + n)) (h .starts ∙ ap start-of q) (h .lengths ∙ ap size-of q)
@@ -127,10 +131,12 @@ module _ (p : Pattern) (tape code : List ℕ) (count l k : ℕ) (s : Spanned) (h
   unfolding span-shown
   span-refuses why e =
       let a : refused why ≡ span-answer p tape code count l k = sym (ap span-outcome e) ∙ h .answers in
-      let n : eqb (span-answer p tape code count l k .number) 0 ≡ false = sym (ap (λ x. eqb (x .number) 0) a) ∙ ne-eqb (number why) 0 (λ z. omega (arith, positive why)) in
+      let n : eqb (span-answer p tape code count l k .number) 0 ≡ false =
+      sym (ap (λ x. eqb (x .number) 0) a) ∙ ne-eqb (number why) 0 (λ z. omega (arith, number-positive why)) in
       a ∙ sym (ap (λ b. shown-answer (span-answer p tape code count l k) (cond b (span-visit p code count l k) none)) n)
 
-module _ (text : List ℕ) (t : Loaded) (g : Loads text t) (tape code : List ℕ) (count l k : ℕ) (s : Spanned) (h : Spans (t .pattern) tape code count l k s) (r : ℕ) where
+module _ (text : List ℕ) (t : Loaded) (g : Loads text t) (tape code : List ℕ) (count l k : ℕ) (s : Spanned)
+    (h : Spans (t .pattern) tape code count l k s) (r : ℕ) where
   moved : Spans (load-table text) tape code count l k s
   moved = subst (λ p. Spans p tape code count l k s) (g .gives) h
 

@@ -38,7 +38,9 @@ module _ (p : Pattern) (tape code : List ℕ) (count l k : ℕ) (x : Visit) (e :
 
   shown-is : (leb (length tape) letter-limit ≡ true) × (span-answer p tape code count l k ≡ answer 0 0)
   unfolding span-shown span-answer
-  shown-is = shown-by (obeys p) (leb (length tape) letter-limit) (ltb (first-bad tape) (length tape)) (first-bad tape) (code-of-tape (root p) tape code count) (span-visit p code count l k) x e
+  shown-is =
+      shown-by (obeys p) (leb (length tape) letter-limit) (ltb (first-bad tape) (length tape)) (first-bad tape)
+      (code-of-tape (root p) tape code count) (span-visit p code count l k) x e
 
   shown-spans : Spans p tape code count l k shown
   unfolding shown

@@ -12,10 +12,10 @@ use Rattle.loading.specs.Text.{rows, Forms, good, fault, forms}
 use Rattle.syntax.specs.Table.{no-lines, obeys, tree-fault}
 use Rattle.loading.specs.Load.{table, tree-answer, forms-answer, tree-table, forms-table, load-answer, load-table}
 use Rattle.codes.specs.Flatten.{flatten-answer}
-use Rattle.codes.specs.Totals.{totals-answer, totals-litres}
+use Rattle.codes.specs.Totals.{no-litres, totals-answer, totals-litres}
 use Rattle.spans.specs.Spans.{span-answer, span-shown}
 use Rattle.parser.specs.Parse.{early}
-use Rattle.wumbyra.specs.Packed.{span-text, total-text}
+use Rattle.wumbyra.specs.Packed.{unpacked, span-text, total-text, in-cells, Totals-text}
 
 by-tree : (p : Pattern) (o : Option ℕ) → 1 ≤ tree-answer p o .number → tree-table p o ≡ no-lines
 by-tree p none h = absurd (omega arith)
@@ -55,3 +55,9 @@ module _ (text : List ℕ) (h : 1 ≤ load-answer text .number) where
   pub total-unloaded : (code : List ℕ) (count a : ℕ) → total-text text code count a ≡ answer 2 0
   unfolding total-text totals-answer totals-litres
   total-unloaded code count a = rw (not-obeyed, zeros 10 a)
+
+  -- and every total that is lent is 0
+  pub totals-unloaded : (code : List ℕ) (count : ℕ) (cells after : List ℕ) (r : ℕ) → Totals-text text code count cells after r
+      → (unpacked r ≡ answer 2 0) × (after ≡ in-cells no-litres cells)
+  unfolding totals-answer totals-litres
+  totals-unloaded code count cells after r t = (t .answers ∙ rw not-obeyed refl, t .leaves ∙ ap (λ ls. in-cells ls cells) (rw not-obeyed refl))

@@ -1,6 +1,7 @@
 // The services for callers from C, each on a pattern's text. An answer is one number: the cause's number (0: none) in its
 // upper 32 bits, the value beside it in the lower 32. A slice is passed as a pointer and a length.
 ghost use mathlib.Core.Path.{_≡_};
+ghost use Prim.Native.Nat.{min};
 ghost use lib.ListN.{getD};
 ghost use Rattle.refusals.specs.Refusals.{answer, refused};
 ghost use Rattle.loading.specs.Load.{outcome-answer, load-answer};
@@ -8,7 +9,7 @@ ghost use Rattle.codes.specs.Flatten.{flattened-answer};
 ghost use Rattle.codes.specs.Totals.{totals-outcome};
 ghost use Rattle.parser.specs.Parse.{parsed-answer};
 ghost use Rattle.canonical.specs.Canonicalize.{canonicalized-answer};
-ghost use Rattle.wumbyra.specs.Packed.{unpacked, Parses-text, Flattens-text, Canonicalizes-text, span-text, total-text};
+ghost use Rattle.wumbyra.specs.Packed.{version-number, unpacked, Parses-text, Flattens-text, Canonicalizes-text, span-text, total-text, in-cells, Totals-text};
 use canonical::Canonicalized;
 use canonical::canonicalize;
 use codes::Flattened;
@@ -24,6 +25,22 @@ use refusals::number_of;
 use refusals::value_of;
 use spans::SpanOutcome;
 use spans::span;
+
+// The version of the interface. A change that a caller may notice raises one of these numbers, and the header's with it.
+const VERSION_MAJOR: u32 = 1;
+
+const VERSION_MINOR: u32 = 0;
+
+const VERSION_PATCH: u32 = 0;
+
+const VERSION_NUMBER: u32 = VERSION_MAJOR * 10000 + VERSION_MINOR * 100 + VERSION_PATCH;
+
+#[no_mangle]
+pub extern "C" fn wumbyra_version() -> u32
+    ensures { λ r. ⌜ r ≡ version-number ⌝ }
+{
+    VERSION_NUMBER
+}
 
 fn packed(number: u32, value: u32) -> u64
     ensures { λ r. ⌜ unpacked r ≡ answer number value ⌝ }
@@ -73,6 +90,15 @@ fn of_canonicalized(canonicalized: Canonicalized) -> u64
     }
 }
 
+fn of_totals(outcome: TotalsOutcome) -> u64
+    ensures { λ r. ⌜ unpacked r ≡ totals-outcome outcome ⌝ }
+{
+    match outcome {
+        TotalsOutcome::Added => packed(0, 0),
+        TotalsOutcome::Refused(why) => of_refusal(why),
+    }
+}
+
 fn totals_number(outcome: TotalsOutcome) -> u32
     ensures { λ r. ⌜ r ≡ totals-outcome outcome .number ⌝ }
 {
@@ -91,6 +117,24 @@ fn litres_of(litres: &[u32], account: u32) -> u32
         return 0;
     }
     litres[i]
+}
+
+fn least(a: usize, b: usize) -> usize
+    ensures { λ r. ⌜ r ≡ min a b ⌝ }
+{
+    if a < b { a } else { b }
+}
+
+// As many totals as there are cells, from account 0 on. The cells behind them are left as they are.
+fn put_totals(totals: &[u32], cells: &mut [u32])
+    ensures { λ _. ⌜ now (cells .exit) ≡ in-cells (now (totals .entry)) (now (cells .entry)) ⌝ }
+{
+    let n = least(totals.len(), cells.len());
+    let mut i = 0;
+    while i < n {
+        cells[i] = totals[i];
+        i += 1;
+    }
 }
 
 #[no_mangle]
@@ -168,4 +212,16 @@ pub extern "C" fn wumbyra_total(text: &[u8], code: &[u8], count: u32, account: u
     let outcome = totalled.outcome;
     let litres = totalled.litres;
     packed(totals_number(outcome), litres_of(&litres, account))
+}
+
+#[no_mangle]
+pub extern "C" fn wumbyra_totals(text: &[u8], code: &[u8], count: u32, litres: &mut [u32]) -> u64
+    ensures { λ r. ⌜ Totals-text (now (text .entry)) (now (code .entry)) count (now (litres .entry)) (now (litres .exit)) r ⌝ }
+{
+    let loaded = load(text);
+    let all = totals(loaded.pattern, code, count);
+    let outcome = all.outcome;
+    let added = all.litres;
+    put_totals(&added, litres);
+    of_totals(outcome)
 }

@@ -25,12 +25,14 @@ pub struct Case {
     pub node: u32,
     pub visit: u32,
     pub account: u32,
-    /// Cells lent: to `parse` words and bytes, to `flatten` and `canonicalize` letters, to `canonicalize` words and bytes.
+    /// Cells lent: to `parse` words and bytes, to `flatten` and `canonicalize` letters, to `canonicalize` words and bytes, to
+    /// `totals` one for each account.
     pub parse_words: usize,
     pub parse_bytes: usize,
     pub letters: usize,
     pub words: usize,
     pub bytes: usize,
+    pub accounts: usize,
     /// What the buffers hold before a call.
     pub filling: u64,
 }
@@ -243,6 +245,7 @@ fn finished(rng: &mut Prng, text: Vec<u8>, tape: Vec<u8>, code: Code) -> Case {
         letters: 0,
         words: 0,
         bytes: 0,
+        accounts: 0,
         filling: rng.number(),
     };
     let mut nodes = 64;
@@ -269,6 +272,7 @@ fn finished(rng: &mut Prng, text: Vec<u8>, tape: Vec<u8>, code: Code) -> Case {
     case.letters = lent(rng, letters_needed);
     case.words = lent(rng, 2 * (letters_needed + 1));
     case.bytes = lent(rng, bytes);
+    case.accounts = lent(rng, 10);
     case.node = match rng.below(12) {
         0 => *rng.pick(&[64, 65, 256, u32::MAX]),
         _ => rng.below(nodes + 1) as u32,

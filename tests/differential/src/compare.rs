@@ -12,11 +12,19 @@ const CANARIES: usize = 8;
 /// Bytes of a code that is walked for every node.
 const SHORT: usize = 64;
 
-pub const CALLS: [&str; 6] = ["load", "parse", "flatten", "canonicalize", "span", "total"];
+pub const CALLS: [&str; 7] = [
+    "load",
+    "parse",
+    "flatten",
+    "canonicalize",
+    "span",
+    "total",
+    "totals",
+];
 
 /// How often each call answered each number, 0 to 10.
 #[derive(Clone, Default)]
-pub struct Counts(pub [[u64; 11]; 6]);
+pub struct Counts(pub [[u64; 11]; 7]);
 
 impl Counts {
     pub fn calls(&self) -> u64 {
@@ -92,6 +100,7 @@ pub fn compare(case: &Case, counts: &mut Counts) -> Result<(), String> {
     run.canonicalize()?;
     run.span()?;
     run.total()?;
+    run.totals()?;
     if before != (case.text.clone(), case.tape.clone(), case.code.clone()) {
         return Err("text, tape or code was changed".into());
     }
@@ -212,6 +221,24 @@ impl Run<'_> {
             let proved = calls::total(&case.text, &case.code, case.count, account);
             let litres = |totals: [u64; 10]| totals.get(account as usize).copied().unwrap_or(0);
             self.answered(5, proved, packed(expected.map(litres)))?;
+        }
+        Ok(())
+    }
+
+    fn totals(&mut self) -> Result<(), String> {
+        let case = self.case;
+        // The case's own cells, and none, one short, all and one more.
+        for cells in [case.accounts, 0, 9, 10, 11] {
+            let mut litres = Lent::new(cells, || self.fill.number() as u32);
+            let proved = calls::totals(&case.text, &case.code, case.count, litres.proved());
+            let expected = totals::totals_into(
+                &self.table,
+                &case.code,
+                u64::from(case.count),
+                litres.expected(),
+            );
+            self.answered(6, proved, packed(expected))?;
+            litres.same("totals", "litres")?;
         }
         Ok(())
     }

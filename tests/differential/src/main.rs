@@ -11,6 +11,19 @@ use compare::{compare, Counts, CALLS};
 use std::path::Path;
 use wumbyra_reference::prng::Prng;
 
+/// The header's version: the numbers of its three macros.
+fn header_version() -> u32 {
+    let header = include_str!("../../../include/wumbyra.h");
+    let part = |name: &str| -> u32 {
+        let line = format!("#define WUMBYRA_VERSION_{name} ");
+        let number = header.lines().find_map(|text| text.strip_prefix(&line));
+        number
+            .and_then(|n| n.parse().ok())
+            .expect("a macro with a number")
+    };
+    part("MAJOR") * 10_000 + part("MINOR") * 100 + part("PATCH")
+}
+
 fn main() {
     let words: Vec<String> = std::env::args().skip(1).collect();
     let [cases, seed, folder] = &words[..] else {
@@ -20,6 +33,14 @@ fn main() {
     let cases: u64 = cases.parse().expect("a number of cases");
     let seed: u64 = seed.parse().expect("a seed, in decimal");
     println!("cases {cases}, seed {seed}");
+    if calls::version() != header_version() {
+        println!(
+            "version: answered {}, the header has {}",
+            calls::version(),
+            header_version()
+        );
+        std::process::exit(1);
+    }
     let mut counts = Counts::default();
     let mut seeds = Prng::new(seed);
     for index in 0..cases {
@@ -63,7 +84,7 @@ fn report(case: &Case, folder: &Path) {
         .collect();
     let rest = format!(
         "{words}\nbits {}\nown tape {}\nnode {} visit {} account {}\n\
-         parse: words {} bytes {}\nletters {} words {} bytes {}\nfilling {}\n",
+         parse: words {} bytes {}\nletters {} words {} bytes {} accounts {}\nfilling {}\n",
         small.count,
         small.own_tape,
         small.node,
@@ -74,6 +95,7 @@ fn report(case: &Case, folder: &Path) {
         small.letters,
         small.words,
         small.bytes,
+        small.accounts,
         small.filling
     );
     let files: [(&str, Vec<u8>); 4] = [

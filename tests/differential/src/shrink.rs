@@ -64,12 +64,13 @@ fn candidates(case: &Case) -> Vec<Case> {
     for code in shorter(&case.code) {
         add(&|smaller| smaller.code = code.clone());
     }
-    let fields: [fn(&mut Case) -> &mut usize; 5] = [
+    let fields: [fn(&mut Case) -> &mut usize; 6] = [
         |case| &mut case.parse_words,
         |case| &mut case.parse_bytes,
         |case| &mut case.letters,
         |case| &mut case.words,
         |case| &mut case.bytes,
+        |case| &mut case.accounts,
     ];
     for field in fields {
         add(&|smaller| *field(smaller) = 0);

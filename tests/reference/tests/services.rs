@@ -12,7 +12,7 @@ use wumbyra_reference::prng::Prng;
 use wumbyra_reference::services::reading::{open_counts, parse};
 use wumbyra_reference::services::settling::canonicalize;
 use wumbyra_reference::services::spelling::flatten;
-use wumbyra_reference::services::totals::totals;
+use wumbyra_reference::services::totals::{totals, totals_into};
 use wumbyra_reference::services::visits::{piece, span, Span};
 use wumbyra_reference::table::{Kind, Node, Refusal, Table};
 
@@ -367,4 +367,26 @@ fn open_counts_of_the_listing() {
         open_counts(&listing, &[b' '; 3_601]),
         Err(Refusal::new(3, 0))
     );
+}
+
+#[test]
+fn totals_go_into_as_many_cells_as_are_lent() {
+    let listing = table(LISTING);
+    let (code, expected) = ([0x4c, 0xc3, 0x28], [0, 3, 0, 0, 0, 0, 0, 0, 0, 2]);
+    for cells in 0..13 {
+        let written = cells.min(10);
+        let mut litres = [77; 13];
+        assert_eq!(
+            totals_into(&listing, &code, 21, &mut litres[..cells]),
+            Ok(0)
+        );
+        assert_eq!(litres[..written], expected[..written]);
+        assert!(litres[written..].iter().all(|cell| *cell == 77));
+        assert_eq!(
+            totals_into(&listing, &code, 20, &mut litres[..cells]),
+            Err(Refusal::new(8, 0))
+        );
+        assert!(litres[..written].iter().all(|cell| *cell == 0));
+        assert!(litres[written..].iter().all(|cell| *cell == 77));
+    }
 }

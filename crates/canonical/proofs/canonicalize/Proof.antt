@@ -1,7 +1,7 @@
 -- `canonical::canonicalize` meets its contract.
-use Rattle.canonical.specs.CanonicalLaws.{laid, laid-room, settle-refused, settle-read, read-answer}
+use Rattle.canonical.specs.CanonicalLaws.{refusal-flattened, refusal-parsed, laid, laid-room, settle-refused, read-bits, read-refused, settle-read}
 use lib.Seq.{length-take-le}
-use mathlib.Core.Path.{sym, ap}
+use mathlib.Core.Path.{sym}
 use borrow.Author.Needs.{needs}
 use Rattle.canonical.proofs.canonicalize.Statement.{statement}
 use Rattle.canonical.proofs.canonicalize.Tie as tie
@@ -15,23 +15,36 @@ enum-known-flattened c = search needs
 enum-told : tie.Need-enum-told
 enum-told c = search needs
 
-pass-flattened-requires : tie.Need-pass-flattened-requires
-pass-flattened-requires c κs = search needs
+why-unspelled-requires : tie.Need-why-unspelled-requires
+why-unspelled-requires c κs = refusal-flattened _ _ (c .enum-told .given .1)
 
 same-length : tie.Need-same-length
 same-length c = search needs
 
 returns : tie.Need-returns
-returns c = rw (c .pass-flattened .ensures) (settle-refused _ (c .before .before .before .before .before .before .before .before .before .before .before .args .code .now) _ (c .before .before .before .before .before .before .before .before .before .before .before .args .tape .now) _ _ (c .before .before .before .before .before .flatten .ensures) _ _ _ (c .before .enum-told .given .1))
+returns c =
+    let spelled = c .before .before .before .before .before in
+    let start = spelled .before .before .before .before .before .before in
+    settle-refused _ (start .args .code .now) _ (start .args .tape .now) _ _ (spelled .flatten .ensures) _ _ _ (c .why-unspelled .ensures)
 
 cast-k : tie.Need-cast-k
 cast-k c = search needs
 
 slice-reshare-prefix-parse : tie.Need-slice-reshare-prefix-parse
-slice-reshare-prefix-parse c = laid-room _ (c .before .before .before .before .before .before .before .before .before .before .before .args .code .now) _ (c .before .before .before .before .before .before .before .before .before .before .before .args .tape .now) _ _ (laid _ (c .before .before .before .before .before .before .before .before .before .before .before .args .code .now) _ (c .before .before .before .before .before .before .before .before .before .before .before .args .tape .now) _ _ (c .before .before .before .before .before .flatten .ensures) _ (c .before .flattened .given .1))
+slice-reshare-prefix-parse c =
+    let told = c .before in
+    let spelled = told .before .before .before .before in
+    let start = spelled .before .before .before .before .before .before in
+    laid-room _ (start .args .code .now) _ (start .args .tape .now) _ _
+    (laid _ (start .args .code .now) _ (start .args .tape .now) _ _ (spelled .flatten .ensures) _ (told .flattened .given .1))
 
 slice-aggregate-parse : tie.Need-slice-aggregate-parse
-slice-aggregate-parse c = sym (length-take-le _ _ (laid-room _ (c .before .before .before .before .before .before .before .before .before .before .before .before .args .code .now) _ (c .before .before .before .before .before .before .before .before .before .before .before .before .args .tape .now) _ _ (laid _ (c .before .before .before .before .before .before .before .before .before .before .before .before .args .code .now) _ (c .before .before .before .before .before .before .before .before .before .before .before .before .args .tape .now) _ _ (c .before .before .before .before .before .before .flatten .ensures) _ (c .before .before .flattened .given .1))))
+slice-aggregate-parse c =
+    let told = c .before .before in
+    let spelled = told .before .before .before .before in
+    let start = spelled .before .before .before .before .before .before in
+    sym (length-take-le _ _ (laid-room _ (start .args .code .now) _ (start .args .tape .now) _ _
+    (laid _ (start .args .code .now) _ (start .args .tape .now) _ _ (spelled .flatten .ensures) _ (told .flattened .given .1))))
 
 parse-requires : tie.Need-parse-requires
 parse-requires c κs = search needs
@@ -42,8 +55,8 @@ enum-known-read c = search needs
 enum-told-2 : tie.Need-enum-told-2
 enum-told-2 c = search needs
 
-pass-parsed-requires : tie.Need-pass-parsed-requires
-pass-parsed-requires c κs = search needs
+why-unread-requires : tie.Need-why-unread-requires
+why-unread-requires c κs = refusal-parsed _ _ (c .enum-told2 .given .1)
 
 same-length-2 : tie.Need-same-length-2
 same-length-2 c = search needs
@@ -55,7 +68,14 @@ same-length-4 : tie.Need-same-length-4
 same-length-4 c = search needs
 
 returns-2 : tie.Need-returns-2
-returns-2 c = rw (c .pass-parsed .ensures) (settle-read _ (c .before .before .before .before .before .before .before .before .before .before .before .before .before .before .before .before .before .before .before .before .before .before .args .code .now) _ (c .before .before .before .before .before .before .before .before .before .before .before .before .before .before .before .before .before .before .before .before .before .before .args .tape .now) _ _ (laid _ (c .before .before .before .before .before .before .before .before .before .before .before .before .before .before .before .before .before .before .before .before .before .before .args .code .now) _ (c .before .before .before .before .before .before .before .before .before .before .before .before .before .before .before .before .before .before .before .before .before .before .args .tape .now) _ _ (c .before .before .before .before .before .before .before .before .before .before .before .before .before .before .before .before .flatten .ensures) _ (c .before .before .before .before .before .before .before .before .before .before .before .before .flattened .given .1)) _ _ _ _ _ (c .before .before .before .before .before .before .before .parse .ensures))
+returns-2 c =
+    let read = c .before .before .before .before .before .before .before in
+    let told = read .before .before .before .before .before in
+    let spelled = told .before .before .before .before in
+    let start = spelled .before .before .before .before .before .before in
+    settle-read _ (start .args .code .now) _ (start .args .tape .now) _ _
+    (laid _ (start .args .code .now) _ (start .args .tape .now) _ _ (spelled .flatten .ensures) _ (told .flattened .given .1))
+    _ _ _ _ _ (read .parse .ensures) _ (read-refused _ _ (c .why-unread .ensures))
 
 same-length-5 : tie.Need-same-length-5
 same-length-5 c = search needs
@@ -67,7 +87,14 @@ same-length-7 : tie.Need-same-length-7
 same-length-7 c = search needs
 
 returns-3 : tie.Need-returns-3
-returns-3 c = rw (read-answer _ _ (c .before .read .given .1)) at (settle-read _ (c .before .before .before .before .before .before .before .before .before .before .before .before .before .before .before .before .before .before .before .before .before .before .args .code .now) _ (c .before .before .before .before .before .before .before .before .before .before .before .before .before .before .before .before .before .before .before .before .before .before .args .tape .now) _ _ (laid _ (c .before .before .before .before .before .before .before .before .before .before .before .before .before .before .before .before .before .before .before .before .before .before .args .code .now) _ (c .before .before .before .before .before .before .before .before .before .before .before .before .before .before .before .before .before .before .before .before .before .before .args .tape .now) _ _ (c .before .before .before .before .before .before .before .before .before .before .before .before .before .before .before .before .flatten .ensures) _ (c .before .before .before .before .before .before .before .before .before .before .before .before .flattened .given .1)) _ _ _ _ _ (c .before .before .before .before .before .before .before .parse .ensures))
+returns-3 c =
+    let read = c .before .before .before .before .before .before .before in
+    let told = read .before .before .before .before .before in
+    let spelled = told .before .before .before .before in
+    let start = spelled .before .before .before .before .before .before in
+    settle-read _ (start .args .code .now) _ (start .args .tape .now) _ _
+    (laid _ (start .args .code .now) _ (start .args .tape .now) _ _ (spelled .flatten .ensures) _ (told .flattened .given .1))
+    _ _ _ _ _ (read .parse .ensures) _ (read-bits _ _ (c .before .read .given .1))
 
 pub canonicalize-spec : {M : Type 1} → statement M
 canonicalize-spec =
@@ -76,7 +103,7 @@ canonicalize-spec =
     flatten-requires
     enum-known-flattened
     enum-told
-    pass-flattened-requires
+    why-unspelled-requires
     same-length
     returns
     cast-k
@@ -85,7 +112,7 @@ canonicalize-spec =
     parse-requires
     enum-known-read
     enum-told-2
-    pass-parsed-requires
+    why-unread-requires
     same-length-2
     same-length-3
     same-length-4

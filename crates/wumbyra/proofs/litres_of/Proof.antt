@@ -1,4 +1,4 @@
--- `capi::litres_of` meets its contract.
+-- `wumbyra::litres_of` meets its contract.
 use mathlib.Core.Path.{sym}
 use lib.ListN.{List·getD-eq-default}
 use borrow.Author.Needs.{needs}

@@ -1,4 +1,4 @@
--- `capi::of_canonicalized` meets its contract.
+-- `wumbyra::of_canonicalized` meets its contract.
 use mathlib.Core.Path.{sym, ap, _∙_}
 use Rattle.canonical.specs.Canonicalize.{canonicalized-answer}
 use borrow.Author.Needs.{needs}

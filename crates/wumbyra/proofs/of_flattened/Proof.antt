@@ -1,4 +1,4 @@
--- `capi::of_flattened` meets its contract.
+-- `wumbyra::of_flattened` meets its contract.
 use mathlib.Core.Path.{sym, ap, _∙_}
 use Rattle.codes.specs.Flatten.{flattened-answer}
 use borrow.Author.Needs.{needs}

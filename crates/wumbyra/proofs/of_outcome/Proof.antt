@@ -1,4 +1,4 @@
--- `capi::of_outcome` meets its contract.
+-- `wumbyra::of_outcome` meets its contract.
 use mathlib.Core.Path.{sym, ap, _∙_}
 use Rattle.loading.specs.Load.{outcome-answer}
 use borrow.Author.Needs.{needs}

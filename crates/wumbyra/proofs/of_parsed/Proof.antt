@@ -1,4 +1,4 @@
--- `capi::of_parsed` meets its contract.
+-- `wumbyra::of_parsed` meets its contract.
 use mathlib.Core.Path.{sym, ap, _∙_}
 use Rattle.parser.specs.Parse.{parsed-answer}
 use borrow.Author.Needs.{needs}

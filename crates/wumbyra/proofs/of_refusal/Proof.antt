@@ -1,4 +1,4 @@
--- `capi::of_refusal` meets its contract.
+-- `wumbyra::of_refusal` meets its contract.
 use mathlib.Core.Path.{ap₂, _∙_}
 use Rattle.refusals.specs.Refusals.{answer}
 use borrow.Author.Needs.{needs}

@@ -1,4 +1,4 @@
--- `capi::packed` meets its contract.
+-- `wumbyra::packed` meets its contract.
 use Rattle.wumbyra.specs.PackedLaws.{unpack}
 use native.Mathlib.Omega.{arith}
 use borrow.Author.Needs.{needs}

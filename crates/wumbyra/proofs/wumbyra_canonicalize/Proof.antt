@@ -1,4 +1,4 @@
--- `capi::wumbyra_canonicalize` meets its contract.
+-- `wumbyra::wumbyra_canonicalize` meets its contract.
 use Rattle.wumbyra.specs.PackedLaws.{canonicalize-packed}
 use borrow.Author.Needs.{needs}
 use Rattle.wumbyra.proofs.wumbyra_canonicalize.Statement.{statement}
@@ -23,7 +23,10 @@ same-length-3 : tie.Need-same-length-3
 same-length-3 c = search needs
 
 returns : tie.Need-returns
-returns c = canonicalize-packed _ _ (c .before .before .before .before .before .before .before .before .before .before .before .load .ensures) _ _ _ _ _ _ _ _ _ (c .before .before .before .before .before .before .before .canonicalize .ensures) _ (c .of-canonicalized .ensures)
+returns c =
+    let c7 = c .before .before .before .before .before .before .before in
+    let c11 = c7 .before .before .before .before in
+    canonicalize-packed _ _ (c11 .load .ensures) _ _ _ _ _ _ _ _ _ (c7 .canonicalize .ensures) _ (c .of-canonicalized .ensures)
 
 pub wumbyra-canonicalize-spec : {M : Type 1} → statement M
 wumbyra-canonicalize-spec =

@@ -1,4 +1,4 @@
--- `capi::wumbyra_flatten` meets its contract.
+-- `wumbyra::wumbyra_flatten` meets its contract.
 use Rattle.wumbyra.specs.PackedLaws.{flatten-packed}
 use borrow.Author.Needs.{needs}
 use Rattle.wumbyra.proofs.wumbyra_flatten.Statement.{statement}
@@ -17,7 +17,10 @@ same-length : tie.Need-same-length
 same-length c = search needs
 
 returns : tie.Need-returns
-returns c = flatten-packed _ _ (c .before .before .before .before .before .load .ensures) _ _ _ _ _ (c .before .before .before .flatten .ensures) _ (c .of-flattened .ensures)
+returns c =
+    let c3 = c .before .before .before in
+    let c5 = c3 .before .before in
+    flatten-packed _ _ (c5 .load .ensures) _ _ _ _ _ (c3 .flatten .ensures) _ (c .of-flattened .ensures)
 
 pub wumbyra-flatten-spec : {M : Type 1} → statement M
 wumbyra-flatten-spec =

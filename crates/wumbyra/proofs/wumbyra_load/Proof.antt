@@ -1,4 +1,4 @@
--- `capi::wumbyra_load` meets its contract.
+-- `wumbyra::wumbyra_load` meets its contract.
 use Rattle.wumbyra.specs.PackedLaws.{load-packed}
 use borrow.Author.Needs.{needs}
 use Rattle.wumbyra.proofs.wumbyra_load.Statement.{statement}

@@ -1,4 +1,4 @@
--- `capi::wumbyra_parse` meets its contract.
+-- `wumbyra::wumbyra_parse` meets its contract.
 use Rattle.wumbyra.specs.PackedLaws.{parse-packed}
 use borrow.Author.Needs.{needs}
 use Rattle.wumbyra.proofs.wumbyra_parse.Statement.{statement}
@@ -20,7 +20,10 @@ same-length-2 : tie.Need-same-length-2
 same-length-2 c = search needs
 
 returns : tie.Need-returns
-returns c = parse-packed _ _ (c .before .before .before .before .before .before .before .before .load .ensures) _ _ _ _ _ _ (c .before .before .before .before .before .parse .ensures) _ (c .of-parsed .ensures)
+returns c =
+    let c5 = c .before .before .before .before .before in
+    let c8 = c5 .before .before .before in
+    parse-packed _ _ (c8 .load .ensures) _ _ _ _ _ _ (c5 .parse .ensures) _ (c .of-parsed .ensures)
 
 pub wumbyra-parse-spec : {M : Type 1} → statement M
 wumbyra-parse-spec =

@@ -1,4 +1,4 @@
--- `capi::wumbyra_total` meets its contract.
+-- `wumbyra::wumbyra_total` meets its contract.
 use Rattle.wumbyra.specs.PackedLaws.{total-packed}
 use mathlib.Core.Path.{ap₂, _∙_}
 use Rattle.refusals.specs.Refusals.{answer}
@@ -25,7 +25,12 @@ packed-requires : tie.Need-packed-requires
 packed-requires c κs = search needs
 
 returns : tie.Need-returns
-returns c = total-packed _ _ (c .before .before .before .before .before .before .load .ensures) _ _ _ _ (c .before .before .before .before .before .totals .ensures) _ (c .packed .ensures ∙ ap₂ (λ n v. answer n v) (c .before .before .before .totals-number .ensures) (c .before .litres-of .ensures))
+returns c =
+    let c3 = c .before .before .before in
+    let c5 = c3 .before .before in
+    let c6 = c5 .before in
+    total-packed _ _ (c6 .load .ensures) _ _ _ _ (c5 .totals .ensures) _
+    (c .packed .ensures ∙ ap₂ (λ n v. answer n v) (c3 .totals-number .ensures) (c .before .litres-of .ensures))
 
 pub wumbyra-total-spec : {M : Type 1} → statement M
 wumbyra-total-spec =

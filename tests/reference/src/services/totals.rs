@@ -36,3 +36,26 @@ pub fn totals(table: &Table, code: &[u8], bits: u64) -> Result<[u64; 10], Refusa
     judge_length(letters)?;
     Ok(totals)
 }
+
+/// Totalling into lent cells: 2, 8, 3, and the value is 0. As many totals are
+/// written, from account 0 on, as there are accounts and cells; they are 0 if
+/// it is refused. Cells behind them keep what they hold.
+pub fn totals_into(
+    table: &Table,
+    code: &[u8],
+    bits: u64,
+    litres: &mut [u32],
+) -> Result<u64, Refusal> {
+    let added = totals(table, code, bits);
+    // "refused, all are 0"
+    let all = match &added {
+        Ok(totals) => *totals,
+        Err(_) => [0; 10],
+    };
+    for (account, total) in all.into_iter().enumerate() {
+        if let Some(cell) = litres.get_mut(account) {
+            *cell = u32::try_from(total).expect("at most 3,600 times 9 litres");
+        }
+    }
+    added.map(|_| 0)
+}
