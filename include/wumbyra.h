@@ -1,4 +1,4 @@
-/* Wumbyra 1.0.0: a verified reader of water meter tapes, for C and C++ (x86-64 Linux).
+/* Wumbyra: a verified reader of water meter tapes, for C and C++ (x86-64 Linux).
  *
  * Link with target/staticlib/libwumbyra.a, which `rt staticlib wumbyra` writes; it needs memcpy and memset and nothing else.
  * Every function is proved to answer, and to leave in every buffer, what the definitions of the services give on the table
@@ -111,8 +111,8 @@ uint32_t wumbyra_version(void);
  *
  * Order: 1, 2. Value: the line count.
  *
- *   1  the first line at fault; of no text, line 0
- *   2  the first line at fault, where each line has the form of a line
+ *   1  value: the first line at fault; 0 if there is no text, 64 if there is a 65th line
+ *   2  value: the first line that names a part wrongly; if none does, the lowest place that no line names
  *
  * No buffer is written. */
 uint64_t wumbyra_load(const uint8_t *text, size_t text_len);

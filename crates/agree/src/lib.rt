@@ -76,7 +76,9 @@ fn settle_again(
     again: &mut [u8],
 ) -> Agreement
     ensures { λ r.
-        ⌜ Comes-back p (now (one .entry)) n (now (two .entry)) m (worked (now (tape .entry)) (now (words .entry)) (now (again .entry))) (worked (now (tape .exit)) (now (words .exit)) (now (again .exit))) r ⌝ }
+        ⌜ Comes-back p (now (one .entry)) n (now (two .entry)) m
+        (worked (now (tape .entry)) (now (words .entry)) (now (again .entry)))
+        (worked (now (tape .exit)) (now (words .exit)) (now (again .exit))) r ⌝ }
 {
     let third = canonicalize(p, one, n, tape, words, again);
     let Canonicalized::Bits(k) = third else {
@@ -108,7 +110,10 @@ pub fn agree(
     again: &mut [u8],
 ) -> Agreement
     ensures { λ r.
-        ⌜ Agrees p (now (one .entry)) n (now (two .entry)) m (worked (now (tape .entry)) (now (words .entry)) (now (again .entry))) (worked (now (tape .exit)) (now (words .exit)) (now (again .exit))) (now (a .entry)) (now (a .exit)) (now (b .entry)) (now (b .exit)) r ⌝ }
+        ⌜ Agrees p (now (one .entry)) n (now (two .entry)) m
+        (worked (now (tape .entry)) (now (words .entry)) (now (again .entry)))
+        (worked (now (tape .exit)) (now (words .exit)) (now (again .exit)))
+        (now (a .entry)) (now (a .exit)) (now (b .entry)) (now (b .exit)) r ⌝ }
 {
     let first = canonicalize(p, one, n, tape, words, a);
     let second = canonicalize(p, two, m, tape, words, b);

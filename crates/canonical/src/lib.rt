@@ -47,7 +47,8 @@ pub fn canonicalize(
     canonical: &mut [u8],
 ) -> Canonicalized
     ensures { λ r.
-        ⌜ Canonicalizes p (now (code .entry)) count (now (tape .entry)) (now (tape .exit)) (now (words .entry)) (now (words .exit)) (now (canonical .entry)) (now (canonical .exit)) r ⌝ }
+        ⌜ Canonicalizes p (now (code .entry)) count (now (tape .entry)) (now (tape .exit))
+        (now (words .entry)) (now (words .exit)) (now (canonical .entry)) (now (canonical .exit)) r ⌝ }
 {
     let flattened = flatten(p, code, count, tape);
     let Flattened::Letters(n) = flattened else {

@@ -1,13 +1,19 @@
--- Laws of the loop that lays the totals into the lent cells.
+-- Laws of the loop that lays the totals into the lent cells, and what each cell then holds.
 use mathlib.Core.Path.{_≡_, refl, sym, ap, ap₂, _∙_}
+use mathlib.Core.Bool.{Bool, true, false, cond}
 use mathlib.Core.List.{List, _++_}
 use Prim.Native.Nat.{ℕ, suc, _+_, _≤_, _<_, min}
 use native.Mathlib.Omega.{arith}
 use native.Mathlib.Decide.{decLe}
-use lib.ListN.{length, take, drop, getD, set, length-set, length-take}
-use lib.Seq.{take-all, paste, paste-zero, paste-suc}
+use lib.Dec.{eqb}
+use lib.ListN.{length, take, drop, getD, set, length-set, length-take, List·getD-append}
+use lib.Seq.{take-all, getD-take, paste, paste-zero, paste-suc}
 use Rattle.bits.specs.Bits.{in-front}
-use Rattle.wumbyra.specs.Packed.{in-cells}
+use Rattle.syntax.specs.Trees.{root}
+use Rattle.semantics.specs.Accounts.{totals as added-up}
+use Rattle.loading.specs.Load.{load-table}
+use Rattle.codes.specs.Totals.{entries-of, no-litres, totals-answer, totals-litres}
+use Rattle.wumbyra.specs.Packed.{in-cells, total-text, Totals-text}
 
 -- i totals are laid: the cells hold them in front of what they held
 pub record Laid (totals old now : List ℕ) (i : ℕ) : Type 0 where
@@ -47,3 +53,26 @@ laid-all totals old now i n l e h =
     let f : take i totals ≡ take (length old) totals = ap (λ k. take k totals) m ∙ take-least totals (length old) in
     let g : 0 + i ≡ length (take (length old) totals) = omega (arith, m, length-take (length old) totals) in
     l .holds ∙ ap₂ (λ xs k. xs ++ drop k old) f g
+
+-- ── the call for all accounts and the call for one ──
+cell-holds : (totals cells : List ℕ) (a : ℕ) → a < length totals → a < length cells → getD (in-cells totals cells) a 0 ≡ getD totals a 0
+unfolding in-front
+cell-holds totals cells a h k =
+    List·getD-append (take (length cells) totals) (drop (length (take (length cells) totals)) cells) 0 a
+    (omega (arith, h, k, length-take (length cells) totals))
+    ∙ getD-take (length cells) totals a 0 k
+
+ten : (b : Bool) (es : List (ℕ × ℕ)) → length (cond b (added-up es) no-litres) ≡ 10
+unfolding added-up
+ten true es = refl
+ten false es = refl
+
+-- a cell holds the litres that the call for its account answers
+pub cell-total :
+    (text code : List ℕ) (count : ℕ) (cells after : List ℕ) (r a : ℕ) → Totals-text text code count cells after r → a < 10 → a < length cells
+    → getD after a 0 ≡ total-text text code count a .value
+unfolding total-text totals-litres
+cell-total text code count cells after r a t h k =
+    let p = load-table text in
+    let n = ten (eqb (totals-answer p code count .number) 0) (entries-of (root p) code count) in
+    ap (λ xs. getD xs a 0) (t .leaves) ∙ cell-holds (totals-litres p code count) cells a (omega (arith, h, n)) k

@@ -9,7 +9,8 @@ ghost use Rattle.codes.specs.Flatten.{flattened-answer};
 ghost use Rattle.codes.specs.Totals.{totals-outcome};
 ghost use Rattle.parser.specs.Parse.{parsed-answer};
 ghost use Rattle.canonical.specs.Canonicalize.{canonicalized-answer};
-ghost use Rattle.wumbyra.specs.Packed.{version-number, unpacked, Parses-text, Flattens-text, Canonicalizes-text, span-text, total-text, in-cells, Totals-text};
+ghost use Rattle.wumbyra.specs.Packed.{version-number, unpacked, Parses-text, Flattens-text, Canonicalizes-text};
+ghost use Rattle.wumbyra.specs.Packed.{span-text, total-text, in-cells, Totals-text};
 use canonical::Canonicalized;
 use canonical::canonicalize;
 use codes::Flattened;
@@ -149,7 +150,8 @@ pub extern "C" fn wumbyra_load(text: &[u8]) -> u64
 #[no_mangle]
 pub extern "C" fn wumbyra_parse(text: &[u8], tape: &[u8], words: &mut [u64], code: &mut [u8]) -> u64
     ensures { λ r.
-        ⌜ Parses-text (now (text .entry)) (now (tape .entry)) (now (words .entry)) (now (words .exit)) (now (code .entry)) (now (code .exit)) r ⌝ }
+        ⌜ Parses-text (now (text .entry)) (now (tape .entry)) (now (words .entry)) (now (words .exit))
+        (now (code .entry)) (now (code .exit)) r ⌝ }
 {
     let loaded = load(text);
     let parsed = parse(loaded.pattern, tape, words, code);
@@ -175,7 +177,8 @@ pub extern "C" fn wumbyra_canonicalize(
     canonical: &mut [u8],
 ) -> u64
     ensures { λ r.
-        ⌜ Canonicalizes-text (now (text .entry)) (now (code .entry)) count (now (tape .entry)) (now (tape .exit)) (now (words .entry)) (now (words .exit)) (now (canonical .entry)) (now (canonical .exit)) r ⌝ }
+        ⌜ Canonicalizes-text (now (text .entry)) (now (code .entry)) count (now (tape .entry)) (now (tape .exit))
+        (now (words .entry)) (now (words .exit)) (now (canonical .entry)) (now (canonical .exit)) r ⌝ }
 {
     let loaded = load(text);
     let canonicalized = canonicalize(loaded.pattern, code, count, tape, words, canonical);

@@ -26,7 +26,9 @@ returns : tie.Need-returns
 returns c =
     let put = c .before .before .before in
     let totalled = put .before .before .before .before in
-    totals-packed _ _ (totalled .before .load .ensures) _ _ _ (totalled .totals .ensures) _ _ (put .put-totals .ensures) _ (c .of-totals .ensures)
+    let start = totalled .before .before .before .before .before in
+    totals-packed _ _ (totalled .before .load .ensures) (start .args .code .now) _ _ (totalled .totals .ensures) _ _
+    (put .put-totals .ensures) _ (c .of-totals .ensures)
 
 pub wumbyra-totals-spec : {M : Type 1} → statement M
 wumbyra-totals-spec =
