@@ -17,7 +17,7 @@ returns : tie.Need-returns
 returns c = flatten-bad _ _ _ _ (sym (c .before .obeys-rules .ensures) ∙ not-true _ (c .if1 .taken))
 
 table-of-requires : tie.Need-table-of-requires
-table-of-requires c κs = obeys-iff _ .0 (sym (c .before .obeys-rules .ensures) ∙ not-false _ (c .if1 .left)) .few
+table-of-requires c κs = obeys-iff _ .0 (sym (c .before .obeys-rules .ensures) ∙ not-false _ (c .if1 .left))
 
 sub-root : tie.Need-sub-root
 sub-root c =

@@ -20,7 +20,7 @@ returns : tie.Need-returns
 returns c = rw (c .no-totals .ensures) (totals-bad _ _ _ (sym (c .before .before .obeys-rules .ensures) ∙ not-true _ (c .before .if1 .taken)))
 
 table-of-requires : tie.Need-table-of-requires
-table-of-requires c κs = obeys-iff _ .0 (sym (c .before .obeys-rules .ensures) ∙ not-false _ (c .if1 .left)) .few
+table-of-requires c κs = obeys-iff _ .0 (sym (c .before .obeys-rules .ensures) ∙ not-false _ (c .if1 .left))
 
 sub-root : tie.Need-sub-root
 sub-root c =
