@@ -20,7 +20,7 @@ pub enum Agreement {
     Refused(Refusal),
 }
 
-// Why a code was not settled. Nothing but a refusal is handed in.
+// Why a code was not settled. Nothing but a refusal is handed in, so the `else` is never run.
 fn why_unsettled(answer: Canonicalized) -> Refusal
     requires { ⌜ 1 ≤ canonicalized-answer answer .number ⌝ }
     ensures { λ r. ⌜ Unsettled answer r ⌝ }

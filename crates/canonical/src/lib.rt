@@ -16,7 +16,7 @@ pub enum Canonicalized {
     Refused(Refusal),
 }
 
-// Why a code was not spelled. Nothing but a refusal is handed in.
+// Why a code was not spelled. Nothing but a refusal is handed in, so the `else` is never run.
 fn why_unspelled(answer: Flattened) -> Refusal
     requires { ⌜ 1 ≤ flattened-answer answer .number ⌝ }
     ensures { λ r. ⌜ Unspelled answer r ⌝ }
@@ -27,7 +27,7 @@ fn why_unspelled(answer: Flattened) -> Refusal
     why
 }
 
-// Why a tape was not read. Nothing but a refusal is handed in.
+// Why a tape was not read. Nothing but a refusal is handed in, so the `else` is never run.
 fn why_unread(answer: Parsed) -> Refusal
     requires { ⌜ 1 ≤ parsed-answer answer .number ⌝ }
     ensures { λ r. ⌜ Unread answer r ⌝ }

@@ -1,5 +1,5 @@
 // The services for callers from C, each on a pattern's text. An answer is one number: the cause's number (0: none) in its
-// upper 32 bits, the value beside it in the lower 32. A slice is passed as a pointer and a length.
+// upper 32 bits, the value beside it in the lower 32. A slice is passed as a pointer and a length. include/wumbyra.h declares the calls.
 ghost use mathlib.Core.Path.{_≡_};
 ghost use Prim.Native.Nat.{min};
 ghost use lib.ListN.{getD};
