@@ -6,10 +6,8 @@ use Prim.Native.Nat.{ℕ}
 use lib.Dec.{eqb, leb}
 use lib.ListN.{length}
 use Rattle.syntax.specs.declared.Pattern.{Pattern}
-use Rattle.refusals.specs.declared.Refusal.{Refusal}
 use Rattle.refusals.specs.declared.Refusal.the-variants.{Tree as Tree-fault, TapeTooLong, NotACode, TapeTooShort}
 use Rattle.syntax.specs.Letter.{letter-limit}
-use Rattle.syntax.specs.Tree.{Tree}
 use Rattle.syntax.specs.Trees.{root}
 use Rattle.syntax.specs.Table.{obeys}
 use Rattle.refusals.specs.Refusals.{Answer, answer, refused}

@@ -15,6 +15,7 @@ use Rattle.semantics.specs.Accounts.{litres, total, totals}
 use Rattle.semantics.specs.AccountLaws.{letters, litres-small, total-small}
 use Rattle.semantics.specs.VisitLaws.{All}
 use Rattle.entries.specs.Entries.{Entries, accounts-in}
+use Rattle.entries.specs.WholeLaws.{length-accounts}
 use Rattle.codes.specs.Totals.{no-litres}
 
 -- ── the entries in front of two arrays ──
@@ -52,11 +53,7 @@ entries-own (e ∷ es) ys h (suc i) k = entries-own es ys (h .1) i (omega arith)
 
 pub entries-owned : (es : Entries) (ys : List ℕ) → All (λ e. e .1 < account-limit + 1) es → (n : ℕ) → n ≡ length es → Owned (accounts-in es ++ ys) n
 entries-owned es ys h n e =
-    record { wide = omega (arith, length-append (accounts-in es) ys, long es); own = λ i k. entries-own es ys h i (omega arith) }
-  where
-    long : (es : Entries) → length (accounts-in es) ≡ length es
-    long [] = refl
-    long (e ∷ es) = ap suc (long es)
+    record { wide = omega (arith, length-append (accounts-in es) ys, length-accounts es); own = λ i k. entries-own es ys h i (omega arith) }
 
 -- ── adding ──
 unfoldable pub charge-one : (sums : List ℕ) → (account c : ℕ) → List ℕ

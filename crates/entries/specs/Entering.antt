@@ -1,6 +1,6 @@
 -- Entering into two slices: what a call asks and what it leaves, as records; and the steps of the walk, each as one law.
 use mathlib.Core.Path.{_≡_, refl, sym, ap, ap₂, _∙_}
-use mathlib.Core.Bool.{Bool, true, false, cond, not}
+use mathlib.Core.Bool.{Bool, true, false, cond}
 use mathlib.Core.Logic.{_⊎_, inl, inr, ⊎-elim}
 use mathlib.Core.Option.{none, some, Option·none-ne-some}
 use mathlib.Core.List.{List, [], _∷_, _++_, map}
@@ -10,11 +10,11 @@ use native.Mathlib.Decide.{decLt}
 use lib.ListN.{length, length-append, set}
 use lib.Seq.{sets, length-sets}
 use Rattle.syntax.specs.declared.Leaf.{Leaf}
-use Rattle.syntax.specs.declared.Leaf.the-variants.{Nothing, Letter, Range}
+use Rattle.syntax.specs.declared.Leaf.the-variants.{Range}
 use Rattle.syntax.specs.declared.Node.{Node}
 use Rattle.syntax.specs.declared.Node.the-variants.{Leaf as Leaf-node, Sequence, Alternative, Star}
 use Rattle.syntax.specs.Letter.{in-range}
-use Rattle.syntax.specs.Tree.{Label, Tree, star}
+use Rattle.syntax.specs.Tree.{Label, Tree}
 use Rattle.syntax.specs.Trees.{made}
 use Rattle.bits.specs.Bits.{bit-at, number-at}
 use Rattle.semantics.specs.Accounts.{handed-down}
@@ -39,12 +39,12 @@ pub record Entering (code : List ℕ) (t : Tree) (above at size n : ℕ) : Type 
   pub room : n + length entries ≤ size
 
 -- they were written there, and nothing else; a cell that a slice does not have is not written
-pub record Enters (code : List ℕ) (t : Tree) (above at n : ℕ) (before charged : List ℕ) (after recharged : List ℕ) (r : Entered) : Type 0 where
+pub record Enters (code : List ℕ) (t : Tree) (above at n : ℕ) (tape owners tape-now owners-now : List ℕ) (r : Entered) : Type 0 where
   pub entries : Entries
   pub is : entries-at code t above at ≡ some (entries, r .at)
   pub next : r .n ≡ n + length entries
-  pub spelled : after ≡ sets before n (letters entries)
-  pub owned : recharged ≡ sets charged n (accounts-in entries)
+  pub spelled : tape-now ≡ sets tape n (letters entries)
+  pub owned : owners-now ≡ sets owners n (accounts-in entries)
 
 -- stores one behind the other
 sets-run : (f : ℕ × ℕ → ℕ) (es fs : Entries) (l : List ℕ) (n : ℕ) → sets (sets l n (map f es)) (n + length es) (map f fs) ≡ sets l n (map f (es ++ fs))

@@ -1,19 +1,19 @@
 -- The entries of a whole code: a walk from its first bit enters every letter that it spells, and stops behind its last bit.
-use mathlib.Core.Path.{_≡_, refl, sym, ap, ap₂, _∙_}
+use mathlib.Core.Path.{_≡_, refl, sym, ap, _∙_}
 use mathlib.Core.Bool.{Bool, true}
 use mathlib.Core.Option.{some}
 use mathlib.Core.List.{List, [], _∷_, _++_}
-use Prim.Native.Nat.{ℕ, suc, _+_, _*_, _-_, _≤_}
+use Prim.Native.Nat.{ℕ, suc, _*_, _-_, _≤_}
 use native.Mathlib.Omega.{arith}
 use native.Mathlib.Nat.{zero-add}
-use lib.ListN.{length, length-append, take, drop, take-append-drop}
+use lib.ListN.{length, length-append, drop, take-append-drop}
 use lib.Seq.{sets, sets-eq, take-all}
 use Rattle.syntax.specs.Tree.{Tree}
 use Rattle.bits.specs.Bits.{unpack, held, in-front}
 use Rattle.bits.specs.Packing.{length-unpack}
 use Rattle.bits.specs.Handed.{handed-count}
-use Rattle.semantics.specs.Value.{Value, flat}
-use Rattle.semantics.specs.Code.{code as bits-of, code-limit}
+use Rattle.semantics.specs.Value.{Value}
+use Rattle.semantics.specs.Code.{code as bits-of}
 use Rattle.semantics.specs.Accounts.{entries}
 use Rattle.semantics.specs.AccountLaws.{letters, entries-flat}
 use Rattle.semantics.specs.Decode.{value-of}

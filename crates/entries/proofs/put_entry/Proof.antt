@@ -18,7 +18,7 @@ same-length-2 : tie.Need-same-length-2
 same-length-2 c = search needs
 
 returns : tie.Need-returns
-returns c = search needs
+returns c = (refl, refl)
 
 same-length-3 : tie.Need-same-length-3
 same-length-3 c = search needs

@@ -2,7 +2,6 @@
 use Rattle.codes.specs.SpellLaws.{Same-from, same-start, same-end, same-differs, same-next}
 use lib.ListN.{length}
 use Prim.Native.Nat.{_-_, _≤_}
-use native.Mathlib.Omega.{arith}
 use borrow.Author.Needs.{needs}
 use Rattle.codes.proofs.compare.begins.Statement.{statement}
 use Rattle.codes.proofs.compare.begins.Tie as tie
