@@ -10,8 +10,9 @@ use lib.Dec.{eqb, leb}
 use borrow.Author.Tests.{le-leb, lt-leb, eq-eqb, ne-eqb}
 use lib.ListN.{length, take, drop, getD, length-drop}
 use lib.Seq.{take-all}
-use Rattle.vector_text.specs.Text.{part, appended, decimal-from, most-number, number-of-text, digest-by, before-byte, behind-byte, has-byte}
-use Rattle.vector_text.specs.Putting.{le-or, part-next, drop-next, drop-done}
+use Rattle.text.specs.Putting.{le-or, drop-next, drop-done}
+use Rattle.vector_text.specs.Cases.{part, appended, decimal-from, most-number, number-of-text, digest-by, before-byte, behind-byte, has-byte}
+use Rattle.vector_text.specs.Parts.{part-next}
 
 -- Digits.
 pub digit-told : (n c : ℕ) → 48 ≤ c → c ≤ 57 → appended n c ≡ 10 * n + (c - 48)

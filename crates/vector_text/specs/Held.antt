@@ -8,8 +8,10 @@ use native.Mathlib.Omega.{arith}
 use lib.ListN.{length, getD}
 use lib.Seq.{sets}
 use Rattle.vector_text.specs.declared.lines.Input.{Input}
-use Rattle.vector_text.specs.Text.{part, Puts-to, before-byte, has-byte, most-held, kept-size, chunk-left, Holds}
-use Rattle.vector_text.specs.Putting.{To-put, put-start, put-turn, put-done, part-next, part-done, part-over}
+use Rattle.text.specs.Text.{Puts-to}
+use Rattle.text.specs.Putting.{To-put, put-start, put-turn, put-done}
+use Rattle.vector_text.specs.Cases.{part, before-byte, has-byte, most-held, kept-size, chunk-left, Holds}
+use Rattle.vector_text.specs.Parts.{part-next, part-done, part-over}
 use Rattle.vector_text.specs.Folds.{before-here, before-next, has-here, has-next}
 
 -- What is left of the chunk from position j on holds what was to be held from `from` on.

@@ -8,8 +8,8 @@ use lib.Dec.{leb}
 use borrow.Author.Tests.{le-leb, lt-leb, leb-true}
 use lib.ListN.{length, drop, getD, length-drop}
 use lib.Seq.{drop-drop}
-use Rattle.vector_text.specs.Text.{part, hex-value, hex-pair, hex-bytes, hex-byte-text, hex-text}
-use Rattle.vector_text.specs.Putting.{part-next, drop-next}
+use Rattle.text.specs.Putting.{drop-next}
+use Rattle.vector_text.specs.Cases.{hex-value, hex-pair, hex-bytes}
 
 -- what the first two digits write, 256 where they write no byte
 abbrev pub first-pair : List ℕ → ℕ
@@ -81,6 +81,3 @@ pub decode-next : (n b : ℕ) (cs : List ℕ) → b ≡ first-pair (drop (2 * n)
 decode-next n b cs e h =
     let m : 2 * n + 2 ≡ 2 * (n + 1) = omega arith in
     bytes-next (drop (2 * n) cs) (omega (arith, e)) ∙ ap₂ (λ x xs. x ∷ hex-bytes xs) (sym e) (drop-drop 2 (2 * n) cs ∙ ap (λ k. drop k cs) m)
-
-pub hex-turn : (i to : ℕ) (xs : List ℕ) → i < to → i < length xs → hex-text (part i to xs) ≡ hex-byte-text (getD xs i 0) ++ hex-text (part (i + 1) to xs)
-hex-turn i to xs h k = ap hex-text (part-next i to xs h k)

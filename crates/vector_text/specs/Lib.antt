@@ -1,8 +1,7 @@
 -- What the library's functions promise: definitions.
-pub mod Text
+pub mod Cases
 -- One law for each way of the code.
-pub mod Putting
-pub mod Decimal
+pub mod Parts
 pub mod Folds
 pub mod Hexadecimal
 pub mod Held

@@ -1,22 +1,23 @@
 // Bytes shown whole, or as a digest where they are many.
-ghost use Rattle.io.specs.Counts.{Counts};
-ghost use Rattle.vector_text.specs.Text.{Puts, shown-text};
+ghost use Rattle.text.specs.Text.{Puts};
+ghost use Rattle.vector_text.specs.Cases.{shown-text};
 use crate::digest::START;
 use crate::digest::of_bytes;
-use crate::hex::put_hex;
-use crate::put::put_byte;
-use crate::put::put_parted;
+use text::least;
+use text::put_byte;
+use text::put_hex;
+use text::put_parted;
 
 const SHOWN_BYTES: usize = 64;
 
 // A tab and the first `count` bytes in hexadecimal, or where they are many, # and their digest.
 pub fn put_shown(out: &mut [u8], at: usize, bytes: &[u8], count: usize) -> usize
     ensures { λ r. ⌜ Puts (now (out .entry)) at (shown-text count (now (bytes .entry))) (now (out .exit)) r ⌝ }
-    ensures { λ r. ⌜ Counts r (now (out .exit)) ⌝ }
 {
     let end = put_byte(out, at, b'\t');
     if count <= SHOWN_BYTES {
-        return put_hex(out, end, bytes, count);
+        let n = least(count, bytes.len());
+        return put_hex(out, end, &bytes[..n]);
     }
     put_parted(out, end, b'#', of_bytes(START, bytes, 0, count))
 }

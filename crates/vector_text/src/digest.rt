@@ -1,7 +1,7 @@
 // Digests of cells: each value below 2^32 in turn is added to the digest before it, multiplied by 65,599, modulo the
 // largest prime below 2^32.
 ghost use mathlib.Core.Path.{_≡_};
-ghost use Rattle.vector_text.specs.Text.{part, digest-step, word-step, bytes-digest, words-digest};
+ghost use Rattle.vector_text.specs.Cases.{part, digest-step, word-step, bytes-digest, words-digest};
 
 const PRIME: u64 = 4294967291;
 

@@ -3,8 +3,8 @@ ghost use mathlib.Core.Path.{_≡_};
 ghost use Prim.Native.Nat.{min};
 ghost use lib.ListN.{length};
 ghost use Rattle.io.specs.Counts.{Counts};
-ghost use Rattle.vector_text.specs.Text.{before-byte, behind-byte, appended, most-number, number-of-text};
-use crate::put::least;
+ghost use Rattle.vector_text.specs.Cases.{before-byte, behind-byte, appended, most-number, number-of-text};
+use text::least;
 
 // The position of the first space, the line's length where there is none.
 fn field_end(line: &[u8]) -> usize

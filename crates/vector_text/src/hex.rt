@@ -1,13 +1,11 @@
-// Bytes from and to hexadecimal digits in lower case.
+// Bytes from hexadecimal digits in lower case.
 ghost use mathlib.Core.Path.{_≡_};
-ghost use Prim.Native.Nat.{_*_, _<_, _≤_};
+ghost use Prim.Native.Nat.{_*_, _≤_};
 ghost use lib.ListN.{drop};
 ghost use Rattle.io.specs.Counts.{Counts};
-ghost use Rattle.io.specs.Digits.{glyph};
-ghost use Rattle.vector_text.specs.Text.{part, Puts, hex-value, hex-byte-text, hex-text, hex-bytes};
+ghost use Rattle.text.specs.Text.{Puts};
+ghost use Rattle.vector_text.specs.Cases.{hex-value, hex-bytes};
 ghost use Rattle.vector_text.specs.Hexadecimal.{first-pair};
-use crate::put::least;
-use crate::put::put_byte;
 
 // The value of a digit, 16 for any other byte.
 fn value_of_digit(digit: u8) -> u8
@@ -55,36 +53,4 @@ pub fn decode(digits: &[u8], text: &mut [u8]) -> usize
         n += 1;
     }
     n
-}
-
-fn hex_digit(x: u8) -> u8
-    requires { ⌜ x < 16 ⌝ }
-    ensures { λ r. ⌜ r ≡ glyph x ⌝ }
-{
-    if x < 10 { b'0' + x } else { b'a' - 10 + x }
-}
-
-fn put_hex_byte(out: &mut [u8], at: usize, byte: u8) -> usize
-    ensures { λ r. ⌜ Puts (now (out .entry)) at (hex-byte-text byte) (now (out .exit)) r ⌝ }
-    ensures { λ r. ⌜ Counts r (now (out .exit)) ⌝ }
-{
-    let end = put_byte(out, at, hex_digit(byte / 16));
-    put_byte(out, end, hex_digit(byte % 16))
-}
-
-// The first `count` bytes in hexadecimal.
-pub(crate) fn put_hex(out: &mut [u8], at: usize, bytes: &[u8], count: usize) -> usize
-    ensures { λ r. ⌜ Puts (now (out .entry)) at (hex-text (part 0 count (now (bytes .entry)))) (now (out .exit)) r ⌝ }
-    ensures { λ r. ⌜ Counts r (now (out .exit)) ⌝ }
-{
-    let mut end = least(at, out.len());
-    let mut i = 0;
-    while i < count {
-        if bytes.len() <= i {
-            break;
-        }
-        end = put_hex_byte(out, end, bytes[i]);
-        i += 1;
-    }
-    end
 }

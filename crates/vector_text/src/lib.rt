@@ -1,10 +1,9 @@
-// Text of the vectors: the lines of the input, the fields of a case's line, and answers as text.
+// For tests alone: the text of the vectors. The lines of the input, the fields of a case's line, and cells shown.
 mod cells; // cells.rt: bytes shown whole or as a digest
 mod digest; // digest.rt: digests of cells
 mod fields; // fields.rt: the fields of a case's line
-mod hex; // hex.rt: bytes from and to hexadecimal digits
+mod hex; // hex.rt: bytes from hexadecimal digits
 mod lines; // lines.rt: the lines of the input
-mod put; // put.rt: bytes, numbers and answers put into a buffer
 
 pub use cells::put_shown;
 pub use digest::START;
@@ -17,8 +16,3 @@ pub use hex::decode;
 pub use lines::Input;
 pub use lines::advance;
 pub use lines::no_input;
-pub use put::least;
-pub use put::put_answer;
-pub use put::put_byte;
-pub use put::put_parted;
-pub use put::put_refused;

@@ -2,9 +2,10 @@
 ghost use mathlib.Core.Path.{_≡_};
 ghost use mathlib.Core.List.{[], _∷_};
 ghost use Prim.Native.Nat.{_<_, _≤_};
-ghost use Rattle.vector_text.specs.Text.{before-input, Puts-to, most-held, kept-size, Holds, Refills};
-use crate::put::least;
+ghost use Rattle.text.specs.Text.{Puts-to};
+ghost use Rattle.vector_text.specs.Cases.{before-input, most-held, kept-size, Holds, Refills};
 use libc::STDIN_FILENO;
+use text::least;
 
 // The bytes of the chunk from `from` to before `to` are still to be held. `size` counts those held of a line; one above
 // the line's length marks a line that does not fit. A line that is complete is to be used before the next step.

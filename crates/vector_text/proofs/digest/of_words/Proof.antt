@@ -1,8 +1,8 @@
--- `vector_text::digest::of_words` meets its contract. The invariant: the digest goes on over what is left to the digest of all; the measure is what is left of the words asked for. Assumes nothing.
+-- `vector_text::digest::of_words` meets its contract. The invariant: the digest goes on over what is left to the digest of all; the measure is what is left of the words asked for.
 use mathlib.Core.Path.{_≡_, refl, sym, ap, _∙_}
 use Prim.Native.Nat.{_-_}
-use Rattle.vector_text.specs.Text.{part, word-step, words-digest}
-use Rattle.vector_text.specs.Putting.{part-done, part-over}
+use Rattle.vector_text.specs.Cases.{part, word-step, words-digest}
+use Rattle.vector_text.specs.Parts.{part-done, part-over}
 use Rattle.vector_text.specs.Folds.{digest-turn}
 use borrow.Author.Needs.{needs}
 use Rattle.vector_text.proofs.digest.of_words.Statement.{statement}

@@ -1,6 +1,6 @@
--- `vector_text::digest::step` meets its contract: it is the definition. Assumes nothing.
+-- `vector_text::digest::step` meets its contract: it is the definition.
 use mathlib.Core.Path.{refl}
-use Rattle.vector_text.specs.Text.{digest-step}
+use Rattle.vector_text.specs.Cases.{digest-step}
 use borrow.Author.Needs.{needs}
 use Rattle.vector_text.proofs.digest.step.Statement.{statement}
 use Rattle.vector_text.proofs.digest.step.Tie as tie

@@ -1,7 +1,7 @@
--- `vector_text::digest::step_word` meets its contract: the low half, then the high one. Assumes nothing.
+-- `vector_text::digest::step_word` meets its contract: the low half, then the high one.
 use mathlib.Core.Path.{_≡_, ap, _∙_}
 use Prim.Native.Nat.{_/_}
-use Rattle.vector_text.specs.Text.{digest-step}
+use Rattle.vector_text.specs.Cases.{digest-step}
 use borrow.Author.Needs.{needs}
 use Rattle.vector_text.proofs.digest.step_word.Statement.{statement}
 use Rattle.vector_text.proofs.digest.step_word.Tie as tie

@@ -1,9 +1,9 @@
--- `vector_text::fields::append` meets its contract: a digit, and a byte below and above the digits. Assumes nothing.
+-- `vector_text::fields::append` meets its contract: a digit, and a byte below and above the digits.
 use mathlib.Core.Path.{sym, ap, _∙_}
 use native.Mathlib.Omega.{arith}
 use Prim.Native.Nat.{min}
 use native.Mathlib.Nat.{min-eq-left}
-use Rattle.vector_text.specs.Text.{most-number}
+use Rattle.vector_text.specs.Cases.{most-number}
 use Rattle.vector_text.specs.Folds.{digit-told, digit-below, digit-above}
 use borrow.Author.Needs.{needs}
 use Rattle.vector_text.proofs.fields.append.Statement.{statement}

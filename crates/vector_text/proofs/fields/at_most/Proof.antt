@@ -1,4 +1,4 @@
--- `vector_text::fields::at_most` meets its contract: from the greatest number on, every number is that one. Assumes nothing.
+-- `vector_text::fields::at_most` meets its contract: from the greatest number on, every number is that one.
 use native.Mathlib.Omega.{arith}
 use borrow.Author.Needs.{needs}
 use Rattle.vector_text.proofs.fields.at_most.Statement.{statement}

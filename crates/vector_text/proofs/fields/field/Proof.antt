@@ -1,4 +1,4 @@
--- `vector_text::fields::field` meets its contract: what lies before the first space. Assumes nothing.
+-- `vector_text::fields::field` meets its contract: what lies before the first space.
 use Rattle.vector_text.specs.Folds.{take-before}
 use borrow.Author.Needs.{needs}
 use Rattle.vector_text.proofs.fields.field.Statement.{statement}

@@ -1,4 +1,4 @@
--- `vector_text::fields::field_end` meets its contract. The invariant: the position and what stands before the space from there on; the measure is what is left of the line. Assumes nothing.
+-- `vector_text::fields::field_end` meets its contract. The invariant: the position and what stands before the space from there on; the measure is what is left of the line.
 use lib.ListN.{length-take}
 use Prim.Native.Nat.{_-_}
 use native.Mathlib.Omega.{arith}

@@ -1,4 +1,4 @@
--- `vector_text::fields::number` meets its contract. The invariant: what is left to read gives the number of all; the measure is what is left of the digits. Assumes nothing.
+-- `vector_text::fields::number` meets its contract. The invariant: what is left to read gives the number of all; the measure is what is left of the digits.
 use Prim.Native.Nat.{_-_}
 use lib.ListN.{length, drop}
 use Rattle.vector_text.specs.Folds.{Reads, reads-start, reads-turn, reads-done}

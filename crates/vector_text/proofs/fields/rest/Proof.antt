@@ -1,4 +1,4 @@
--- `vector_text::fields::rest` meets its contract: what lies behind the first space. Assumes nothing.
+-- `vector_text::fields::rest` meets its contract: what lies behind the first space.
 use Rattle.vector_text.specs.Folds.{drop-behind}
 use borrow.Author.Needs.{needs}
 use Rattle.vector_text.proofs.fields.rest.Statement.{statement}

@@ -1,4 +1,4 @@
--- `vector_text::hex::byte_at` meets its contract: one law for each way. Assumes nothing.
+-- `vector_text::hex::byte_at` meets its contract: one law for each way.
 use lib.ListN.{getD}
 use mathlib.Core.Path.{sym, ap₂, subst, _∙_}
 use Prim.Native.Nat.{_+_, _*_, _<_, _≤_}

@@ -1,11 +1,12 @@
--- `vector_text::hex::decode` meets its contract. The invariant: what is left to decode gives what was to be put; the measure is what is left of the text. Assumes nothing.
+-- `vector_text::hex::decode` meets its contract. The invariant: what is left to decode gives what was to be put; the measure is what is left of the text.
 use mathlib.Core.Path.{refl}
 use mathlib.Core.Logic.{inl, inr}
 use Prim.Native.Nat.{_-_, _*_}
 use native.Mathlib.Omega.{arith}
 use lib.ListN.{length, drop}
-use Rattle.vector_text.specs.Text.{hex-bytes}
-use Rattle.vector_text.specs.Putting.{To-put, put-start, put-turn, put-done, puts-counts, put-in}
+use Rattle.vector_text.specs.Cases.{hex-bytes}
+use Rattle.text.specs.Putting.{To-put, put-start, put-turn, put-done, put-in}
+use Rattle.vector_text.specs.Parts.{puts-counts}
 use Rattle.vector_text.specs.Hexadecimal.{decode-stop, decode-next}
 use borrow.Author.Needs.{needs}
 use Rattle.vector_text.proofs.hex.decode.Statement.{statement}

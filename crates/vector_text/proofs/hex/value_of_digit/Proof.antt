@@ -1,4 +1,4 @@
--- `vector_text::hex::value_of_digit` meets its contract: one law for each kind of byte. Assumes nothing.
+-- `vector_text::hex::value_of_digit` meets its contract: one law for each kind of byte.
 use mathlib.Core.Path.{_≡_, sym, _∙_}
 use native.Mathlib.Omega.{arith}
 use Prim.Native.Nat.{_+_, _-_}

@@ -1,4 +1,4 @@
--- `vector_text::lines::advance` meets its contract: one way for each of the two contracts. Assumes nothing.
+-- `vector_text::lines::advance` meets its contract: one way for each of the two contracts.
 use mathlib.Core.Path.{refl}
 use native.Mathlib.Omega.{arith}
 use borrow.Author.Needs.{needs}

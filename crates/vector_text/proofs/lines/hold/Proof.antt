@@ -1,4 +1,4 @@
--- `vector_text::lines::hold` meets its contract. The invariant: what is left of the chunk holds what was to be held; the measure is what is left of the chunk. Assumes nothing.
+-- `vector_text::lines::hold` meets its contract. The invariant: what is left of the chunk holds what was to be held; the measure is what is left of the chunk.
 use mathlib.Core.Logic.{inl, inr}
 use Prim.Native.Nat.{_-_}
 use Rattle.vector_text.specs.Held.{Holding, hold-start, hold-next, hold-line, hold-rest}

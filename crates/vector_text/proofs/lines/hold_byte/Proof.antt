@@ -1,6 +1,6 @@
--- `vector_text::lines::hold_byte` meets its contract: one law for the byte that fits and one for the one that does not. Assumes nothing.
+-- `vector_text::lines::hold_byte` meets its contract: one law for the byte that fits and one for the one that does not.
 use native.Mathlib.Omega.{arith}
-use Rattle.vector_text.specs.Putting.{put-in, put-full}
+use Rattle.text.specs.Putting.{put-in, put-full}
 use borrow.Author.Needs.{needs}
 use Rattle.vector_text.proofs.lines.hold_byte.Statement.{statement}
 use Rattle.vector_text.proofs.lines.hold_byte.Tie as tie

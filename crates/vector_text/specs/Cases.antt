@@ -1,51 +1,16 @@
--- Cases and answers as text: what is read from a case's line, and what is put into a buffer. Definitions only.
+-- Cases as text: what is read from a case's line, digests, and the lines of the input. Definitions only.
 use mathlib.Core.Path.{_≡_}
 use mathlib.Core.Bool.{Bool, true, false, _&&_, cond}
-use mathlib.Core.List.{List, [], _∷_, _++_}
-use Prim.Native.Nat.{ℕ, zero, suc, _+_, _-_, _*_, _/_, _%_, _≤_, min}
-use lib.Dec.{eqb, leb, ltb}
+use mathlib.Core.List.{List, [], _∷_}
+use Prim.Native.Nat.{ℕ, _+_, _-_, _*_, _/_, _%_, _≤_, min}
+use lib.Dec.{eqb, leb}
 use lib.ListN.{length, take, drop}
-use lib.Seq.{sets}
-use Rattle.io.specs.Digits.{glyph, digits}
+use Rattle.text.specs.Text.{Puts-to, hex, parted}
 use Rattle.vector_text.specs.declared.lines.Input.{Input}
 
 -- the cells from `from` to before `to`, as far as there are any
 abbrev pub part : (from to : ℕ) → List ℕ → List ℕ
 part from to xs = take (to - from) (drop from xs)
-
--- Bytes put into a buffer from `at` on: what does not fit is left out. Answered is where they end, at most `most`.
-pub record Puts-to (most : ℕ) (out : List ℕ) (at : ℕ) (bytes after : List ℕ) (r : ℕ) : Type 0 where
-  pub leaves : after ≡ sets out at bytes
-  pub ends : r ≡ min (at + length bytes) most
-
--- the same with the buffer's own length as the most
-abbrev pub Puts : (out : List ℕ) → (at : ℕ) → (bytes after : List ℕ) → (r : ℕ) → Type 0
-Puts out at bytes after r = Puts-to (length out) out at bytes after r
-
--- how many digits a number has in decimal
-abbrev pub width-by : (fuel n : ℕ) → ℕ
-width-by zero n = 1
-width-by (suc f) n = cond (ltb n 10) 1 (suc (width-by f (n / 10)))
-
--- a number of 64 bits has at most 20 digits
-unfoldable pub decimal-text : ℕ → List ℕ
-decimal-text n = digits 10 (width-by 20 n) n
-
--- a number behind the byte that parts it from what stands before it
-abbrev pub parted-text : (by n : ℕ) → List ℕ
-parted-text by n = by ∷ decimal-text n
-
--- number and value of an answer, parted by a tab
-abbrev pub answer-text : (number value : ℕ) → List ℕ
-answer-text n v = decimal-text n ++ parted-text 9 v
-
--- bytes in hexadecimal
-abbrev pub hex-byte-text : ℕ → List ℕ
-hex-byte-text b = glyph (b / 16) ∷ glyph (b % 16) ∷ []
-
-abbrev pub hex-text : List ℕ → List ℕ
-hex-text [] = []
-hex-text (b ∷ bs) = hex-byte-text b ++ hex-text bs
 
 -- the value of a hexadecimal digit in lower case, 16 for any other byte
 abbrev pub hex-value : ℕ → ℕ
@@ -91,7 +56,7 @@ bytes-digest = digest-by digest-step
 
 -- a tab and the first cells: up to 64 whole, more as # and a digest that starts from 1
 unfoldable pub shown-text : (count : ℕ) → List ℕ → List ℕ
-shown-text n xs = 9 ∷ cond (leb n 64) (hex-text (part 0 n xs)) (parted-text 35 (bytes-digest 1 (part 0 n xs)))
+shown-text n xs = 9 ∷ cond (leb n 64) (hex (part 0 n xs)) (parted 35 (bytes-digest 1 (part 0 n xs)))
 
 -- a word counts as two halves, the low one first
 abbrev pub word-step : (digest word : ℕ) → ℕ
