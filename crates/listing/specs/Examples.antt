@@ -3,7 +3,24 @@ use mathlib.Core.Path.{_≡_, refl}
 use mathlib.Core.List.{List, [], _∷_}
 use Prim.Native.Nat.{ℕ}
 use Rattle.syntax.specs.Letter.{is-letter, in-range, first-bad}
-use Rattle.loading.specs.Text.{rows, digit, one-digit, two-digits, place, single, account, node-of-none, node-of-one, range-of, parts-of, node-of-two, node-of, line-of, row-line, forms}
+use Rattle.loading.specs.Text.{
+  rows,
+  digit,
+  one-digit,
+  two-digits,
+  place,
+  single,
+  account,
+  node-of-none,
+  node-of-one,
+  range-of,
+  parts-of,
+  node-of-two,
+  node-of,
+  line-of,
+  row-line,
+  forms,
+}
 use Rattle.syntax.specs.Table.{no-lines, line-good, wrongly-names, unnamed, tree-fault, obeys}
 use Rattle.loading.specs.Load.{table, load-answer, load-table}
 use Rattle.syntax.specs.Trees.{tree-of, root}
@@ -14,7 +31,20 @@ use Rattle.first_sweep.specs.StateSets.{state-set}
 use Rattle.masks.specs.Nodes.{node-word}
 use Rattle.bits.specs.Bits.{bits-of, pack, word-of, count-below}
 use Rattle.parser.specs.Parse.{early}
-use Rattle.listing.specs.Listing.{digits, decimal, hex-digit, hex-byte, hex, field, entry, line, tape-line, account-line, account-lines, open-lines, refused-line, listing, read-listing, early-cause, pattern-listing, closed, tape-of, listing-of}
+use Rattle.text.specs.Text.{digits, decimal, hex-digit, hex-byte, hex, entry, line, refused-line}
+use Rattle.listing.specs.Listing.{
+  tape-line,
+  account-line,
+  account-lines,
+  open-lines,
+  listing,
+  read-listing,
+  early-cause,
+  pattern-listing,
+  closed,
+  tape-of,
+  listing-of,
+}
 
 -- the pattern's text, line by line
 abbrev pub worked-text : List ℕ
@@ -41,5 +71,9 @@ worked-listing =
     111 ∷ 112 ∷ 101 ∷ 110 ∷ 9 ∷ 51 ∷ 9 ∷ 49 ∷ 10 ∷ []
 
 pub worked : listing-of worked-text worked-tape ≡ worked-listing
-unfolding is-letter in-range rows digit one-digit two-digits place single account node-of-none node-of-one range-of parts-of node-of-two node-of line-of row-line forms no-lines line-good wrongly-names unnamed tree-fault obeys table load-answer load-table tree-of root readable greedy accounts litres total totals value-of state-set node-word bits-of pack word-of count-below first-bad early digits decimal hex-digit hex-byte hex field entry line tape-line account-line account-lines open-lines refused-line listing read-listing early-cause pattern-listing closed tape-of listing-of
+unfolding is-letter in-range rows digit one-digit two-digits place single account node-of-none node-of-one range-of parts-of node-of-two
+    node-of line-of row-line forms no-lines line-good wrongly-names unnamed tree-fault obeys table load-answer load-table tree-of root
+    readable greedy accounts litres total totals value-of state-set node-word bits-of pack word-of count-below first-bad early digits
+    decimal hex-digit hex-byte hex entry line tape-line account-line account-lines open-lines refused-line listing read-listing early-cause
+    pattern-listing closed tape-of listing-of
 worked = refl

@@ -2,13 +2,15 @@
 use mathlib.Core.Path.{_≡_}
 use mathlib.Core.Bool.{Bool, cond}
 use mathlib.Core.List.{List, [], _∷_, _++_}
-use Prim.Native.Nat.{ℕ, zero, suc, _+_, _*_, _-_, _/_, _%_, _≤_, _<_}
-use lib.Dec.{eqb, ltb}
+use Prim.Native.Nat.{ℕ, zero, suc, _+_, _*_, _-_, _≤_, _<_}
+use lib.Dec.{eqb}
 use lib.ListN.{length, take, getD}
 use Rattle.syntax.specs.declared.Pattern.{Pattern}
 use Rattle.refusals.specs.declared.Refusal.the-variants.{Unreadable}
 use Rattle.refusals.specs.Refusals.{Answer, refused}
+use Rattle.text.specs.Text.{hex, entry, line, refused-line}
 use Rattle.loading.specs.Load.{load-answer, load-table}
+use Rattle.syntax.specs.Letter.{letter-limit}
 use Rattle.syntax.specs.Trees.{root}
 use Rattle.bits.specs.Bits.{test-bit, count-below, pack, in-front}
 use Rattle.semantics.specs.Accounts.{totals}
@@ -20,29 +22,7 @@ use Rattle.parser.specs.Parse.{early}
 use Rattle.listing.specs.declared.Listed.{Listed}
 use Rattle.listing.specs.declared.Listed.the-variants.{Bytes, TooShort}
 
--- ---- numbers and words as bytes
-
--- a number's decimal digits, the highest first, none leading but for 0 itself; at most so many places
-unfoldable pub digits : (places n : ℕ) → List ℕ
-digits zero n = []
-digits (suc k) n = cond (ltb n 10) ((48 + n) ∷ []) (digits k (n / 10) ++ ((48 + n % 10) ∷ []))
-
--- a number needs at most as many places as it counts, and one; `decimal-writes` reads them back
-unfoldable pub decimal : (n : ℕ) → List ℕ
-decimal n = digits (suc n) n
-
--- 01: "code in hexadecimal": digits 0 to 9 and a to f
-unfoldable pub hex-digit : ℕ → ℕ
-hex-digit d = cond (ltb d 10) (48 + d) (87 + d)
-
-unfoldable pub hex-byte : ℕ → List ℕ
-hex-byte b = hex-digit (b / 16) ∷ hex-digit (b % 16) ∷ []
-
-unfoldable pub hex : List ℕ → List ℕ
-hex [] = []
-hex (b ∷ bs) = hex-byte b ++ hex bs
-
--- the words that begin lines: `tape`, `account`, `open`, `refused`
+-- the words that begin lines: `tape`, `account`, `open`; crate text has `refused`, and numbers, hexadecimal digits and fields
 abbrev pub tape-word : List ℕ
 tape-word = 116 ∷ 97 ∷ 112 ∷ 101 ∷ []
 
@@ -52,21 +32,7 @@ account-word = 97 ∷ 99 ∷ 99 ∷ 111 ∷ 117 ∷ 110 ∷ 116 ∷ []
 abbrev pub open-word : List ℕ
 open-word = 111 ∷ 112 ∷ 101 ∷ 110 ∷ []
 
-abbrev pub refused-word : List ℕ
-refused-word = 114 ∷ 101 ∷ 102 ∷ 117 ∷ 115 ∷ 101 ∷ 100 ∷ []
-
 -- ---- lines: "tab-parted", each ended by byte 10
-
--- a tab and a number
-unfoldable pub field : (n : ℕ) → List ℕ
-field n = (9 ∷ []) ++ decimal n
-
--- a word and two numbers
-unfoldable pub entry : (word : List ℕ) → (a b : ℕ) → List ℕ
-entry word a b = word ++ (field a ++ field b)
-
-unfoldable pub line : (word : List ℕ) → (a b : ℕ) → List ℕ
-line word a b = entry word a b ++ (10 ∷ [])
 
 -- 01: "First line: letters, bits, code in hexadecimal (an empty field for a code of 0 bits)."
 unfoldable pub tape-line : (letters bits : ℕ) → (code : List ℕ) → List ℕ
@@ -85,10 +51,6 @@ account-lines a (n ∷ ns) = account-line a n ++ account-lines (suc a) ns
 unfoldable pub open-lines : (words : List ℕ) → (position count : ℕ) → List ℕ
 open-lines ws i zero = []
 open-lines ws i (suc n) = line open-word i (count-below 64 (test-bit (getD ws (2 * i + 1) 0))) ++ open-lines ws (suc i) n
-
--- 01: "A refusal prints `refused`, number and returned number, tab-parted, and no more."
-unfoldable pub refused-line : Answer → List ℕ
-refused-line a = line refused-word (a .number) (a .value)
 
 -- ---- the listing
 
@@ -126,6 +88,10 @@ listing-of text file = cond (eqb (load-answer text .number) 0) (pattern-listing 
 -- bytes that hold every listing
 abbrev pub room : ℕ
 room = 262144
+
+-- mark words that hold the marks of every tape: two for each position
+abbrev pub word-limit : ℕ
+word-limit = 2 * (letter-limit + 1)
 
 -- THE PROMISE of listing, for every text, tape and lent buffer: the listing in front and its length, or a buffer that is too short as it was
 pub record Lists (text file out out-now : List ℕ) (r : Listed) : Type 0 where

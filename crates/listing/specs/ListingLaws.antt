@@ -13,12 +13,13 @@ use Rattle.syntax.specs.declared.Pattern.{Pattern}
 use Rattle.loading.specs.declared.Loaded.{Loaded}
 use Rattle.loading.specs.declared.Outcome.the-variants.{Lines, Refused as Not-loaded}
 use Rattle.refusals.specs.declared.Refusal.{Refusal}
-use Rattle.refusals.specs.declared.Refusal.the-variants.{LineForm, Tree as Tree-fault, TapeTooLong, TapeByte, Unreadable, WordsTooShort, CodeTooShort, NotACode, TapeTooShort, NoSuchVisit}
-use Rattle.refusals.specs.Refusals.{answer, refused, number}
+use Rattle.refusals.specs.declared.Refusal.the-variants.{Tree as Tree-fault, TapeTooLong, TapeByte, Unreadable, WordsTooShort}
+use Rattle.refusals.specs.Refusals.{answer, refused}
+use Rattle.refusals.specs.RefusalLaws.{number-positive}
 use Rattle.syntax.specs.Table.{obeys}
 use Rattle.syntax.specs.Trees.{root}
 use Rattle.loading.specs.Load.{outcome-answer, load-answer, Loads}
-use Rattle.bits.specs.Bits.{cell-count, pack, in-front}
+use Rattle.bits.specs.Bits.{cell-count, pack, in-front, byte-limit}
 use Rattle.bits.specs.Packing.{length-pack}
 use Rattle.bits.specs.Handed.{held-pack}
 use Rattle.semantics.specs.Code.{Canonical}
@@ -37,9 +38,36 @@ use Rattle.parser.specs.Parse.{parsed-answer, early, Reads-greedily, Parses-by,
 use Rattle.parser.specs.ParseLaws.{greedy-few}
 use Rattle.listing.specs.declared.Listed.{Listed}
 use Rattle.listing.specs.declared.Listed.the-variants.{Bytes, TooShort}
-use Rattle.listing.specs.Listing.{line, tape-line, account-lines, open-lines, refused-line, listing, read-listing, early-cause, pattern-listing, closed, tape-of, listing-of, room, Lists}
-use Rattle.listing.specs.Putting.{Puts, puts-both, puts-front}
-use Rattle.listing.specs.Bounds.{tape-length, open-length}
+use Rattle.text.specs.Text.{Puts, refused-line}
+use Rattle.text.specs.Putting.{puts-then, puts-front}
+use Rattle.listing.specs.Listing.{
+  tape-line,
+  account-lines,
+  open-lines,
+  listing,
+  read-listing,
+  early-cause,
+  pattern-listing,
+  closed,
+  tape-of,
+  listing-of,
+  word-limit,
+  room,
+  Lists,
+}
+use Rattle.listing.specs.Lines.{tape-length, open-length}
+
+-- ── a listing put in front of a buffer, where there is room for it ──
+pub record Shows (old bytes now : List ℕ) (end : ℕ) : Type 0 where
+  pub puts : Puts old 0 bytes now end
+  pub fits : length bytes ≤ room
+
+pub shows-as : (old xs ys now : List ℕ) (end : ℕ) → xs ≡ ys → Shows old xs now end → Shows old ys now end
+shows-as old xs ys now end e s = subst (λ z. Shows old z now end) e s
+
+-- the line of a refusal
+pub shows-refused : (old xs ys now : List ℕ) (end : ℕ) → xs ≡ ys → Puts old 0 xs now end → length xs ≤ 30 → Shows old ys now end
+shows-refused old xs ys now end e p h = shows-as old xs ys now end e (record { puts = p; fits = omega arith })
 
 -- ── a tape that has been read: its words, its code and the bit count ──
 pub record Read (p : Pattern) (tape ws code : List ℕ) (count : ℕ) : Type 0 where
@@ -60,12 +88,19 @@ module _ (p : Pattern) (tape ws code : List ℕ) (count : ℕ) (h : Read p tape 
   is-canonical : Canonical (root p) tape (greedy (root p) tape)
   is-canonical = greedy-canonical (root p) tape (h .reads)
 
-  pub code-short : length code ≤ 65536
-  code-short = omega (arith, greedy-few p (h .good) tape (h .few) (h .reads), ap length (h .coded), length-pack 8 (greedy (root p) tape))
+  code-short : (length code ≤ byte-limit) × (count < 4294967296)
+  code-short =
+      let few = greedy-few p (h .good) tape (h .few) (h .reads) in
+      (omega (arith, few, ap length (h .coded), length-pack 8 (greedy (root p) tape)), omega (arith, few, h .counted))
 
-  own-litres : totals-litres p (pack 8 (greedy (root p) tape)) (length (greedy (root p) tape)) ≡ totals (entries-by (root p) (value-of (root p) (greedy (root p) tape)))
+  own-litres :
+      totals-litres p (pack 8 (greedy (root p) tape)) (length (greedy (root p) tape))
+      ≡ totals (entries-by (root p) (value-of (root p) (greedy (root p) tape)))
   unfolding totals-litres totals-answer entries-of
-  own-litres = rw (h .good, canonical-whole p (h .good) tape (h .few) (greedy (root p) tape) is-canonical, canonical-spells p (h .good) tape (h .few) (greedy (root p) tape) is-canonical, le-leb (length tape) letter-limit (h .few), held-pack 8 (omega arith) (greedy (root p) tape))
+  own-litres =
+      let whole = canonical-whole p (h .good) tape (h .few) (greedy (root p) tape) is-canonical in
+      let spelled = canonical-spells p (h .good) tape (h .few) (greedy (root p) tape) is-canonical in
+      rw (h .good, whole, spelled, le-leb (length tape) letter-limit (h .few), held-pack 8 (omega arith) (greedy (root p) tape))
 
   pub litres-are : (r : Totalled) → Totals p code count r → r .litres ≡ totals (entries-by (root p) (value-of (root p) (greedy (root p) tape)))
   litres-are r t = t .gives ∙ ap₂ (totals-litres p) (h .coded) (h .counted) ∙ own-litres
@@ -74,35 +109,29 @@ module _ (p : Pattern) (tape ws code : List ℕ) (count : ℕ) (h : Read p tape 
   unfolding totals
   litres-ten r t = omega (arith, ap length (litres-are r t))
 
-  pub tape-end : (n : ℕ) → n ≡ length tape → count < 4294967296 → (old now : List ℕ) (end : ℕ) → Puts old 0 (tape-line n count code) now end → end ≤ 131100
-  tape-end n e c old now end q = omega (arith, q .ends, tape-length n count code (let f = h .few in omega arith) c, code-short)
-
-  pub open-end : (old now : List ℕ) (at end : ℕ) → at ≤ 131400 → Puts old at (open-lines ws 0 (suc (length tape))) now end → end ≤ room
-  open-end old now at end l q = omega (arith, q .ends, open-length ws 0 (suc (length tape)) (let f = h .few in omega arith), h .few)
-
   listing-is : (n : ℕ) → n ≡ length tape → (ns : List ℕ) → ns ≡ totals (entries-by (root p) (value-of (root p) (greedy (root p) tape)))
       → tape-line n count code ++ (account-lines 0 ns ++ open-lines ws 0 (suc n)) ≡ listing p tape (greedy (root p) tape)
   unfolding listing
   listing-is n e ns f = rw (e, h .coded, h .counted, f, same-open ws (words p tape) 0 (suc (length tape)) (λ j l. h .filled j (omega arith)))
 
+  fits-room : (n : ℕ) → n ≡ length tape → (ns : List ℕ) → length (account-lines 0 ns) ≤ 300
+      → length (tape-line n count code ++ (account-lines 0 ns ++ open-lines ws 0 (suc n))) ≤ room
+  fits-room n e ns l =
+      let few = h .few in
+      let (short, count-short) = code-short in
+      simp length-append
+      (omega (arith, l, tape-length n count code (omega arith) count-short, open-length ws 0 (suc n) (omega arith)))
+
   pub listed : (n : ℕ) → n ≡ length tape → (r : Totalled) → Totals p code count r → (old m₁ m₂ now : List ℕ) (e₁ e₂ end : ℕ)
-      → Puts old 0 (tape-line n count code) m₁ e₁ → Puts m₁ e₁ (account-lines 0 (r .litres)) m₂ e₂ → Puts m₂ e₂ (open-lines ws 0 (suc n)) now end
-      → Puts old 0 (listing p tape (greedy (root p) tape)) now end
-  listed n e r t old m₁ m₂ now e₁ e₂ end a b c = subst (λ x. Puts old 0 x now end) (listing-is n e (r .litres) (litres-are r t)) (puts-both a (puts-both b c))
+      → Puts old 0 (tape-line n count code) m₁ e₁
+      → Puts m₁ e₁ (account-lines 0 (r .litres)) m₂ e₂ × (length (account-lines 0 (r .litres)) ≤ 300)
+      → Puts m₂ e₂ (open-lines ws 0 (suc n)) now end
+      → Shows old (listing p tape (greedy (root p) tape)) now end
+  listed n e r t old m₁ m₂ now e₁ e₂ end a (b, l) c =
+      shows-as old _ _ now end (listing-is n e (r .litres) (litres-are r t))
+      (record { puts = puts-then _ _ _ _ _ _ _ _ a (puts-then _ _ _ _ _ _ _ _ b c); fits = fits-room n e (r .litres) l })
 
 -- ── what reading answers ──
-positive : (r : Refusal) → 1 ≤ number r
-positive (LineForm l) = omega arith
-positive (Tree-fault l) = omega arith
-positive TapeTooLong = omega arith
-positive (TapeByte i) = omega arith
-positive Unreadable = omega arith
-positive (WordsTooShort n) = omega arith
-positive (CodeTooShort n) = omega arith
-positive NotACode = omega arith
-positive (TapeTooShort n) = omega arith
-positive NoSuchVisit = omega arith
-
 -- nothing before the sweeps refuses
 pub record Passed (p : Pattern) (tape : List ℕ) (n : ℕ) : Type 0 where
   pub good : obeys p ≡ true
@@ -114,7 +143,8 @@ unfolding early
 passed p tape n h = go (obeys p) refl (ltb letter-limit (length tape)) refl (ltb (first-bad tape) (length tape)) (ltb n (2 * (length tape + 1))) refl h
   where
     go : (o : Bool) → obeys p ≡ o → (f : Bool) → ltb letter-limit (length tape) ≡ f → (b : Bool) → (w : Bool) → ltb n (2 * (length tape + 1)) ≡ w
-        → cond (not o) (refused (Tree-fault 0)) (cond f (refused TapeTooLong) (cond b (refused (TapeByte (first-bad tape))) (cond w (refused (WordsTooShort (2 * (length tape + 1)))) (answer 0 0)))) .number ≡ 0
+        → cond (not o) (refused (Tree-fault 0)) (cond f (refused TapeTooLong) (cond b (refused (TapeByte (first-bad tape)))
+        (cond w (refused (WordsTooShort (2 * (length tape + 1)))) (answer 0 0)))) .number ≡ 0
         → Passed p tape n
     go true eo false ef false false ew h = record { good = eo; few = ltb-false letter-limit (length tape) ef; room = ltb-false n (2 * (length tape + 1)) ew }
     go true eo false ef false true ew h = absurd (omega arith)
@@ -122,22 +152,22 @@ passed p tape n h = go (obeys p) refl (ltb letter-limit (length tape)) refl (ltb
     go true eo true ef b w ew h = absurd (omega arith)
     go false eo f ef b w ew h = absurd (omega arith)
 
--- 7,202 words suffice for every tape that is not too long
-early-same : (p : Pattern) (tape : List ℕ) → early p tape 7202 ≡ early-cause p tape
+-- words for the longest tape suffice for every tape that is not too long
+early-same : (p : Pattern) (tape : List ℕ) → early p tape word-limit ≡ early-cause p tape
 unfolding early-cause early
 early-same p tape = go (ltb letter-limit (length tape)) refl
   where
-    go : (f : Bool) → ltb letter-limit (length tape) ≡ f → early p tape 7202 ≡ early p tape (2 * (length tape + 1))
+    go : (f : Bool) → ltb letter-limit (length tape) ≡ f → early p tape word-limit ≡ early p tape (2 * (length tape + 1))
     go true e = rw e
     go false e =
         let l : length tape ≤ letter-limit = ltb-false letter-limit (length tape) e in
-        rw (le-ltb 7202 (2 * (length tape + 1)) (omega arith), le-ltb (2 * (length tape + 1)) (2 * (length tape + 1)) (omega arith))
+        rw (le-ltb word-limit (2 * (length tape + 1)) (omega arith), le-ltb (2 * (length tape + 1)) (2 * (length tape + 1)) (omega arith))
 
-refused-by : (p : Pattern) (tape : List ℕ) (n : ℕ) → early-cause p tape .number ≡ suc n → pattern-listing p tape ≡ refused-line (early-cause p tape)
+pub refused-by : (p : Pattern) (tape : List ℕ) → (early-cause p tape .number ≡ 0 → ⊥) → pattern-listing p tape ≡ refused-line (early-cause p tape)
 unfolding pattern-listing
-refused-by p tape n e = rw (ne-eqb (early-cause p tape .number) 0 (λ z. omega arith))
+refused-by p tape e = rw (ne-eqb (early-cause p tape .number) 0 e)
 
-read-by : (p : Pattern) (tape : List ℕ) → early-cause p tape .number ≡ 0 → pattern-listing p tape ≡ read-listing p tape
+pub read-by : (p : Pattern) (tape : List ℕ) → early-cause p tape .number ≡ 0 → pattern-listing p tape ≡ read-listing p tape
 unfolding pattern-listing
 read-by p tape e = rw (eq-eqb (early-cause p tape .number) 0 e)
 
@@ -167,14 +197,14 @@ abbrev Follows : Pattern → (tape us ys : List ℕ) → Parsed → Type 0
 Follows p tape us ys (Bits n) = Got p tape us ys n
 Follows p tape us ys (Refused why) = refused-line (refused why) ≡ pattern-listing p tape
 
-module _ (p : Pattern) (tape ws us xs ys : List ℕ) (lw : length ws ≡ 7202) (lx : length xs ≡ 65536) where
+module _ (p : Pattern) (tape ws us xs ys : List ℕ) (lw : length ws ≡ word-limit) (lx : length xs ≡ byte-limit) where
   refused-early : (n : ℕ) → early-cause p tape .number ≡ suc n → (r : Parsed) → parsed-answer r ≡ early-cause p tape → Follows p tape us ys r
   refused-early n e (Bits k) a = absurd (omega (arith, ap (λ x. x .number) a))
-  refused-early n e (Refused why) a = ap refused-line a ∙ sym (refused-by p tape n e)
+  refused-early n e (Refused why) a = ap refused-line a ∙ sym (refused-by p tape (λ z. omega arith))
 
   module _ (z : early-cause p tape .number ≡ 0) (fill : us ≡ in-front (words p tape) ws) where
-    clear : Passed p tape 7202
-    clear = passed p tape 7202 (ap (λ x. x .number) (early-same p tape) ∙ z)
+    clear : Passed p tape word-limit
+    clear = passed p tape word-limit (ap (λ x. x .number) (early-same p tape) ∙ z)
 
     not-readable : readable (root p) tape ≡ false → (r : Parsed) → parsed-answer r ≡ refused Unreadable → Follows p tape us ys r
     not-readable e (Bits k) a = absurd (omega (arith, ap (λ x. x .number) a))
@@ -182,18 +212,21 @@ module _ (p : Pattern) (tape ws us xs ys : List ℕ) (lw : length ws ≡ 7202) (
 
     at : (i : ℕ) → i ≤ length tape → getD us (2 * i + 1) 0 ≡ getD (words p tape) (2 * i + 1) 0
     unfolding in-front
-    at i l = ap (λ x. getD x (2 * i + 1) 0) fill ∙ List·getD-append (words p tape) (drop (length (words p tape)) ws) 0 (2 * i + 1) (omega (arith, words-length p tape))
+    at i l =
+        ap (λ x. getD x (2 * i + 1) 0) fill
+        ∙ List·getD-append (words p tape) (drop (length (words p tape)) ws) 0 (2 * i + 1) (omega (arith, words-length p tape))
 
     words-long : length us ≡ length ws
     unfolding in-front
     words-long = ap length fill ∙ (let c = clear .room in simp (length-append, length-drop) (omega (arith, words-length p tape)))
 
-    is-readable : readable (root p) tape ≡ true → (r : Parsed) → (parsed-answer r ≡ answer 0 (length (greedy (root p) tape))) × (ys ≡ in-front (pack 8 (greedy (root p) tape)) xs) → Follows p tape us ys r
-    is-readable e (Refused why) g = absurd (omega (arith, positive why, ap (λ x. x .number) (g .0)))
+    is-readable : readable (root p) tape ≡ true → (r : Parsed)
+        → (parsed-answer r ≡ answer 0 (length (greedy (root p) tape))) × (ys ≡ in-front (pack 8 (greedy (root p) tape)) xs) → Follows p tape us ys r
+    is-readable e (Refused why) g = absurd (omega (arith, number-positive why, ap (λ x. x .number) (g .0)))
     is-readable e (Bits n) g =
         let k : n ≡ length (greedy (root p) tape) = ap (λ x. x .value) (g .0) in
         let s : length (pack 8 (greedy (root p) tape)) ≡ cell-count 8 n = length-pack 8 (greedy (root p) tape) ∙ ap (cell-count 8) (sym k) in
-        let f : cell-count 8 n ≤ 65536 = omega (arith, greedy-few p (clear .good) tape (clear .few) e) in
+        let f : cell-count 8 n ≤ byte-limit = omega (arith, greedy-few p (clear .good) tape (clear .few) e) in
         record {
           read = record {
             good = clear .good;
@@ -215,7 +248,9 @@ module _ (p : Pattern) (tape ws us xs ys : List ℕ) (lw : length ws ≡ 7202) (
 
   follows : (r : Parsed) → Parses p tape ws us xs ys r → Follows p tape us ys r
   unfolding Parses
-  follows r w = go (early-cause p tape .number) refl (subst (λ a. Parses-by (a .number) a p tape ws us xs ys (parsed-answer r)) (ap (early p tape) lw ∙ early-same p tape) w)
+  follows r w =
+      go (early-cause p tape .number) refl (subst (λ a. Parses-by (a .number) a p tape ws us xs ys (parsed-answer r)) (ap (early p tape) lw
+      ∙ early-same p tape) w)
     where
       go : (n : ℕ) → early-cause p tape .number ≡ n → Parses-by n (early-cause p tape) p tape ws us xs ys (parsed-answer r) → Follows p tape us ys r
       go zero e g = swept e (g .0) (readable (root p) tape) refl r (g .1)
@@ -251,7 +286,7 @@ module _ (text file : List ℕ) (l : Loaded) (h : Loads text l) where
   unfolding listing-of
   load-refused why e =
       let a : refused why ≡ load-answer text = sym (ap outcome-answer e) ∙ h .answers in
-      let z : load-answer text .number ≡ 0 → ⊥ = λ q. omega (arith, positive why, ap (λ x. x .number) a) in
+      let z : load-answer text .number ≡ 0 → ⊥ = λ q. omega (arith, number-positive why, ap (λ x. x .number) a) in
       ap refused-line a ∙ sym (rw (ne-eqb (load-answer text .number) 0 z))
 
   pub load-listed : (n k : ℕ) → l .outcome ≡ Lines n → Letters file k → pattern-listing (l .pattern) (take k file) ≡ listing-of text file
@@ -265,19 +300,20 @@ module _ (text file : List ℕ) (l : Loaded) (h : Loads text l) where
 pub list-short : (text file out : List ℕ) → length out < room → Lists text file out out TooShort
 list-short text file out l = record { fits = λ h. absurd (omega arith); short = λ h. (refl, refl) }
 
-pub list-done : (text file out now : List ℕ) (end : ℕ) → room ≤ length out → Puts out 0 (listing-of text file) now end → end ≤ room → Lists text file out now (Bytes end)
-list-done text file out now end l p b =
-    let (e, w) = puts-front out (listing-of text file) now end (omega (arith, p .ends)) p in
+pub list-done : (text file out now : List ℕ) (end : ℕ) → room ≤ length out → Shows out (listing-of text file) now end
+    → Lists text file out now (Bytes end)
+unfolding in-front
+list-done text file out now end l s =
+    let (e, w) = puts-front out (listing-of text file) now end (omega (arith, s .fits)) (s .puts) in
     record { fits = λ h. (ap Bytes e, w); short = λ h. absurd (omega arith) }
 
-pub same-listing : (old : List ℕ) (at : ℕ) (x y now : List ℕ) (end : ℕ) → x ≡ y → Puts old at x now end → Puts old at y now end
-same-listing old at x y now end e p = subst (λ z. Puts old at z now end) e p
-
 -- a listing lies inside the buffer
-pub listed-within : (text file out now : List ℕ) (r : Listed) (n : ℕ) → Lists text file out now r → r ≡ Bytes n → room ≤ length out → length now ≡ length out → n ≤ length now
+pub listed-within : (text file out now : List ℕ) (r : Listed) (n : ℕ) → Lists text file out now r → r ≡ Bytes n → room ≤ length out
+    → length now ≡ length out → n ≤ length now
 unfolding in-front
 listed-within text file out now r n h e l same =
     let (a, w) = h .fits l in
     let k : n ≡ length (listing-of text file) = cc in
-    let s : length now ≡ length (listing-of text file) + length (drop (length (listing-of text file)) out) = ap length w ∙ length-append (listing-of text file) (drop (length (listing-of text file)) out) in
+    let s : length now ≡ length (listing-of text file) + length (drop (length (listing-of text file)) out) =
+    ap length w ∙ length-append (listing-of text file) (drop (length (listing-of text file)) out) in
     omega arith

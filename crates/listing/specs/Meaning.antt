@@ -22,7 +22,9 @@ use Rattle.semantics.specs.Sweeps.{readable, greedy}
 use Rattle.semantics.specs.CodeLaws.{value-of-code}
 use Rattle.semantics.specs.GreedyLaws.{canonical-greedy, readable-iff}
 use Rattle.first_sweep.specs.StateSets.{words}
-use Rattle.listing.specs.Listing.{tape-line, account-lines, open-lines, refused-line, listing, read-listing, early-cause, pattern-listing, tape-of, listing-of}
+use Rattle.text.specs.Text.{refused-line}
+use Rattle.listing.specs.Listing.{tape-line, account-lines, open-lines, listing, read-listing, early-cause, pattern-listing, tape-of, listing-of}
+use Rattle.listing.specs.ListingLaws.{refused-by, read-by}
 
 -- the lines of a tape whose greedy value is v: letters, bits and bytes of its code; litres by account; open nodes of each position
 abbrev pub value-listing : (p : Pattern) → (tape : List ℕ) → Value (root p) → List ℕ
@@ -34,7 +36,8 @@ value-listing p tape v =
 pub record Says (text file bytes : List ℕ) : Type 0 where
   -- loading's causes, then reading's before the sweeps
   pub pattern-refused : (load-answer text .number ≡ 0 → ⊥) → bytes ≡ refused-line (load-answer text)
-  pub tape-refused : load-answer text .number ≡ 0 → (early-cause (load-table text) (tape-of file) .number ≡ 0 → ⊥) → bytes ≡ refused-line (early-cause (load-table text) (tape-of file))
+  pub tape-refused : load-answer text .number ≡ 0 → (early-cause (load-table text) (tape-of file) .number ≡ 0 → ⊥)
+      → bytes ≡ refused-line (early-cause (load-table text) (tape-of file))
   -- no value of the pattern spells the tape
   pub unreadable : load-answer text .number ≡ 0 → early-cause (load-table text) (tape-of file) .number ≡ 0
       → ((v : Value (root (load-table text))) → flat (root (load-table text)) v ≡ tape-of file → ⊥) → bytes ≡ refused-line (refused Unreadable)
@@ -51,14 +54,6 @@ unfolding listing-of
 not-loaded text file e = rw (ne-eqb (load-answer text .number) 0 e)
 
 module _ (p : Pattern) (tape : List ℕ) where
-  stopped : (early-cause p tape .number ≡ 0 → ⊥) → pattern-listing p tape ≡ refused-line (early-cause p tape)
-  unfolding pattern-listing
-  stopped e = rw (ne-eqb (early-cause p tape .number) 0 e)
-
-  passed : early-cause p tape .number ≡ 0 → pattern-listing p tape ≡ read-listing p tape
-  unfolding pattern-listing
-  passed e = rw (eq-eqb (early-cause p tape .number) 0 e)
-
   off : ((v : Value (root p)) → flat (root p) v ≡ tape → ⊥) → readable (root p) tape ≡ false
   off none = go (readable (root p) tape) refl
     where
@@ -81,7 +76,7 @@ module _ (p : Pattern) (tape : List ℕ) where
 pub listing-says : (text file : List ℕ) → Says text file (listing-of text file)
 listing-says text file = record {
   pattern-refused = λ e. not-loaded text file e;
-  tape-refused = λ e f. loaded text file e ∙ stopped (load-table text) (tape-of file) f;
-  unreadable = λ e f n. loaded text file e ∙ passed (load-table text) (tape-of file) f ∙ no-value (load-table text) (tape-of file) n;
-  read = λ e f v g. loaded text file e ∙ passed (load-table text) (tape-of file) f ∙ its-value (load-table text) (tape-of file) v g;
+  tape-refused = λ e f. loaded text file e ∙ refused-by (load-table text) (tape-of file) f;
+  unreadable = λ e f n. loaded text file e ∙ read-by (load-table text) (tape-of file) f ∙ no-value (load-table text) (tape-of file) n;
+  read = λ e f v g. loaded text file e ∙ read-by (load-table text) (tape-of file) f ∙ its-value (load-table text) (tape-of file) v g;
 }

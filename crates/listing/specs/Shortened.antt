@@ -13,15 +13,27 @@ use lib.Seq.{take-nil, take-all, length-take-le}
 use Rattle.syntax.specs.declared.Pattern.{Pattern}
 use Rattle.refusals.specs.declared.Refusal.the-variants.{Tree as Tree-fault, TapeTooLong}
 use Rattle.syntax.specs.Letter.{letter-limit}
-use Rattle.refusals.specs.Refusals.{refused}
+use Rattle.refusals.specs.Refusals.{Answer, refused}
 use Rattle.syntax.specs.Table.{obeys}
 use Rattle.loading.specs.Text.{Row, byte-front, rows, place, single, account, line-of, row-line, fault, line-front, forms}
 use Rattle.loading.specs.Load.{forms-answer, forms-table, load-answer, load-table}
 use Rattle.loading.specs.Scans.{first-fields, first-closed, first-size, parts-say, account-says}
-use Rattle.loading.specs.Scanning.{line-no-place, line-no-long, line-no-kind, line-short, line-alone, line-account, account-no-long, parts-no-long, parts-no-second, parts-no-more}
+use Rattle.loading.specs.Scanning.{
+  line-no-place,
+  line-no-long,
+  line-no-kind,
+  line-short,
+  line-alone,
+  line-account,
+  account-no-long,
+  parts-no-long,
+  parts-no-second,
+  parts-no-more,
+}
 use Rattle.loading.specs.Lines.{rows-first}
 use Rattle.parser.specs.Parse.{early}
-use Rattle.listing.specs.Listing.{refused-line, read-listing, early-cause, pattern-listing, closed, tape-of, listing-of}
+use Rattle.text.specs.Text.{refused-line}
+use Rattle.listing.specs.Listing.{read-listing, early-cause, pattern-listing, closed, tape-of, listing-of}
 
 -- ── a good line is short ──
 -- the bytes of fields, each with the tab or the line's end behind it
@@ -53,10 +65,13 @@ by-length P s l (a ∷ b ∷ c ∷ x) = l a b c x
 
 parts-none : (a k : ℕ) (more : List (List ℕ)) → 7 ≤ total more → parts-say a k more ≡ none
 parts-none a k [] h = absurd (omega arith)
-parts-none a k (x ∷ []) h = by-length (λ x. 7 ≤ total (x ∷ []) → parts-say a k (x ∷ []) ≡ none) (λ x l h. absurd (omega arith)) (λ b c d x h. parts-no-long a k b c d x []) x h
+parts-none a k (x ∷ []) h =
+    by-length (λ x. 7 ≤ total (x ∷ []) → parts-say a k (x ∷ []) ≡ none) (λ x l h. absurd (omega arith))
+    (λ b c d x h. parts-no-long a k b c d x []) x h
 parts-none a k (x ∷ y ∷ []) h =
     by-length (λ x. 7 ≤ total (x ∷ y ∷ []) → parts-say a k (x ∷ y ∷ []) ≡ none)
-    (λ x l h. by-length (λ y. 7 ≤ total (x ∷ y ∷ []) → parts-say a k (x ∷ y ∷ []) ≡ none) (λ y m h. absurd (omega arith)) (λ b c d y h. parts-no-second a k x b c d y []) y h)
+    (λ x l h. by-length (λ y. 7 ≤ total (x ∷ y ∷ []) → parts-say a k (x ∷ y ∷ []) ≡ none) (λ y m h. absurd (omega arith))
+    (λ b c d y h. parts-no-second a k x b c d y []) y h)
     (λ b c d x h. parts-no-long a k b c d x (y ∷ [])) x h
 parts-none a k (x ∷ y ∷ z ∷ more) h = parts-no-more a k x y z more
 
@@ -73,7 +88,8 @@ module _ (i : ℕ) (l : i < 64) where
   line-none (p ∷ k ∷ []) h = line-short i p k
   line-none (p ∷ k ∷ a ∷ more) h =
       by-length (λ p. 16 ≤ total (p ∷ k ∷ a ∷ more) → line-of i (p ∷ k ∷ a ∷ more) ≡ none)
-      (λ p lp h. by-length (λ k. 16 ≤ total (p ∷ k ∷ a ∷ more) → line-of i (p ∷ k ∷ a ∷ more) ≡ none) (λ k lk h. own p k (eqb (place p) i) refl (omega arith)) (λ x y z k h. line-no-kind i p x y z k (a ∷ more)) k h)
+      (λ p lp h. by-length (λ k. 16 ≤ total (p ∷ k ∷ a ∷ more) → line-of i (p ∷ k ∷ a ∷ more) ≡ none)
+      (λ k lk h. own p k (eqb (place p) i) refl (omega arith)) (λ x y z k h. line-no-kind i p x y z k (a ∷ more)) k h)
       (λ x y z p h. line-no-long i l x y z p (k ∷ a ∷ more)) p h
     where
       own : (p k : List ℕ) (b : Bool) → eqb (place p) i ≡ b → 10 ≤ total (a ∷ more) → line-of i (p ∷ k ∷ a ∷ more) ≡ none
@@ -97,7 +113,8 @@ same-line [] m h = rw (take-nil {A = ℕ} m) (record { fields = refl; closed = r
 same-line (b ∷ bs) zero h = absurd (omega arith)
 same-line (b ∷ bs) (suc m) h = go (eqb b 10) (eqb b 9) refl (λ k. same-line bs m k) h
   where
-    go : (x y : Bool) → eqb b 10 ≡ x → (first-size bs < m → Same-line bs (take m bs)) → cond x 0 (suc (first-size bs)) < suc m → Same-line (b ∷ bs) (b ∷ take m bs)
+    go : (x y : Bool) → eqb b 10 ≡ x → (first-size bs < m → Same-line bs (take m bs)) → cond x 0 (suc (first-size bs)) < suc m
+        → Same-line (b ∷ bs) (b ∷ take m bs)
     go true y e ih h = record { fields = rw e; closed = rw e; size = rw e }
     go false y e ih h =
         let s = ih (omega arith) in
@@ -110,7 +127,8 @@ still-long [] m (suc n) l h = absurd (omega arith)
 still-long (b ∷ bs) zero (suc n) l h = absurd (omega arith)
 still-long (b ∷ bs) (suc m) (suc n) l h = go (eqb b 10) (λ k. still-long bs m n (omega arith) k) h
   where
-    go : (x : Bool) → (n ≤ first-size bs → n ≤ first-size (take m bs)) → suc n ≤ cond x 0 (suc (first-size bs)) → suc n ≤ cond x 0 (suc (first-size (take m bs)))
+    go : (x : Bool) → (n ≤ first-size bs → n ≤ first-size (take m bs)) → suc n ≤ cond x 0 (suc (first-size bs))
+        → suc n ≤ cond x 0 (suc (first-size (take m bs)))
     go true ih h = absurd (omega arith)
     go false ih h = omega (arith, ih (omega arith))
 
@@ -124,7 +142,8 @@ drop-of-take (suc k) n (suc m) (b ∷ bs) e = drop-of-take k n m bs (omega arith
 abbrev first-line : List ℕ → Row
 first-line w = record { fields = first-fields w; closed = first-closed w }
 
-forms-first : (i b : ℕ) (bs : List ℕ) → i < 64 → forms i (rows (b ∷ bs)) ≡ line-front i (row-line i (first-line (b ∷ bs))) (forms (suc i) (rows (drop (suc (first-size (b ∷ bs))) (b ∷ bs))))
+forms-first : (i b : ℕ) (bs : List ℕ) → i < 64
+    → forms i (rows (b ∷ bs)) ≡ line-front i (row-line i (first-line (b ∷ bs))) (forms (suc i) (rows (drop (suc (first-size (b ∷ bs))) (b ∷ bs))))
 unfolding forms
 forms-first i b bs l = rw (rows-first b bs, lt-ltb i 64 l)
 
@@ -141,8 +160,9 @@ forms-same : (i b m : ℕ) (bs : List ℕ) → i < 64 → Same-line (b ∷ bs) (
     → forms (suc i) (rows (drop (suc (first-size (b ∷ bs))) (b ∷ take m bs))) ≡ forms (suc i) (rows (drop (suc (first-size (b ∷ bs))) (b ∷ bs)))
     → forms i (rows (b ∷ take m bs)) ≡ forms i (rows (b ∷ bs))
 forms-same i b m bs l s ih =
+    let same : first-line (b ∷ take m bs) ≡ first-line (b ∷ bs) = ap₂ (λ f c. record { fields = f; closed = c }) (s .fields) (s .closed) in
     forms-first i b (take m bs) l
-    ∙ ap₂ (λ r n. line-front i (row-line i r) (forms (suc i) (rows (drop (suc n) (b ∷ take m bs))))) (ap₂ (λ f c. record { fields = f; closed = c }) (s .fields) (s .closed)) (s .size)
+    ∙ ap₂ (λ r n. line-front i (row-line i r) (forms (suc i) (rows (drop (suc n) (b ∷ take m bs))))) same (s .size)
     ∙ ap (line-front i (row-line i (first-line (b ∷ bs)))) ih
     ∙ sym (forms-first i b bs l)
 
@@ -182,15 +202,19 @@ module _ (text : List ℕ) (m : ℕ) (h : 1025 ≤ m) where
   load-table-short = ap forms-table (short-forms 64 0 (omega arith) text m (omega arith))
 
 -- ── the tape ──
-over-cause : (p : Pattern) (tape : List ℕ) → letter-limit < length tape → early-cause p tape ≡ cond (not (obeys p)) (refused (Tree-fault 0)) (refused TapeTooLong)
+-- what a tape that is too long is answered by
+abbrev over-answer : (obeyed : Bool) → Answer
+over-answer o = cond (not o) (refused (Tree-fault 0)) (refused TapeTooLong)
+
+over-cause : (p : Pattern) (tape : List ℕ) → letter-limit < length tape → early-cause p tape ≡ over-answer (obeys p)
 unfolding early-cause early
 over-cause p tape h = rw (lt-ltb letter-limit (length tape) h)
 
-over-listing : (p : Pattern) (tape : List ℕ) → letter-limit < length tape → pattern-listing p tape ≡ refused-line (cond (not (obeys p)) (refused (Tree-fault 0)) (refused TapeTooLong))
+over-listing : (p : Pattern) (tape : List ℕ) → letter-limit < length tape → pattern-listing p tape ≡ refused-line (over-answer (obeys p))
 unfolding pattern-listing
 over-listing p tape h = rw (over-cause p tape h) (go (obeys p))
   where
-    go : (o : Bool) → cond (eqb (cond (not o) (refused (Tree-fault 0)) (refused TapeTooLong) .number) 0) (read-listing p tape) (refused-line (cond (not o) (refused (Tree-fault 0)) (refused TapeTooLong))) ≡ refused-line (cond (not o) (refused (Tree-fault 0)) (refused TapeTooLong))
+    go : (o : Bool) → cond (eqb (over-answer o .number) 0) (read-listing p tape) (refused-line (over-answer o)) ≡ refused-line (over-answer o)
     go true = refl
     go false = refl
 

@@ -1,29 +1,30 @@
 // The listing of a tape, out of a pattern's text and a tape's bytes: every byte that the program `tapelist` prints.
 ghost use mathlib.Core.Path.{_≡_};
-ghost use Prim.Native.Nat.{_≤_};
 ghost use lib.ListN.{length};
-ghost use Rattle.listing.specs.Listing.{listing, pattern-listing, listing-of, room, Lists};
-ghost use Rattle.listing.specs.ListingLaws.{Read, Letters};
-ghost use Rattle.listing.specs.Putting.{Puts};
+ghost use Rattle.bits.specs.Bits.{byte-limit};
+ghost use Rattle.listing.specs.Listing.{listing, pattern-listing, listing-of, word-limit, Lists};
+ghost use Rattle.listing.specs.ListingLaws.{Read, Shows, Letters};
 ghost use Rattle.semantics.specs.Sweeps.{greedy};
 ghost use Rattle.syntax.specs.Trees.{root};
 
 mod lines; // lines.rt: the lines of a listing
-mod put; // put.rt: bytes, numbers and hexadecimal digits
 
 use codes::totals;
 use lines::put_accounts;
 use lines::put_open;
-use lines::put_refused;
 use lines::put_tape;
 use loading::Outcome;
 use loading::load;
 use parser::Parsed;
 use parser::parse;
 use syntax::Pattern;
+use text::put_refused;
 
 // Bytes that hold every listing: at most 131,100 for the first line, 30 for each account, 27 for each position.
 pub const MAX_LISTING: usize = 262144;
+
+// Mark words for the longest tape: two for each position, and one position more than letters.
+const MAX_WORDS: usize = 2 * (Pattern::MAX_LETTERS + 1);
 
 // What listing answers: how many bytes the listing has, or that the buffer is shorter than MAX_LISTING.
 pub enum Listed {
@@ -40,22 +41,21 @@ fn list_read(
     count: u32,
     out: &mut [u8],
 ) -> usize
-    requires { ⌜ (Read p (now tape) (now words) (now code) count) × (room ≤ length (now out)) ⌝ }
-    ensures { λ r.
-        ⌜ (Puts (now (out .entry)) 0 (listing p (now (tape .entry)) (greedy (root p) (now (tape .entry)))) (now (out .exit)) r) × (r ≤ room) ⌝ }
+    requires { ⌜ Read p (now tape) (now words) (now code) count ⌝ }
+    ensures { λ r. ⌜ Shows (now (out .entry)) (listing p (now (tape .entry)) (greedy (root p) (now (tape .entry)))) (now (out .exit)) r ⌝ }
 {
     let totalled = totals(p, code, count);
     let litres = totalled.litres;
     let n = tape.len();
-    let first = put_tape(out, 0, n as u32, count, code);
+    let first = put_tape(out, 0, n as u64, count as u64, code);
     let second = put_accounts(out, first, &litres);
     put_open(out, second, words, n)
 }
 
 // Reads the tape in work buffers that always suffice.
 fn list_with(p: Pattern, tape: &[u8], words: &mut [u64], code: &mut [u8], out: &mut [u8]) -> usize
-    requires { ⌜ (length (now words) ≡ 7202) × (length (now code) ≡ 65536) × (room ≤ length (now out)) ⌝ }
-    ensures { λ r. ⌜ (Puts (now (out .entry)) 0 (pattern-listing p (now (tape .entry))) (now (out .exit)) r) × (r ≤ room) ⌝ }
+    requires { ⌜ (length (now words) ≡ word-limit) × (length (now code) ≡ byte-limit) ⌝ }
+    ensures { λ r. ⌜ Shows (now (out .entry)) (pattern-listing p (now (tape .entry))) (now (out .exit)) r ⌝ }
 {
     let parsed = parse(p, tape, words, code);
     match parsed {
@@ -67,13 +67,12 @@ fn list_with(p: Pattern, tape: &[u8], words: &mut [u64], code: &mut [u8], out: &
     }
 }
 
-// 2 × (3,600 + 1) mark words and 65,536 code bytes suffice for every tape.
+// Words and code bytes for the longest tape suffice for every tape.
 fn list_tape(p: Pattern, tape: &[u8], out: &mut [u8]) -> usize
-    requires { ⌜ room ≤ length (now out) ⌝ }
-    ensures { λ r. ⌜ (Puts (now (out .entry)) 0 (pattern-listing p (now (tape .entry))) (now (out .exit)) r) × (r ≤ room) ⌝ }
+    ensures { λ r. ⌜ Shows (now (out .entry)) (pattern-listing p (now (tape .entry))) (now (out .exit)) r ⌝ }
 {
-    let mut words = [0u64; 7202];
-    let mut code = [0u8; 65536];
+    let mut words = [0u64; MAX_WORDS];
+    let mut code = [0u8; Pattern::MAX_CODE_BYTES];
     list_with(p, tape, &mut words, &mut code, out)
 }
 
@@ -93,9 +92,7 @@ fn letters_of(tape: &[u8]) -> usize
 
 // The pattern is judged first.
 fn list_text(text: &[u8], tape: &[u8], out: &mut [u8]) -> usize
-    requires { ⌜ room ≤ length (now out) ⌝ }
-    ensures { λ r.
-        ⌜ (Puts (now (out .entry)) 0 (listing-of (now (text .entry)) (now (tape .entry))) (now (out .exit)) r) × (r ≤ room) ⌝ }
+    ensures { λ r. ⌜ Shows (now (out .entry)) (listing-of (now (text .entry)) (now (tape .entry))) (now (out .exit)) r ⌝ }
 {
     let loaded = load(text);
     let p = loaded.pattern;

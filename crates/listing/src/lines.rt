@@ -1,42 +1,17 @@
-// The lines of a listing, each put into a buffer from `at` on. The answer is the place behind it.
-ghost use mathlib.Core.Path.{_≡_};
+// The lines of a listing, each put into a buffer from `at` on. The answer is where it ends; what does not fit is left out.
 ghost use Prim.Native.Nat.{suc, _+_, _*_, _≤_};
 ghost use lib.ListN.{length};
-ghost use Rattle.listing.specs.Listing.{entry, line, tape-line, account-line, account-lines, open-lines, refused-line};
-ghost use Rattle.listing.specs.Putting.{Puts, Room};
-ghost use Rattle.syntax.specs.Letter.{letter-limit};
-ghost use Rattle.refusals.specs.Refusals.{refused};
-use crate::put::put_byte;
-use crate::put::put_bytes;
-use crate::put::put_field;
-use crate::put::put_hex;
+ghost use Rattle.text.specs.Text.{Puts};
+ghost use Rattle.listing.specs.Listing.{tape-line, account-line, account-lines, open-lines};
 use bits::open_nodes;
-use refusals::Refusal;
-use refusals::number_of;
-use refusals::value_of;
-
-// A word and two numbers.
-fn put_entry(out: &mut [u8], at: usize, word: &[u8], a: u32, b: u32) -> usize
-    requires { ⌜ Room (length (now out)) at (entry (now word) a b) ⌝ }
-    ensures { λ r. ⌜ Puts (now (out .entry)) at (entry (now (word .entry)) a b) (now (out .exit)) r ⌝ }
-{
-    let first = put_bytes(out, at, word);
-    let second = put_field(out, first, a);
-    put_field(out, second, b)
-}
-
-// The same as a line.
-fn put_line(out: &mut [u8], at: usize, word: &[u8], a: u32, b: u32) -> usize
-    requires { ⌜ Room (length (now out)) at (line (now word) a b) ⌝ }
-    ensures { λ r. ⌜ Puts (now (out .entry)) at (line (now (word .entry)) a b) (now (out .exit)) r ⌝ }
-{
-    let end = put_entry(out, at, word, a, b);
-    put_byte(out, end, b'\n')
-}
+use text::least;
+use text::put_byte;
+use text::put_entry;
+use text::put_hex;
+use text::put_line;
 
 // Letters, bits, and the code in hexadecimal.
-pub(crate) fn put_tape(out: &mut [u8], at: usize, letters: u32, bits: u32, code: &[u8]) -> usize
-    requires { ⌜ at + (28 + 2 * length (now code)) ≤ length (now out) ⌝ }
+pub(crate) fn put_tape(out: &mut [u8], at: usize, letters: u64, bits: u64, code: &[u8]) -> usize
     ensures { λ r. ⌜ Puts (now (out .entry)) at (tape-line letters bits (now (code .entry))) (now (out .exit)) r ⌝ }
 {
     let first = put_entry(out, at, b"tape", letters, bits);
@@ -46,24 +21,25 @@ pub(crate) fn put_tape(out: &mut [u8], at: usize, letters: u32, bits: u32, code:
 }
 
 // Nothing for an account without litres.
-fn put_account(out: &mut [u8], at: usize, account: u32, litres: u32) -> usize
-    requires { ⌜ Room (length (now out)) at (account-line account litres) ⌝ }
+fn put_account(out: &mut [u8], at: usize, account: u64, litres: u32) -> usize
     ensures { λ r. ⌜ Puts (now (out .entry)) at (account-line account litres) (now (out .exit)) r ⌝ }
 {
     if litres == 0 {
-        return at;
+        return least(at, out.len());
     }
-    put_line(out, at, b"account", account, litres)
+    put_line(out, at, b"account", account, litres as u64)
 }
 
+// A line has at most 30 bytes.
 pub(crate) fn put_accounts(out: &mut [u8], at: usize, litres: &[u32]) -> usize
-    requires { ⌜ (at + 300 ≤ length (now out)) × (length (now litres) ≤ 10) ⌝ }
-    ensures { λ r. ⌜ (Puts (now (out .entry)) at (account-lines 0 (now (litres .entry))) (now (out .exit)) r) × (r ≤ at + 300) ⌝ }
+    requires { ⌜ length (now litres) ≤ 10 ⌝ }
+    ensures { λ r. ⌜ Puts (now (out .entry)) at (account-lines 0 (now (litres .entry))) (now (out .exit)) r ⌝ }
+    ensures { λ r. ⌜ length (account-lines 0 (now (litres .entry))) ≤ 300 ⌝ }
 {
-    let mut end = at;
+    let mut end = least(at, out.len());
     let mut i = 0;
     while i < litres.len() {
-        end = put_account(out, end, i as u32, litres[i]);
+        end = put_account(out, end, i as u64, litres[i]);
         i += 1;
     }
     end
@@ -71,23 +47,15 @@ pub(crate) fn put_accounts(out: &mut [u8], at: usize, litres: &[u32]) -> usize
 
 // Positions 0 to `letters`, each with the ones of its flag 1 word.
 pub(crate) fn put_open(out: &mut [u8], at: usize, words: &[u64], letters: usize) -> usize
-    requires { ⌜ (at + 27 * (letters + 1) ≤ length (now out)) × (letters ≤ letter-limit) × (2 * (letters + 1) ≤ length (now words)) ⌝ }
+    requires { ⌜ 2 * (letters + 1) ≤ length (now words) ⌝ }
     ensures { λ r. ⌜ Puts (now (out .entry)) at (open-lines (now (words .entry)) 0 (suc letters)) (now (out .exit)) r ⌝ }
 {
-    let mut end = at;
+    let mut end = least(at, out.len());
     let mut i = 0;
     while i <= letters {
         let open = open_nodes(words[2 * i + 1]);
-        end = put_line(out, end, b"open", i as u32, open);
+        end = put_line(out, end, b"open", i as u64, open as u64);
         i += 1;
     }
     end
-}
-
-// The line of a refusal.
-pub(crate) fn put_refused(out: &mut [u8], at: usize, why: Refusal) -> usize
-    requires { ⌜ at + 30 ≤ length (now out) ⌝ }
-    ensures { λ r. ⌜ (Puts (now (out .entry)) at (refused-line (refused why)) (now (out .exit)) r) × (r ≤ at + 30) ⌝ }
-{
-    put_line(out, at, b"refused", number_of(why), value_of(why))
 }

@@ -7,7 +7,7 @@ use native.Mathlib.Omega.{arith}
 use borrow.Author.Tests.{lt-ltb, le-ltb, ltb-true, ltb-false}
 use lib.Dec.{ltb}
 use lib.ListN.{length, length-append}
-use Rattle.text.specs.Text.{digits, decimal, hex-digit, hex-byte, hex}
+use Rattle.text.specs.Text.{digits, decimal, hex-digit}
 
 digits-small : (k n : ℕ) → n < 10 → digits (suc k) n ≡ (48 + n) ∷ []
 unfolding digits
@@ -29,11 +29,11 @@ digits-enough (suc k) (suc j) n h g = go (ltb n 10) refl (λ l. digits-enough k 
         let l : 10 ≤ n = ltb-false n 10 e in
         digits-large k n l ∙ ap (λ ds. ds ++ ((48 + n % 10) ∷ [])) (ih l) ∙ sym (digits-large j n l)
 
-pub decimal-small : (n : ℕ) → n < 10 → decimal n ≡ (48 + n) ∷ []
+decimal-small : (n : ℕ) → n < 10 → decimal n ≡ (48 + n) ∷ []
 unfolding decimal
 decimal-small n h = digits-small n n h
 
-pub decimal-large : (n : ℕ) → 10 ≤ n → decimal n ≡ decimal (n / 10) ++ ((48 + n % 10) ∷ [])
+decimal-large : (n : ℕ) → 10 ≤ n → decimal n ≡ decimal (n / 10) ++ ((48 + n % 10) ∷ [])
 unfolding decimal
 decimal-large n h = digits-large n n h ∙ ap (λ ds. ds ++ ((48 + n % 10) ∷ [])) (digits-enough n (suc (n / 10)) (n / 10) (omega arith) (omega arith))
 
@@ -45,10 +45,6 @@ decimal-few (suc k) n h = go (ltb n 10) refl (decimal-few k (n / 10) (omega arit
     go : (b : Bool) → ltb n 10 ≡ b → length (decimal (n / 10)) ≤ suc k → length (decimal n) ≤ suc (suc k)
     go true e f = rw (decimal-small n (ltb-true n 10 e)) (omega arith)
     go false e f = rw (decimal-large n (ltb-false n 10 e), length-append) (omega arith)
-
--- the numbers of 32 bits
-pub decimal-ten : (n : ℕ) → n < 4294967296 → length (decimal n) ≤ 10
-decimal-ten n h = decimal-few 9 n (omega arith)
 
 -- ── the digits write the number ──
 abbrev pub number-from : (so-far : ℕ) → List ℕ → ℕ
@@ -91,8 +87,3 @@ hex-low d h = rw (lt-ltb d 10 h)
 pub hex-high : (d : ℕ) → 10 ≤ d → 87 + d ≡ hex-digit d
 unfolding hex-digit
 hex-high d h = rw (le-ltb d 10 h)
-
-pub hex-length : (bs : List ℕ) → length (hex bs) ≡ 2 * length bs
-unfolding hex hex-byte
-hex-length [] = refl
-hex-length (b ∷ bs) = omega (arith, hex-length bs)

@@ -4,3 +4,5 @@ pub mod Text
 pub mod Putting
 -- The digits of numbers: as the code makes them, how many there are, and that they write the number.
 pub mod Digits
+-- How long lines can be.
+pub mod Lengths

@@ -148,10 +148,14 @@ pub entry-is : (word : List ℕ) (a b : ℕ) → (word ++ (9 ∷ [])) ++ pair a 
 unfolding entry
 entry-is word a b = append-assoc word (9 ∷ []) (pair a b)
 
-pub line-is : (word : List ℕ) (a b : ℕ) → entry word a b ++ (10 ∷ []) ≡ line word a b
+pub line-done : (out : List ℕ) (at : ℕ) (word : List ℕ) (a b : ℕ) (mid : List ℕ) (r x : ℕ) (after : List ℕ) (s : ℕ)
+    → Puts out at (entry word a b) mid r → Puts mid r (x ∷ []) after s → x ≡ 10 → Puts out at (line word a b) after s
 unfolding line
-line-is word a b = refl
+line-done out at word a b mid r x after s p q e =
+    puts-as out at _ _ after s (ap (λ y. entry word a b ++ (y ∷ [])) e) (puts-then out at _ mid r _ after s p q)
 
-pub refused-is : (why : Refusal) (a b : ℕ) → a ≡ number why → b ≡ value why → line refused-word a b ≡ refused-line (refused why)
+pub refused-done : (out : List ℕ) (at : ℕ) (why : Refusal) (word : List ℕ) (a b : ℕ) (after : List ℕ) (r : ℕ)
+    → Puts out at (line word a b) after r → word ≡ refused-word → a ≡ number why → b ≡ value why
+    → Puts out at (refused-line (refused why)) after r
 unfolding refused-line
-refused-is why a b ea eb = ap₂ (line refused-word) ea eb
+refused-done out at why word a b after r p w ea eb = puts-as out at _ _ after r (ap (λ x. line x a b) w ∙ ap₂ (line refused-word) ea eb) p

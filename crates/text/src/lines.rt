@@ -1,12 +1,14 @@
 // Fields parted by tabs, lines ended by byte 10, and refusals.
+ghost use Prim.Native.Nat.{_≤_};
+ghost use lib.ListN.{length};
 ghost use Rattle.refusals.specs.Refusals.{number, value, refused};
 ghost use Rattle.text.specs.Text.{Puts, parted, pair, entry, line, refused-line};
 use crate::digits::put_decimal;
 use crate::put::put_byte;
 use crate::put::put_bytes;
-use refusals::Refusal;
 use refusals::number_of;
 use refusals::value_of;
+use refusals::Refusal;
 
 // A number behind the byte that parts it from what stands before it.
 pub fn put_parted(out: &mut [u8], at: usize, by: u8, n: u64) -> usize
@@ -48,9 +50,10 @@ pub fn put_refusal(out: &mut [u8], at: usize, why: Refusal) -> usize
     put_pair(out, at, number_of(why) as u64, value_of(why) as u64)
 }
 
-// The line of a refusal.
+// The line of a refusal, which has at most 30 bytes.
 pub fn put_refused(out: &mut [u8], at: usize, why: Refusal) -> usize
     ensures { λ r. ⌜ Puts (now (out .entry)) at (refused-line (refused why)) (now (out .exit)) r ⌝ }
+    ensures { λ r. ⌜ length (refused-line (refused why)) ≤ 30 ⌝ }
 {
     put_line(
         out,

@@ -1,11 +1,11 @@
 -- Cases as text: what is read from a case's line, digests, and the lines of the input. Definitions only.
 use mathlib.Core.Path.{_≡_}
 use mathlib.Core.Bool.{Bool, true, false, _&&_, cond}
-use mathlib.Core.List.{List, [], _∷_}
+use mathlib.Core.List.{List, [], _∷_, _++_}
 use Prim.Native.Nat.{ℕ, _+_, _-_, _*_, _/_, _%_, _≤_, min}
 use lib.Dec.{eqb, leb}
 use lib.ListN.{length, take, drop}
-use Rattle.text.specs.Text.{Puts-to, hex, parted}
+use Rattle.text.specs.Text.{Puts-to, hex, parted, field}
 use Rattle.vector_text.specs.declared.lines.Input.{Input}
 
 -- the cells from `from` to before `to`, as far as there are any
@@ -64,6 +64,13 @@ word-step d w = digest-step (digest-step d w) (w / 4294967296)
 
 abbrev pub words-digest : (digest : ℕ) → List ℕ → ℕ
 words-digest = digest-by word-step
+
+-- what a call leaves: a digest of the words lent, the code bytes lent, and one digest of all cells past those lent, which goes on from `digest`
+abbrev pub left-text : (digest : ℕ) → (words : List ℕ) → (lent : ℕ) → (code : List ℕ) → (bytes : ℕ) → List ℕ
+left-text d words lent code bytes =
+    field (words-digest 1 (part 0 lent words))
+    ++ shown-text bytes code
+    ++ field (bytes-digest (words-digest d (part lent (length words) words)) (part bytes (length code) code))
 
 -- what stands before the first byte `stop`, and whether there is one
 abbrev pub before-byte : (stop : ℕ) → List ℕ → List ℕ

@@ -40,7 +40,9 @@ decimal-grows (c ∷ cs) n = omega (arith, appended-grows n c, decimal-grows cs 
 
 -- to cap a number before more digits come changes nothing of what is capped in the end
 capped : (cs : List ℕ) (n : ℕ) → min (decimal-from (min n most-number) cs) most-number ≡ min (decimal-from n cs) most-number
-capped cs n = ⊎-elim (λ a. ap (λ k. min (decimal-from k cs) most-number) (min-eq-left a)) (λ b. omega (arith, decimal-grows cs n, decimal-grows cs (min n most-number))) (le-or n most-number)
+capped cs n =
+    ⊎-elim (λ a. ap (λ k. min (decimal-from k cs) most-number) (min-eq-left a))
+    (λ b. omega (arith, decimal-grows cs n, decimal-grows cs (min n most-number))) (le-or n most-number)
 
 -- what is left to read from here gives the number of the whole text
 abbrev pub Reads : (all : List ℕ) (n : ℕ) (left : List ℕ) → Type 0
@@ -50,7 +52,8 @@ pub reads-start : (all : List ℕ) → Reads all 0 (drop 0 all)
 unfolding number-of-text
 reads-start all = (refl, omega arith)
 
-pub reads-turn : (all : List ℕ) (n i r : ℕ) → Reads all n (drop i all) → i < length all → r ≡ min (appended n (getD all i 0)) most-number → Reads all r (drop (i + 1) all)
+pub reads-turn : (all : List ℕ) (n i r : ℕ) → Reads all n (drop i all) → i < length all → r ≡ min (appended n (getD all i 0)) most-number
+    → Reads all r (drop (i + 1) all)
 reads-turn all n i r (h, k) l e = (
   ap (λ m. min (decimal-from m (drop (i + 1) all)) most-number) e
       ∙ capped (drop (i + 1) all) (appended n (getD all i 0))
@@ -63,7 +66,8 @@ pub reads-done : (all : List ℕ) (n i : ℕ) → Reads all n (drop i all) → l
 reads-done all n i (h, k) l = sym (min-eq-left k) ∙ sym (ap (λ xs. min (decimal-from n xs) most-number) (drop-done i all l)) ∙ h
 
 -- Digests.
-pub digest-turn : (add : ℕ → ℕ → ℕ) (d r v i to : ℕ) (xs : List ℕ) → i < to → i < length xs → v ≡ getD xs i 0 → r ≡ add d v → digest-by add r (part (i + 1) to xs) ≡ digest-by add d (part i to xs)
+pub digest-turn : (add : ℕ → ℕ → ℕ) (d r v i to : ℕ) (xs : List ℕ) → i < to → i < length xs → v ≡ getD xs i 0 → r ≡ add d v
+    → digest-by add r (part (i + 1) to xs) ≡ digest-by add d (part i to xs)
 digest-turn add d r v i to xs h k f e = ap (λ m. digest-by add m (part (i + 1) to xs)) (e ∙ ap (add d) f) ∙ sym (ap (digest-by add d) (part-next i to xs h k))
 
 -- The first byte of a kind.
@@ -90,7 +94,8 @@ pub seek-here : (stop : ℕ) (all : List ℕ) (i : ℕ) → Seeks-byte stop all 
 seek-here stop all i (h, k) l e = omega (arith, ap length (before-here stop (drop i all) (drop (i + 1) all) (getD all i 0) (drop-next i all l) e))
 
 pub seek-next : (stop : ℕ) (all : List ℕ) (i : ℕ) → Seeks-byte stop all i → i < length all → (getD all i 0 ≡ stop → ⊥) → Seeks-byte stop all (i + 1)
-seek-next stop all i (h, k) l e = (omega arith, omega (arith, ap length (before-next stop (drop i all) (drop (i + 1) all) (getD all i 0) (drop-next i all l) e)))
+seek-next stop all i (h, k) l e =
+    (omega arith, omega (arith, ap length (before-next stop (drop i all) (drop (i + 1) all) (getD all i 0) (drop-next i all l) e)))
 
 pub seek-done : (stop : ℕ) (all : List ℕ) (i : ℕ) → Seeks-byte stop all i → length all ≤ i → i ≡ length (before-byte stop all)
 seek-done stop all i (h, k) l = omega (arith, ap (λ xs. length (before-byte stop xs)) (drop-done i all l))
@@ -119,7 +124,8 @@ field-behind stop (c ∷ cs) = cases (field-behind stop cs) (eqb c stop) where
       let e : min (suc (length (before-byte stop cs)) + 1) (suc (length cs)) ≡ suc (min (length (before-byte stop cs) + 1) (length cs)) = omega arith in
       ap (λ k. drop k (c ∷ cs)) e ∙ h
 
-pub drop-behind : (stop : ℕ) (xs : List ℕ) (end start : ℕ) → end ≡ length (before-byte stop xs) → start ≡ min (end + 1) (length xs) → take (length xs - start) (drop start xs) ≡ behind-byte stop xs
+pub drop-behind : (stop : ℕ) (xs : List ℕ) (end start : ℕ) → end ≡ length (before-byte stop xs) → start ≡ min (end + 1) (length xs)
+    → take (length xs - start) (drop start xs) ≡ behind-byte stop xs
 drop-behind stop xs end start e f =
     let g : start ≡ min (length (before-byte stop xs) + 1) (length xs) = omega arith in
     take-all (length xs - start) (drop start xs) (omega (arith, length-drop start xs)) ∙ ap (λ k. drop k xs) g ∙ field-behind stop xs

@@ -28,7 +28,8 @@ module _ (start chunk : List ℕ) where
     counts = refl;
   }
 
-  pub hold-next : (from to first : ℕ) (line : List ℕ) (size j : ℕ) (after : List ℕ) (r : ℕ) → Holding start chunk from to first line size j → j < to → j < length chunk → (getD chunk j 0 ≡ 10 → ⊥)
+  pub hold-next : (from to first : ℕ) (line : List ℕ) (size j : ℕ) (after : List ℕ) (r : ℕ) → Holding start chunk from to first line size j → j < to
+      → j < length chunk → (getD chunk j 0 ≡ 10 → ⊥)
       → Puts-to (most-held line) line size (getD chunk j 0 ∷ []) after r → Holding start chunk from to first after r (j + 1)
   hold-next from to first line size j after r h a b e p =
       let next = part-next j to chunk a b in
@@ -39,13 +40,15 @@ module _ (start chunk : List ℕ) where
         counts = omega (arith, h .counts, ap length before);
       }
 
-  held-from : (i : Input) (first : ℕ) (bytes line : List ℕ) (size : ℕ) → first ≡ kept-size i → Puts-to (most-held start) start first bytes line size → Puts-to (most-held start) start (kept-size i) bytes line size
+  held-from : (i : Input) (first : ℕ) (bytes line : List ℕ) (size : ℕ) → first ≡ kept-size i → Puts-to (most-held start) start first bytes line size
+      → Puts-to (most-held start) start (kept-size i) bytes line size
   held-from i first bytes line size e p = record {
     leaves = p .leaves ∙ ap (λ k. sets start k bytes) e;
     ends = p .ends ∙ ap (λ k. min (k + length bytes) (most-held start)) e;
   }
 
-  pub hold-line : (i : Input) (first : ℕ) (line : List ℕ) (size j : ℕ) → first ≡ kept-size i → Holding start chunk (i .from) (i .to) first line size j → j < i .to → j < length chunk → getD chunk j 0 ≡ 10
+  pub hold-line : (i : Input) (first : ℕ) (line : List ℕ) (size j : ℕ) → first ≡ kept-size i → Holding start chunk (i .from) (i .to) first line size j
+      → j < i .to → j < length chunk → getD chunk j 0 ≡ 10
       → Holds start chunk i line (record { from = j + 1; to = i .to; size = size; complete = true; ended = false })
   hold-line i first line size j f h a b e =
       let next = part-next j (i .to) chunk a b in
@@ -60,7 +63,8 @@ module _ (start chunk : List ℕ) where
         goes-on = refl;
       }
 
-  pub hold-rest : (i : Input) (first : ℕ) (line : List ℕ) (size j : ℕ) → first ≡ kept-size i → Holding start chunk (i .from) (i .to) first line size j → (length chunk ≤ j) ⊎ (i .to ≤ j)
+  pub hold-rest : (i : Input) (first : ℕ) (line : List ℕ) (size j : ℕ) → first ≡ kept-size i → Holding start chunk (i .from) (i .to) first line size j
+      → (length chunk ≤ j) ⊎ (i .to ≤ j)
       → Holds start chunk i line (record { from = j; to = i .to; size = size; complete = false; ended = false })
   hold-rest i first line size j f h o =
       let e : part j (i .to) chunk ≡ [] = ⊎-elim (part-over j (i .to) chunk) (part-done j (i .to) chunk) o in

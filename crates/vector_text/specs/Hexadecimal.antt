@@ -28,7 +28,9 @@ no-digit c x y h = cases (leb 48 c) where
   cases true = rw (lt-leb c 57 h)
 
 pub value-letter : (c : ℕ) → 97 ≤ c → c ≤ 102 → hex-value c ≡ c - 87
-value-letter c h k = no-digit c (c - 48) (cond (leb 97 c && leb c 102) (c - 87) 16) (omega arith) ∙ ap₂ (λ a b. cond (a && b) (c - 87) 16) (le-leb 97 c h) (le-leb c 102 k)
+value-letter c h k =
+    no-digit c (c - 48) (cond (leb 97 c && leb c 102) (c - 87) 16) (omega arith)
+    ∙ ap₂ (λ a b. cond (a && b) (c - 87) 16) (le-leb 97 c h) (le-leb c 102 k)
 
 not-within : (a c b : ℕ) (x y : ℕ) → (a ≤ c → c ≤ b → ⊥) → cond (leb a c && leb c b) x y ≡ y
 not-within a c b x y h = cases (leb a c) (leb c b) refl refl where
@@ -77,7 +79,8 @@ bytes-next (x ∷ y ∷ xs) h = ap (λ b. cond b (hex-pair x y ∷ hex-bytes xs)
 pub decode-stop : (n b : ℕ) (cs : List ℕ) → b ≡ first-pair (drop (2 * n) cs) → 255 < b → hex-bytes (drop (2 * n) cs) ≡ []
 decode-stop n b cs e h = bytes-stop (drop (2 * n) cs) (omega (arith, e))
 
-pub decode-next : (n b : ℕ) (cs : List ℕ) → b ≡ first-pair (drop (2 * n) cs) → b ≤ 255 → hex-bytes (drop (2 * n) cs) ≡ (b ∷ []) ++ hex-bytes (drop (2 * (n + 1)) cs)
+pub decode-next : (n b : ℕ) (cs : List ℕ) → b ≡ first-pair (drop (2 * n) cs) → b ≤ 255
+    → hex-bytes (drop (2 * n) cs) ≡ (b ∷ []) ++ hex-bytes (drop (2 * (n + 1)) cs)
 decode-next n b cs e h =
     let m : 2 * n + 2 ≡ 2 * (n + 1) = omega arith in
     bytes-next (drop (2 * n) cs) (omega (arith, e)) ∙ ap₂ (λ x xs. x ∷ hex-bytes xs) (sym e) (drop-drop 2 (2 * n) cs ∙ ap (λ k. drop k cs) m)

@@ -1,10 +1,14 @@
 // For tests alone: the text of the vectors. The lines of the input, the fields of a case's line, and cells shown.
-mod cells; // cells.rt: bytes shown whole or as a digest
+mod cells; // cells.rt: cells shown whole or as digests
 mod digest; // digest.rt: digests of cells
 mod fields; // fields.rt: the fields of a case's line
 mod hex; // hex.rt: bytes from hexadecimal digits
 mod lines; // lines.rt: the lines of the input
+mod report; // report.rt: lines printed, and cells lent
 
+pub use cells::part_before;
+pub use cells::put_digest;
+pub use cells::put_left;
 pub use cells::put_shown;
 pub use digest::START;
 pub use digest::of_bytes;
@@ -16,3 +20,11 @@ pub use hex::decode;
 pub use lines::Input;
 pub use lines::advance;
 pub use lines::no_input;
+pub use report::ALL_BYTES;
+pub use report::ALL_WORDS;
+pub use report::BYTE_BEFORE;
+pub use report::MAX_CODE;
+pub use report::MAX_TAPE;
+pub use report::WORD_BEFORE;
+pub use report::print_line;
+pub use report::say_bad;

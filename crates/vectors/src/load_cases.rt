@@ -1,17 +1,17 @@
 // What loading a text answers: the outcome's number and value, and after them the table's nodes, one a line, fields parted
 // by tabs, numbers in decimal. Each `put_` function puts its bytes into `out` from `at` on and answers where they end. What
 // does not fit is left out.
-use crate::report::print_line;
 use loading::Loaded;
 use loading::Outcome;
 use syntax::Leaf;
 use syntax::Line;
 use syntax::Node;
 use syntax::Pattern;
-use vector_text::put_answer;
-use vector_text::put_byte;
-use vector_text::put_parted;
-use vector_text::put_refused;
+use text::put_byte;
+use text::put_pair;
+use text::put_parted;
+use text::put_refusal;
+use vector_text::print_line;
 
 // The fields of a node's line: kind, account and what the kind needs, 0 where it needs less.
 struct Row(u8, u8, u8, u8);
@@ -37,8 +37,8 @@ fn row_of(line: Line) -> Row {
 
 fn put_outcome(out: &mut [u8], outcome: Outcome) -> usize {
     match outcome {
-        Outcome::Lines(count) => put_answer(out, 0, count),
-        Outcome::Refused(why) => put_refused(out, why),
+        Outcome::Lines(count) => put_pair(out, 0, 0, count as u64),
+        Outcome::Refused(why) => put_refusal(out, 0, why),
     }
 }
 

@@ -1,27 +1,24 @@
-// Runs each case of standard input, one a line, and prints what the services answer and leave in the lent buffers. The
-// first field of a line is one letter, the case's kind: `l` loads a text, `p` reads a tape, `c` spells, totals and settles
-// a code, `s` shows a visit's piece. The pattern's text in hexadecimal comes next; the fields behind it stand in the
-// kind's module. Fields are parted by spaces. Byte 10 ends each line of the input; what stands after the last one is
-// left out.
-mod code_cases; // code_cases.rt: spelling, totalling and settling a code
+// For tests alone: runs each case of standard input, one a line, and prints what the services answer and leave in the lent
+// buffers. The first field of a line is one letter, the case's kind: `l` loads a text, `p` reads a tape, `c` spells, totals
+// and settles a code, `s` shows a visit's piece. The pattern's text in hexadecimal comes next; the fields behind it stand in
+// the kind's module, here or in crate vector_codes. Fields are parted by spaces. Byte 10 ends each line of the input; what
+// stands after the last one is left out.
 mod load_cases; // load_cases.rt: loading a text
 mod parse_cases; // parse_cases.rt: reading a tape
-mod report; // report.rt: what more than one kind says
-mod span_cases; // span_cases.rt: showing a visit's piece
 
-use code_cases::run_code;
 use load_cases::print_loaded;
 use loading::Loaded;
 use loading::load;
 use parse_cases::run_parse;
-use report::say_bad;
-use span_cases::run_span;
+use vector_codes::run_code;
+use vector_codes::run_span;
 use vector_text::Input;
 use vector_text::advance;
 use vector_text::decode;
 use vector_text::field;
 use vector_text::no_input;
 use vector_text::rest;
+use vector_text::say_bad;
 
 // Bytes held of a line, and of a pattern's text.
 const MAX_LINE: usize = 20480;

@@ -2,29 +2,27 @@
 // the pattern's text a case has the tape in hexadecimal, and how many mark words and code bytes are lent, in decimal. The
 // lent parts are the starts of larger arrays, whose cells are set before each case. Each `put_` function puts its bytes
 // into `out` from `at` on and answers where they end. What does not fit is left out.
-use crate::report::ALL_BYTES;
-use crate::report::ALL_WORDS;
-use crate::report::BYTE_BEFORE;
-use crate::report::WORD_BEFORE;
-use crate::report::part_before;
-use crate::report::print_line;
-use crate::report::put_left;
-use crate::report::say_bad;
 use parser::Parsed;
 use parser::parse;
 use syntax::Pattern;
+use text::least;
+use text::put_pair;
+use text::put_parted;
+use text::put_refusal;
+use vector_text::ALL_BYTES;
+use vector_text::ALL_WORDS;
+use vector_text::BYTE_BEFORE;
+use vector_text::MAX_TAPE;
 use vector_text::START;
+use vector_text::WORD_BEFORE;
 use vector_text::decode;
 use vector_text::field;
-use vector_text::least;
 use vector_text::number;
-use vector_text::put_answer;
-use vector_text::put_parted;
-use vector_text::put_refused;
+use vector_text::part_before;
+use vector_text::print_line;
+use vector_text::put_left;
 use vector_text::rest;
-
-// Bytes held of a tape.
-const MAX_TAPE: usize = 4096;
+use vector_text::say_bad;
 
 // The words of tapes up to this many letters are shown, and so many of them.
 const SHOWN_LETTERS: usize = 8;
@@ -34,8 +32,8 @@ const SHOWN_WORDS: usize = 20;
 // Number and value, from the start of `out`.
 fn put_parsed(out: &mut [u8], parsed: Parsed) -> usize {
     match parsed {
-        Parsed::Bits(count) => put_answer(out, 0, count),
-        Parsed::Refused(why) => put_refused(out, why),
+        Parsed::Bits(count) => put_pair(out, 0, 0, count as u64),
+        Parsed::Refused(why) => put_refusal(out, 0, why),
     }
 }
 

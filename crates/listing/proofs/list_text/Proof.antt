@@ -1,8 +1,7 @@
--- `listing::list_text` meets its contract.
+-- `listing::list_text` meets its contract: the line of a refused text, or the listing of the tape.
 use mathlib.Core.Path.{sym}
-use native.Mathlib.Omega.{arith}
 use lib.Seq.{length-take-le}
-use Rattle.listing.specs.ListingLaws.{load-refused, load-listed, same-listing}
+use Rattle.listing.specs.ListingLaws.{load-refused, load-listed, shows-as, shows-refused}
 use borrow.Author.Needs.{needs}
 use Rattle.listing.proofs.list_text.Statement.{statement}
 use Rattle.listing.proofs.list_text.Tie as tie
@@ -32,13 +31,26 @@ same-length : tie.Need-same-length
 same-length c = search needs
 
 returns : tie.Need-returns
-returns c = (same-listing _ 0 _ _ _ _ (load-refused _ (c .before .before .before .before .before .before .before .before .before .before .before .before .args .tape .now) _ (c .before .before .before .before .before .before .before .before .load .ensures) _ (c .before .before .before .before .before .outcome .given .1)) (c .before .before .put-refused .ensures .0), omega (arith, c .before .before .put-refused .ensures .1))
+returns c =
+    let put = c .before .before in
+    let outcome = put .before .before .before in
+    let loaded = outcome .before .before .before in
+    shows-refused _ _ _ _ _
+    (load-refused _ (loaded .before .before .before .before .args .tape .now) _ (loaded .load .ensures) _ (outcome .outcome .given .1))
+    (put .put-refused .ensures .0) (put .put-refused .ensures .1)
 
 same-length-2 : tie.Need-same-length-2
 same-length-2 c = search needs
 
 returns-2 : tie.Need-returns-2
-returns-2 c = (same-listing _ 0 _ _ _ _ (load-listed _ (c .before .before .before .before .before .before .before .before .before .before .before .before .before .args .tape .now) _ (c .before .before .before .before .before .before .before .before .before .load .ensures) _ _ (c .before .before .before .before .before .before .enum-told .given .1) (c .before .before .before .before .before .letters-of .ensures)) (c .before .before .list-tape .ensures .0), c .before .before .list-tape .ensures .1)
+returns-2 c =
+    let letters = c .before .before .before .before .before in
+    let told = letters .before in
+    let loaded = told .before .before .before in
+    shows-as _ _ _ _ _
+    (load-listed _ (loaded .before .before .before .before .args .tape .now) _ (loaded .load .ensures) _ _ (told .enum-told .given .1)
+    (letters .letters-of .ensures))
+    (c .before .before .list-tape .ensures)
 
 pub list-text-spec : {M : Type 1} → statement M
 list-text-spec =

@@ -1,8 +1,7 @@
--- `listing::list_with` meets its contract.
+-- `listing::list_with` meets its contract: a refusal's line, or the lines of the tape that has been read.
 use mathlib.Core.Path.{sym}
-use native.Mathlib.Omega.{arith}
 use lib.Seq.{length-take-le}
-use Rattle.listing.specs.ListingLaws.{parse-bits, parse-refused, same-listing}
+use Rattle.listing.specs.ListingLaws.{parse-bits, parse-refused, shows-as, shows-refused}
 use borrow.Author.Needs.{needs}
 use Rattle.listing.proofs.list_with.Statement.{statement}
 use Rattle.listing.proofs.list_with.Tie as tie
@@ -26,13 +25,32 @@ add-n : tie.Need-add-n
 add-n c = search needs
 
 slice-reshare-prefix-list-read : tie.Need-slice-reshare-prefix-list-read
-slice-reshare-prefix-list-read c = parse-bits (c .before .before .before .before .before .before .before .before .before .before .before .before .before .before .before .args .p) (c .before .before .before .before .before .before .before .before .before .before .before .before .before .before .before .args .tape .now) (c .before .before .before .before .before .before .before .before .before .before .before .before .before .before .before .args .words .now) _ (c .before .before .before .before .before .before .before .before .before .before .before .before .before .before .before .args .code .now) _ (c .before .before .before .before .before .before .before .before .before .before .before .before .before .before .before .pre .0) (c .before .before .before .before .before .before .before .before .before .before .before .before .before .before .before .pre .1) _ _ (c .before .before .parsed2 .given .1) (c .before .before .before .before .before .before .before .before .parse .ensures) .fits
+slice-reshare-prefix-list-read c =
+    let parsed = c .before .before in
+    let parse = parsed .before .before .before .before .before .before in
+    let start = parse .before .before .before .before .before .before .before in
+    let given = start .args in
+    parse-bits (given .p) (given .tape .now) (given .words .now) _ (given .code .now) _ (start .pre .0) (start .pre .1) _ _
+    (parsed .parsed2 .given .1) (parse .parse .ensures) .fits
 
 slice-aggregate-list-read : tie.Need-slice-aggregate-list-read
-slice-aggregate-list-read c = sym (length-take-le _ _ (parse-bits (c .before .before .before .before .before .before .before .before .before .before .before .before .before .before .before .before .args .p) (c .before .before .before .before .before .before .before .before .before .before .before .before .before .before .before .before .args .tape .now) (c .before .before .before .before .before .before .before .before .before .before .before .before .before .before .before .before .args .words .now) _ (c .before .before .before .before .before .before .before .before .before .before .before .before .before .before .before .before .args .code .now) _ (c .before .before .before .before .before .before .before .before .before .before .before .before .before .before .before .before .pre .0) (c .before .before .before .before .before .before .before .before .before .before .before .before .before .before .before .before .pre .1) _ _ (c .before .before .before .parsed2 .given .1) (c .before .before .before .before .before .before .before .before .before .parse .ensures) .fits))
+slice-aggregate-list-read c =
+    let parsed = c .before .before .before in
+    let parse = parsed .before .before .before .before .before .before in
+    let start = parse .before .before .before .before .before .before .before in
+    let given = start .args in
+    sym (length-take-le _ _
+    (parse-bits (given .p) (given .tape .now) (given .words .now) _ (given .code .now) _ (start .pre .0) (start .pre .1) _ _
+    (parsed .parsed2 .given .1) (parse .parse .ensures) .fits))
 
 list-read-requires : tie.Need-list-read-requires
-list-read-requires c κs = (parse-bits (c .before .before .before .before .before .before .before .before .before .before .before .before .before .before .before .before .before .args .p) (c .before .before .before .before .before .before .before .before .before .before .before .before .before .before .before .before .before .args .tape .now) (c .before .before .before .before .before .before .before .before .before .before .before .before .before .before .before .before .before .args .words .now) _ (c .before .before .before .before .before .before .before .before .before .before .before .before .before .before .before .before .before .args .code .now) _ (c .before .before .before .before .before .before .before .before .before .before .before .before .before .before .before .before .before .pre .0) (c .before .before .before .before .before .before .before .before .before .before .before .before .before .before .before .before .before .pre .1) _ _ (c .before .before .before .before .parsed2 .given .1) (c .before .before .before .before .before .before .before .before .before .before .parse .ensures) .read, c .before .before .before .before .before .before .before .before .before .before .before .before .before .before .before .before .before .pre .2)
+list-read-requires c κs =
+    let parsed = c .before .before .before .before in
+    let parse = parsed .before .before .before .before .before .before in
+    let start = parse .before .before .before .before .before .before .before in
+    let given = start .args in
+    parse-bits (given .p) (given .tape .now) (given .words .now) _ (given .code .now) _ (start .pre .0) (start .pre .1) _ _
+    (parsed .parsed2 .given .1) (parse .parse .ensures) .read
 
 same-length : tie.Need-same-length
 same-length c = search needs
@@ -44,7 +62,15 @@ same-length-3 : tie.Need-same-length-3
 same-length-3 c = search needs
 
 returns : tie.Need-returns
-returns c = (same-listing _ 0 _ _ _ _ (parse-refused (c .before .before .before .before .before .before .before .before .before .before .before .before .before .before .before .before .before .before .args .p) (c .before .before .before .before .before .before .before .before .before .before .before .before .before .before .before .before .before .before .args .tape .now) (c .before .before .before .before .before .before .before .before .before .before .before .before .before .before .before .before .before .before .args .words .now) _ (c .before .before .before .before .before .before .before .before .before .before .before .before .before .before .before .before .before .before .args .code .now) _ (c .before .before .before .before .before .before .before .before .before .before .before .before .before .before .before .before .before .before .pre .0) (c .before .before .before .before .before .before .before .before .before .before .before .before .before .before .before .before .before .before .pre .1) _ _ (c .before .before .before .before .before .parsed .given .1) (c .before .before .before .before .before .before .before .before .before .before .before .parse .ensures)) (c .before .before .put-refused .ensures .0), omega (arith, c .before .before .put-refused .ensures .1))
+returns c =
+    let parsed = c .before .before .before .before .before in
+    let parse = parsed .before .before .before .before .before .before in
+    let start = parse .before .before .before .before .before .before .before in
+    let given = start .args in
+    let put = c .before .before .put-refused in
+    shows-refused _ _ _ _ _
+    (parse-refused (given .p) (given .tape .now) (given .words .now) _ (given .code .now) _ (start .pre .0) (start .pre .1) _ _
+    (parsed .parsed .given .1) (parse .parse .ensures)) (put .ensures .0) (put .ensures .1)
 
 same-length-4 : tie.Need-same-length-4
 same-length-4 c = search needs
@@ -56,7 +82,14 @@ same-length-6 : tie.Need-same-length-6
 same-length-6 c = search needs
 
 returns-2 : tie.Need-returns-2
-returns-2 c = (same-listing _ 0 _ _ _ _ (parse-bits (c .before .before .before .before .before .before .before .before .before .before .before .before .before .before .before .before .before .before .before .before .args .p) (c .before .before .before .before .before .before .before .before .before .before .before .before .before .before .before .before .before .before .before .before .args .tape .now) (c .before .before .before .before .before .before .before .before .before .before .before .before .before .before .before .before .before .before .before .before .args .words .now) _ (c .before .before .before .before .before .before .before .before .before .before .before .before .before .before .before .before .before .before .before .before .args .code .now) _ (c .before .before .before .before .before .before .before .before .before .before .before .before .before .before .before .before .before .before .before .before .pre .0) (c .before .before .before .before .before .before .before .before .before .before .before .before .before .before .before .before .before .before .before .before .pre .1) _ _ (c .before .before .before .before .before .before .before .parsed2 .given .1) (c .before .before .before .before .before .before .before .before .before .before .before .before .before .parse .ensures) .lists) (c .before .before .list-read .ensures .0), c .before .before .list-read .ensures .1)
+returns-2 c =
+    let parsed = c .before .before .before .before .before .before .before in
+    let parse = parsed .before .before .before .before .before .before in
+    let start = parse .before .before .before .before .before .before .before in
+    let given = start .args in
+    shows-as _ _ _ _ _
+    (parse-bits (given .p) (given .tape .now) (given .words .now) _ (given .code .now) _ (start .pre .0) (start .pre .1) _ _
+    (parsed .parsed2 .given .1) (parse .parse .ensures) .lists) (c .before .before .list-read .ensures)
 
 pub list-with-spec : {M : Type 1} → statement M
 list-with-spec =

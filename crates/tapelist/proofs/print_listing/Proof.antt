@@ -25,10 +25,14 @@ cast-n : tie.Need-cast-n
 cast-n c = search needs
 
 array-share-prefix-out : tie.Need-array-share-prefix-out
-array-share-prefix-out c = listed-within _ _ _ _ _ _ (c .before .before .before .before .list .ensures) (c .before .size .given .1) (search needs) (search needs)
+array-share-prefix-out c =
+    listed-within _ _ _ _ _ _ (c .before .before .before .before .list .ensures) (c .before .size .given .1) (search needs) (search needs)
 
 slice-aggregate-write-all : tie.Need-slice-aggregate-write-all
-slice-aggregate-write-all c = sym (length-take-le _ _ (listed-within _ _ _ _ _ _ (c .before .before .before .before .before .list .ensures) (c .before .before .size .given .1) (search needs) (search needs)))
+slice-aggregate-write-all c =
+    sym (length-take-le _ _
+    (listed-within _ _ _ _ _ _ (c .before .before .before .before .before .list .ensures) (c .before .before .size .given .1) (search needs)
+    (search needs)))
 
 write-all-requires : tie.Need-write-all-requires
 write-all-requires c κs = search needs

@@ -1,4 +1,4 @@
--- `vectors::run_all` is safe and ends. The lengths of `line` and `chunk` stay; the measure is the number of turns that are left. Assumes nothing.
+-- `vectors::run_all` is safe and ends. The lengths of `line` and `chunk` stay; the measure is the number of turns that are left.
 use mathlib.Core.Path.{_≡_}
 use lib.ListN.{length}
 use borrow.Author.Needs.{needs}

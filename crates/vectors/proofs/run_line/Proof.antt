@@ -1,4 +1,4 @@
--- `vectors::run_line` is safe and ends: the part of the line that is lent lies within it. Assumes nothing.
+-- `vectors::run_line` is safe and ends: the part of the line that is lent lies within it.
 use native.Mathlib.Omega.{arith}
 use lib.ListN.{length-take}
 use borrow.Author.Needs.{needs}

@@ -1,26 +1,27 @@
--- `listing::lines::put_accounts` meets its contract.
+-- `listing::lines::put_accounts` meets its contract. The invariant: what is left to put gives what was to be put. The measure is what is left of the accounts.
+use mathlib.Core.Path.{refl}
+use mathlib.Core.Logic.{inl}
 use Prim.Native.Nat.{_-_}
 use native.Mathlib.Omega.{arith}
-use lib.ListN.{length, getD}
-use Rattle.listing.specs.Listing.{account-line}
-use Rattle.listing.specs.Bounds.{accounts-length}
-use Rattle.listing.specs.Putting.{Each, each-start, each-room, each-next, each-end}
-use Rattle.listing.specs.Lines.{accounts-from, accounts-step, accounts-over}
+use lib.ListN.{length, drop}
+use Rattle.text.specs.Putting.{To-put, put-start, put-turn, put-done}
+use Rattle.listing.specs.Listing.{account-lines}
+use Rattle.listing.specs.Lines.{accounts-turn, accounts-over, accounts-length}
 use borrow.Author.Needs.{needs}
 use Rattle.listing.proofs.lines.put_accounts.Statement.{statement}
 use Rattle.listing.proofs.lines.put_accounts.Tie as tie
 
 abbrev Inv-loop : tie.InvT-loop
-Inv-loop out₀ at litres end₀ i₀ out end i = Each (accounts-from litres) (length litres) out₀ at out end i
+Inv-loop out₀ at litres end₀ i₀ out end i = To-put (length out₀) out₀ at (account-lines 0 litres) out end (account-lines i (drop i litres))
 
 abbrev μ-loop : tie.MeasureT-loop
 μ-loop out₀ at litres end₀ i₀ out end i = length litres - i
 
-loop-holds : tie.Need-loop-holds Inv-loop μ-loop
-loop-holds c = each-start (accounts-from _) _ _ _
+least-requires : tie.Need-least-requires Inv-loop μ-loop
+least-requires c κs = search needs
 
-cast-put-account : tie.Need-cast-put-account Inv-loop μ-loop
-cast-put-account c = omega (arith, c .before .before .before .before .before .pre .1)
+loop-holds : tie.Need-loop-holds Inv-loop μ-loop
+loop-holds c = put-start _ _ _ _ _ _ (omega arith) (c .least .ensures) refl
 
 mul-put-account : tie.Need-mul-put-account Inv-loop μ-loop
 mul-put-account c = search needs
@@ -29,7 +30,7 @@ shared-slice-read-put-account : tie.Need-shared-slice-read-put-account Inv-loop 
 shared-slice-read-put-account c = search needs
 
 put-account-requires : tie.Need-put-account-requires Inv-loop μ-loop
-put-account-requires c κs = each-room (accounts-from (c .before .before .before .before .before .before .args .litres .now)) (length (c .before .before .before .before .before .before .args .litres .now)) (c .before .before .before .loop .inv) (account-line (c .before .before .before .loop .i) (getD (c .before .before .before .before .before .before .args .litres .now) (c .before .before .before .loop .i) 0)) (accounts-step (c .before .before .before .before .before .before .args .litres .now) _ (c .before .before .loop-test .taken)) (omega (arith, c .before .before .before .before .before .before .pre .0, c .before .before .before .before .before .before .pre .1, accounts-length 0 (c .before .before .before .before .before .before .args .litres .now) (omega (arith, c .before .before .before .before .before .before .pre .1)) (λ k. c .before .before .before .before .shared-slice-known .given k .fits)))
+put-account-requires c κs = search needs
 
 add-i : tie.Need-add-i Inv-loop μ-loop
 add-i c = search needs
@@ -38,13 +39,26 @@ loop-less : tie.Need-loop-less Inv-loop μ-loop
 loop-less c = search needs
 
 loop-again : tie.Need-loop-again Inv-loop μ-loop
-loop-again c = each-next (accounts-from (c .before .before .before .before .before .before .before .before .before .args .litres .now)) (length (c .before .before .before .before .before .before .before .before .before .args .litres .now)) (c .before .before .before .before .before .before .loop .inv) (account-line (c .before .before .before .before .before .before .loop .i) (getD (c .before .before .before .before .before .before .before .before .before .args .litres .now) (c .before .before .before .before .before .before .loop .i) 0)) (accounts-step (c .before .before .before .before .before .before .before .before .before .args .litres .now) _ (c .before .before .before .before .before .loop-test .taken)) (c .before .before .before .before .before .loop-test .taken) (c .before .before .put-account .ensures)
+loop-again c =
+    let put = c .before .before in
+    let turn = put .before .before .before in
+    let here = turn .before in
+    let litres = here .before .before .before .before .args .litres .now in
+    put-turn _ _ _ _ _ _ _ _ _ _ _ _ (here .loop .inv) (accounts-turn (here .loop .i) litres (turn .loop-test .taken))
+    (here .loop .inv .long) (put .put-account .ensures)
 
 same-length : tie.Need-same-length Inv-loop μ-loop
 same-length c = search needs
 
 returns : tie.Need-returns Inv-loop μ-loop
-returns c = let p = each-end (accounts-from (c .before .before .before .before .args .litres .now)) (length (c .before .before .before .before .args .litres .now)) (c .before .loop .inv) (accounts-over (c .before .before .before .before .args .litres .now)) (c .loop-test .left) in (p, omega (arith, p .ends, c .before .before .before .before .pre .1, accounts-length 0 (c .before .before .before .before .args .litres .now) (omega (arith, c .before .before .before .before .pre .1)) (λ k. c .before .before .shared-slice-known .given k .fits)))
+returns c =
+    let here = c .before in
+    let known = here .before .before in
+    let start = known .before .before in
+    let litres = start .args .litres .now in (
+      put-done _ _ _ _ _ _ _ (here .loop .inv) (inl (accounts-over (here .loop .i) litres (c .loop-test .left))),
+      accounts-length litres (start .pre) (λ k. known .shared-slice-known .given k .fits),
+    )
 
 pub put-accounts-spec : {M : Type 1} → statement M
 put-accounts-spec =
@@ -52,8 +66,8 @@ put-accounts-spec =
     (tie.spec
     Inv-loop
     μ-loop
+    least-requires
     loop-holds
-    cast-put-account
     mul-put-account
     shared-slice-read-put-account
     put-account-requires

@@ -1,5 +1,6 @@
 -- `text::lines::put_line` meets its contract: two puts are one of the joined bytes.
-use Rattle.text.specs.Putting.{puts-as, puts-then, line-is}
+use mathlib.Core.Path.{refl}
+use Rattle.text.specs.Putting.{line-done}
 use borrow.Author.Needs.{needs}
 use Rattle.text.proofs.lines.put_line.Statement.{statement}
 use Rattle.text.proofs.lines.put_line.Tie as tie
@@ -18,8 +19,7 @@ returns c =
     let second = c .before .before in
     let first = second .before .before .before .before in
     let given = first .before .before .before .before .args in
-    puts-as _ _ _ _ _ _ (line-is (given .word .now) (given .a) (given .b))
-    (puts-then _ _ _ _ _ _ _ _ (first .put-entry .ensures) (second .put-byte .ensures))
+    line-done _ _ (given .word .now) (given .a) (given .b) _ _ _ _ _ (first .put-entry .ensures) (second .put-byte .ensures) refl
 
 pub put-line-spec : {M : Type 1} → statement M
 put-line-spec = tie.close (tie.spec put-entry-requires put-byte-requires same-length returns)

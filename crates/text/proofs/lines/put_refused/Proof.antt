@@ -1,5 +1,8 @@
 -- `text::lines::put_refused` meets its contract: number and value are those of the table of causes.
-use Rattle.text.specs.Putting.{puts-as, refused-is}
+use mathlib.Core.Path.{refl}
+use native.Mathlib.Omega.{arith}
+use Rattle.text.specs.Putting.{refused-done}
+use Rattle.text.specs.Lengths.{refused-length}
 use borrow.Author.Needs.{needs}
 use Rattle.text.proofs.lines.put_refused.Statement.{statement}
 use Rattle.text.proofs.lines.put_refused.Tie as tie
@@ -28,9 +31,13 @@ same-length c = search needs
 returns : tie.Need-returns
 returns c =
     let put = c .before .before in
-    let number = put .before .before in
-    let why = number .before .before .before .before .args .why in
-    puts-as _ _ _ _ _ _ (refused-is why _ _ (number .number-of .ensures) (put .before .value-of .ensures)) (put .put-line .ensures)
+    let value = put .before in
+    let number = value .before in
+    let why = number .before .before .before .before .args .why in (
+      refused-done _ _ why _ _ _ _ _ (put .put-line .ensures) refl (number .number-of .ensures) (value .value-of .ensures),
+      refused-length why _ _ (number .number-of .ensures) (value .value-of .ensures)
+          (omega (arith, number .number-of .ok)) (omega (arith, value .value-of .ok)),
+    )
 
 pub put-refused-spec : {M : Type 1} → statement M
 put-refused-spec =

@@ -38,7 +38,8 @@ loop-again c =
     let test = c .before .before .before .before .before in
     let here = test .before in
     let bytes = here .before .before .before .before .args .bytes .now in
-    put-turn _ _ _ _ _ _ _ _ _ _ _ _ (here .loop .inv) (drop-next (here .loop .i) bytes (test .loop-test .taken)) (here .loop .inv .long) (c .before .before .put-byte .ensures)
+    put-turn _ _ _ _ _ _ _ _ _ _ _ _ (here .loop .inv) (drop-next (here .loop .i) bytes (test .loop-test .taken)) (here .loop .inv .long)
+    (c .before .before .put-byte .ensures)
 
 same-length : tie.Need-same-length Inv-loop μ-loop
 same-length c = search needs

@@ -1,4 +1,5 @@
--- `vector_text::digest::of_words` meets its contract. The invariant: the digest goes on over what is left to the digest of all; the measure is what is left of the words asked for.
+-- `vector_text::digest::of_words` meets its contract. The invariant: the digest goes on over what is left to the digest of all;
+-- the measure is what is left of the words asked for.
 use mathlib.Core.Path.{_≡_, refl, sym, ap, _∙_}
 use Prim.Native.Nat.{_-_}
 use Rattle.vector_text.specs.Cases.{part, word-step, words-digest}
@@ -33,13 +34,24 @@ loop-less : tie.Need-loop-less Inv-loop μ-loop
 loop-less c = search needs
 
 loop-again : tie.Need-loop-again Inv-loop μ-loop
-loop-again c = digest-turn word-step (c .before .before .before .before .loop .digest) _ _ (c .before .before .before .before .loop .i) (c .before .before .before .before .before .before .args .to) (c .before .before .before .before .before .before .args .words .now) (c .before .before .before .loop-test .taken) (c .before .before .if1 .left) refl (c .step-word .ensures) ∙ c .before .before .before .before .loop .inv
+loop-again c =
+    let c4 = c .before .before .before .before in
+    digest-turn word-step (c4 .loop .digest) _ _ (c4 .loop .i) (c .before .before .before .before .before .before .args .to)
+    (c .before .before .before .before .before .before .args .words .now) (c .before .before .before .loop-test .taken)
+    (c .before .before .if1 .left) refl (c .step-word .ensures) ∙ c4 .loop .inv
 
 returns : tie.Need-returns Inv-loop μ-loop
-returns c = sym (ap (words-digest (c .before .loop .digest)) (part-done (c .before .loop .i) (c .before .before .before .args .to) (c .before .before .before .args .words .now) (c .loop-test .left))) ∙ c .before .loop .inv
+returns c =
+    sym (ap (words-digest (c .before .loop .digest))
+    (part-done (c .before .loop .i) (c .before .before .before .args .to) (c .before .before .before .args .words .now) (c .loop-test .left)))
+    ∙ c .before .loop .inv
 
 returns-2 : tie.Need-returns-2 Inv-loop μ-loop
-returns-2 c = sym (ap (words-digest (c .before .before .loop .digest)) (part-over (c .before .before .loop .i) (c .before .before .before .before .args .to) (c .before .before .before .before .args .words .now) (c .if1 .taken))) ∙ c .before .before .loop .inv
+returns-2 c =
+    let c2 = c .before .before in
+    sym (ap (words-digest (c2 .loop .digest))
+    (part-over (c2 .loop .i) (c .before .before .before .before .args .to) (c .before .before .before .before .args .words .now) (c .if1 .taken)))
+    ∙ c2 .loop .inv
 
 pub of-words-spec : {M : Type 1} → statement M
 of-words-spec =

@@ -22,13 +22,18 @@ at-most-requires : tie.Need-at-most-requires
 at-most-requires c κs = search needs
 
 returns : tie.Need-returns
-returns c = c .at-most .ensures ∙ sym (ap (λ k. min k most-number) (digit-told (c .before .before .before .args .n) (c .before .before .before .args .digit) (omega arith) (omega arith)))
+returns c =
+    c .at-most .ensures ∙ sym
+    (ap (λ k. min k most-number)
+    (digit-told (c .before .before .before .args .n) (c .before .before .before .args .digit) (omega arith) (omega arith)))
 
 returns-2 : tie.Need-returns-2
 returns-2 c = sym (ap (λ k. min k most-number) (digit-below (c .before .args .n) (c .before .args .digit) (omega arith)) ∙ min-eq-left (omega arith))
 
 returns-3 : tie.Need-returns-3
-returns-3 c = sym (ap (λ k. min k most-number) (digit-above (c .before .before .args .n) (c .before .before .args .digit) (omega arith)) ∙ min-eq-left (omega arith))
+returns-3 c =
+    sym (ap (λ k. min k most-number) (digit-above (c .before .before .args .n) (c .before .before .args .digit) (omega arith))
+    ∙ min-eq-left (omega arith))
 
 pub append-spec : {M : Type 1} → statement M
 append-spec =

@@ -1,4 +1,5 @@
--- `vector_text::fields::field_end` meets its contract. The invariant: the position and what stands before the space from there on; the measure is what is left of the line.
+-- `vector_text::fields::field_end` meets its contract. The invariant: the position and what stands before the space from there
+-- on; the measure is what is left of the line.
 use lib.ListN.{length-take}
 use Prim.Native.Nat.{_-_}
 use native.Mathlib.Omega.{arith}
@@ -27,13 +28,22 @@ loop-less : tie.Need-loop-less Inv-loop μ-loop
 loop-less c = search needs
 
 loop-again : tie.Need-loop-again Inv-loop μ-loop
-loop-again c = seek-next 32 (c .before .before .before .before .args .line .now) (c .before .before .before .loop .i) (c .before .before .before .loop .inv) (c .before .before .loop-test .taken) (c .if1 .left)
+loop-again c =
+    seek-next 32 (c .before .before .before .before .args .line .now) (c .before .before .before .loop .i) (c .before .before .before .loop .inv)
+    (c .before .before .loop-test .taken) (c .if1 .left)
 
 returns : tie.Need-returns Inv-loop μ-loop
-returns c = (seek-done 32 (c .before .before .args .line .now) (c .before .loop .i) (c .before .loop .inv) (c .loop-test .left), (omega arith, simp length-take (omega arith)))
+returns c = (
+  seek-done 32 (c .before .before .args .line .now) (c .before .loop .i) (c .before .loop .inv) (c .loop-test .left),
+  (omega arith, simp length-take (omega arith)),
+)
 
 returns-2 : tie.Need-returns-2 Inv-loop μ-loop
-returns-2 c = (seek-here 32 (c .before .before .before .before .args .line .now) (c .before .before .before .loop .i) (c .before .before .before .loop .inv) (c .before .before .loop-test .taken) (c .if1 .taken), (omega arith, simp length-take (omega arith)))
+returns-2 c = (
+  seek-here 32 (c .before .before .before .before .args .line .now) (c .before .before .before .loop .i) (c .before .before .before .loop .inv)
+      (c .before .before .loop-test .taken) (c .if1 .taken),
+  (omega arith, simp length-take (omega arith)),
+)
 
 pub field-end-spec : {M : Type 1} → statement M
 field-end-spec =

@@ -28,7 +28,10 @@ loop-less : tie.Need-loop-less Inv-loop μ-loop
 loop-less c = search needs
 
 loop-again : tie.Need-loop-again Inv-loop μ-loop
-loop-again c = reads-turn (c .before .before .before .before .before .args .digits .now) (c .before .before .before .loop .n) (c .before .before .before .loop .i) _ (c .before .before .before .loop .inv) (c .before .before .loop-test .taken) (c .append .ensures)
+loop-again c =
+    let c3 = c .before .before .before in
+    reads-turn (c .before .before .before .before .before .args .digits .now) (c3 .loop .n) (c3 .loop .i) _ (c3 .loop .inv)
+    (c .before .before .loop-test .taken) (c .append .ensures)
 
 returns : tie.Need-returns Inv-loop μ-loop
 returns c = reads-done (c .before .before .before .args .digits .now) (c .before .loop .n) (c .before .loop .i) (c .before .loop .inv) (c .loop-test .left)

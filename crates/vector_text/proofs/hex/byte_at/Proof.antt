@@ -32,10 +32,18 @@ value-of-digit-requires-2 : tie.Need-value-of-digit-requires-2
 value-of-digit-requires-2 c κs = search needs
 
 returns-2 : tie.Need-returns-2
-returns-2 c = sym (pair-at (c .before .before .before .before .before .before .before .args .n) (c .before .before .before .before .before .before .before .args .digits .now) (c .before .before .before .before .before .if1 .left) ∙ pair-high (getD (c .before .before .before .before .before .before .before .args .digits .now) (2 * c .before .before .before .before .before .before .before .args .n) 0) (getD (c .before .before .before .before .before .before .before .args .digits .now) (2 * c .before .before .before .before .before .before .before .args .n + 1) 0) (subst (λ v. 15 < v) (c .before .before .before .value-of-digit .ensures .0) (c .if2 .taken)))
+returns-2 c =
+    let c7 = c .before .before .before .before .before .before .before in
+    sym (pair-at (c7 .args .n) (c7 .args .digits .now) (c .before .before .before .before .before .if1 .left)
+    ∙ pair-high (getD (c7 .args .digits .now) (2 * c7 .args .n) 0) (getD (c7 .args .digits .now) (2 * c7 .args .n + 1) 0)
+    (subst (λ v. 15 < v) (c .before .before .before .value-of-digit .ensures .0) (c .if2 .taken)))
 
 returns-3 : tie.Need-returns-3
-returns-3 c = sym (pair-at (c .before .before .before .before .before .before .before .before .args .n) (c .before .before .before .before .before .before .before .before .args .digits .now) (c .before .before .before .before .before .before .if1 .left) ∙ pair-low (getD (c .before .before .before .before .before .before .before .before .args .digits .now) (2 * c .before .before .before .before .before .before .before .before .args .n) 0) (getD (c .before .before .before .before .before .before .before .before .args .digits .now) (2 * c .before .before .before .before .before .before .before .before .args .n + 1) 0) (subst (λ v. 15 < v) (c .before .before .value-of-digit2 .ensures .0) (c .if3 .taken)))
+returns-3 c =
+    let c8 = c .before .before .before .before .before .before .before .before in
+    sym (pair-at (c8 .args .n) (c8 .args .digits .now) (c .before .before .before .before .before .before .if1 .left)
+    ∙ pair-low (getD (c8 .args .digits .now) (2 * c8 .args .n) 0) (getD (c8 .args .digits .now) (2 * c8 .args .n + 1) 0)
+    (subst (λ v. 15 < v) (c .before .before .value-of-digit2 .ensures .0) (c .if3 .taken)))
 
 mul-result : tie.Need-mul-result
 mul-result c = search needs
@@ -47,7 +55,13 @@ cast-result : tie.Need-cast-result
 cast-result c = search needs
 
 returns-4 : tie.Need-returns-4
-returns-4 c = ap₂ (λ a b. 16 * a + b) (c .before .before .before .before .value-of-digit .ensures .0) (c .before .before .value-of-digit2 .ensures .0) ∙ sym (pair-at (c .before .before .before .before .before .before .before .before .args .n) (c .before .before .before .before .before .before .before .before .args .digits .now) (c .before .before .before .before .before .before .if1 .left) ∙ pair-byte (getD (c .before .before .before .before .before .before .before .before .args .digits .now) (2 * c .before .before .before .before .before .before .before .before .args .n) 0) (getD (c .before .before .before .before .before .before .before .before .args .digits .now) (2 * c .before .before .before .before .before .before .before .before .args .n + 1) 0) (subst (λ v. v ≤ 15) (c .before .before .before .before .value-of-digit .ensures .0) (c .before .if2 .left)) (subst (λ v. v ≤ 15) (c .before .before .value-of-digit2 .ensures .0) (c .if3 .left)))
+returns-4 c =
+    let c8 = c .before .before .before .before .before .before .before .before in
+    ap₂ (λ a b. 16 * a + b) (c .before .before .before .before .value-of-digit .ensures .0) (c .before .before .value-of-digit2 .ensures .0)
+    ∙ sym (pair-at (c8 .args .n) (c8 .args .digits .now) (c .before .before .before .before .before .before .if1 .left)
+    ∙ pair-byte (getD (c8 .args .digits .now) (2 * c8 .args .n) 0) (getD (c8 .args .digits .now) (2 * c8 .args .n + 1) 0)
+    (subst (λ v. v ≤ 15) (c .before .before .before .before .value-of-digit .ensures .0) (c .before .if2 .left))
+    (subst (λ v. v ≤ 15) (c .before .before .value-of-digit2 .ensures .0) (c .if3 .left)))
 
 pub byte-at-spec : {M : Type 1} → statement M
 byte-at-spec =

@@ -37,19 +37,28 @@ loop-less : tie.Need-loop-less Inv-loop μ-loop
 loop-less c = search needs
 
 loop-again : tie.Need-loop-again Inv-loop μ-loop
-loop-again c = put-turn _ _ _ _ _ _ _ _ _ _ _ _ (c .before .before .before .loop .inv) (decode-next (c .before .before .before .loop .n) _ (c .before .before .before .before .before .before .args .digits .now) (c .before .byte-at .ensures) (c .if1 .left)) (c .before .before .before .loop .inv .long) (put-in _ _ _ _ (c .before .before .loop-test .taken))
+loop-again c =
+    let c3 = c .before .before .before in
+    put-turn _ _ _ _ _ _ _ _ _ _ _ _ (c3 .loop .inv)
+    (decode-next (c3 .loop .n) _ (c .before .before .before .before .before .before .args .digits .now) (c .before .byte-at .ensures) (c .if1 .left))
+    (c3 .loop .inv .long) (put-in _ _ _ _ (c .before .before .loop-test .taken))
 
 same-length : tie.Need-same-length Inv-loop μ-loop
 same-length c = search needs
 
 returns : tie.Need-returns Inv-loop μ-loop
-returns c = let p = put-done _ _ _ _ _ _ _ (c .before .loop .inv) (inr (c .loop-test .left, omega (arith, c .before .loop .inv .long))) in (p, puts-counts _ _ _ _ _ p)
+returns c =
+    let p = put-done _ _ _ _ _ _ _ (c .before .loop .inv)
+    (inr (c .loop-test .left, omega (arith, c .before .loop .inv .long))) in (p, puts-counts _ _ _ _ _ p)
 
 same-length-2 : tie.Need-same-length-2 Inv-loop μ-loop
 same-length-2 c = search needs
 
 returns-2 : tie.Need-returns-2 Inv-loop μ-loop
-returns-2 c = let p = put-done _ _ _ _ _ _ _ (c .before .before .before .loop .inv) (inl (decode-stop (c .before .before .before .loop .n) _ (c .before .before .before .before .before .before .args .digits .now) (c .before .byte-at .ensures) (c .if1 .taken))) in (p, puts-counts _ _ _ _ _ p)
+returns-2 c =
+    let p = put-done _ _ _ _ _ _ _ (c .before .before .before .loop .inv)
+    (inl (decode-stop (c .before .before .before .loop .n) _ (c .before .before .before .before .before .before .args .digits .now)
+    (c .before .byte-at .ensures) (c .if1 .taken))) in (p, puts-counts _ _ _ _ _ p)
 
 pub decode-spec : {M : Type 1} → statement M
 decode-spec =

@@ -14,7 +14,10 @@ returns : tie.Need-returns
 returns c = (sym (value-digit (c .before .before .args .digit) (omega arith) (omega arith)), omega arith)
 
 returns-2 : tie.Need-returns-2
-returns-2 c = let m : (c .before .before .before .before .args .digit) - 97 + 10 ≡ (c .before .before .before .before .args .digit) - 87 = omega arith in (m ∙ sym (value-letter (c .before .before .before .before .args .digit) (omega arith) (omega arith)), omega arith)
+returns-2 c =
+    let c4 = c .before .before .before .before in
+    let m : (c4 .args .digit) - 97 + 10 ≡ (c4 .args .digit) - 87 =
+    omega arith in (m ∙ sym (value-letter (c4 .args .digit) (omega arith) (omega arith)), omega arith)
 
 returns-3 : tie.Need-returns-3
 returns-3 c = (sym (value-other (c .before .args .digit) (λ a b. omega arith) (λ a b. omega arith)), omega arith)

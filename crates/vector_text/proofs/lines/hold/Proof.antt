@@ -34,7 +34,10 @@ same-length : tie.Need-same-length Inv-loop μ-loop
 same-length c = c .before .before .before .before .loop .inv .puts .long
 
 returns : tie.Need-returns Inv-loop μ-loop
-returns c = hold-line _ _ (c .before .before .before .before .before .before .before .before .before .args .input) _ _ _ (c .before .before .before .before .loop .i) (c .before .before .before .before .before .before .size-kept .ensures) (c .before .before .before .before .loop .inv) (c .before .before .before .loop-test .taken) (c .before .before .if1 .left) (c .if2 .taken)
+returns c =
+    hold-line _ _ (c .before .before .before .before .before .before .before .before .before .args .input) _ _ _
+    (c .before .before .before .before .loop .i) (c .before .before .before .before .before .before .size-kept .ensures)
+    (c .before .before .before .before .loop .inv) (c .before .before .before .loop-test .taken) (c .before .before .if1 .left) (c .if2 .taken)
 
 hold-byte-requires : tie.Need-hold-byte-requires Inv-loop μ-loop
 hold-byte-requires c κs = search needs
@@ -46,19 +49,27 @@ loop-less : tie.Need-loop-less Inv-loop μ-loop
 loop-less c = search needs
 
 loop-again : tie.Need-loop-again Inv-loop μ-loop
-loop-again c = hold-next _ _ _ _ _ _ _ (c .before .before .before .before .before .before .before .before .loop .i) _ _ (c .before .before .before .before .before .before .before .before .loop .inv) (c .before .before .before .before .before .before .before .loop-test .taken) (c .before .before .before .before .before .before .if1 .left) (c .before .before .before .before .if2 .left) (c .before .before .hold-byte .ensures)
+loop-again c =
+    hold-next _ _ _ _ _ _ _ (c .before .before .before .before .before .before .before .before .loop .i) _ _
+    (c .before .before .before .before .before .before .before .before .loop .inv)
+    (c .before .before .before .before .before .before .before .loop-test .taken) (c .before .before .before .before .before .before .if1 .left)
+    (c .before .before .before .before .if2 .left) (c .before .before .hold-byte .ensures)
 
 same-length-2 : tie.Need-same-length-2 Inv-loop μ-loop
 same-length-2 c = c .before .loop .inv .puts .long
 
 returns-2 : tie.Need-returns-2 Inv-loop μ-loop
-returns-2 c = hold-rest _ _ (c .before .before .before .before .before .before .args .input) _ _ _ (c .before .loop .i) (c .before .before .before .size-kept .ensures) (c .before .loop .inv) (inr (c .loop-test .left))
+returns-2 c =
+    hold-rest _ _ (c .before .before .before .before .before .before .args .input) _ _ _ (c .before .loop .i)
+    (c .before .before .before .size-kept .ensures) (c .before .loop .inv) (inr (c .loop-test .left))
 
 same-length-3 : tie.Need-same-length-3 Inv-loop μ-loop
 same-length-3 c = c .before .before .loop .inv .puts .long
 
 returns-3 : tie.Need-returns-3 Inv-loop μ-loop
-returns-3 c = hold-rest _ _ (c .before .before .before .before .before .before .before .args .input) _ _ _ (c .before .before .loop .i) (c .before .before .before .before .size-kept .ensures) (c .before .before .loop .inv) (inl (c .if1 .taken))
+returns-3 c =
+    hold-rest _ _ (c .before .before .before .before .before .before .before .args .input) _ _ _ (c .before .before .loop .i)
+    (c .before .before .before .before .size-kept .ensures) (c .before .before .loop .inv) (inl (c .if1 .taken))
 
 pub hold-spec : {M : Type 1} → statement M
 hold-spec =

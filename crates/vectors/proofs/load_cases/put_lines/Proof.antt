@@ -1,4 +1,4 @@
--- `vectors::load_cases::put_lines` is safe and ends. The length of `out` stays; the measure is what is left of the lines. Assumes nothing.
+-- `vectors::load_cases::put_lines` is safe and ends. The length of `out` stays; the measure is what is left of the lines.
 use mathlib.Core.Path.{_≡_}
 use Prim.Native.Nat.{_-_}
 use lib.ListN.{length}

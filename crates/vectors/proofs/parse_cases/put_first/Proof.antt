@@ -1,4 +1,4 @@
--- `vectors::parse_cases::put_first` is safe and ends. The length of `out` stays; the measure is what is left of the words asked for. Assumes nothing.
+-- `vectors::parse_cases::put_first` is safe and ends. The length of `out` stays; the measure is what is left of the words asked for.
 use mathlib.Core.Path.{_≡_}
 use Prim.Native.Nat.{_-_}
 use lib.ListN.{length}

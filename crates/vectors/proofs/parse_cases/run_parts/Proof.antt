@@ -1,4 +1,4 @@
--- `vectors::parse_cases::run_parts` is safe and ends: the parts that are lent lie within the arrays. Assumes nothing.
+-- `vectors::parse_cases::run_parts` is safe and ends: the parts that are lent lie within the arrays.
 use native.Mathlib.Omega.{arith}
 use lib.ListN.{length-take}
 use borrow.Author.Needs.{needs}

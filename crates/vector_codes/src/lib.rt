@@ -1,0 +1,6 @@
+// For tests alone: the cases of codes. Each prints what the services answer and leave in the lent buffers.
+mod code_cases; // code_cases.rt: spelling, totalling and settling a code
+mod span_cases; // span_cases.rt: showing a visit's piece
+
+pub use code_cases::run_code;
+pub use span_cases::run_span;
