@@ -136,7 +136,7 @@ module _ {table : List ℕ} {l : ℕ} {n : Node} (a : Line-node table l n) where
           (v .letters-are) (v .bits-are)
           (wrote-then (v .one .letters) (v .two .letters) (v .one .bits) (v .two .bits) (f (seq-first s)) (g (seq-second s)))
 
-  -- ── the words at a part ──
+  -- ── the state sets at a part ──
   open-part : (p : ℕ) → p < l → (words : List ℕ) (j : ℕ) (b : Bool) → is-open words j b (index (tree-in table p)) ≡ is-open words j b p
   open-part p h words j b = ap (is-open words j b) (line-index (a .good) p (omega (arith, a .low)))
 

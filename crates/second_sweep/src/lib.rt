@@ -21,7 +21,7 @@ pub struct Swept {
     pub at: u32,
 }
 
-// A bit is written where it fits; over a buffer of no bytes the sweep only counts.
+// A bit is written where it fits. Over a buffer that is too short the sweep counts its bits all the same.
 fn put_bit(code: &mut [u8], at: u32, value: bool)
     requires { ⌜ at ≤ code-limit ⌝ }
     ensures { λ _. ⌜ Puts value at (now (code .entry)) (now (code .exit)) ⌝ }
@@ -31,6 +31,7 @@ fn put_bit(code: &mut [u8], at: u32, value: bool)
     }
 }
 
+// The letter of a range, in eight bits.
 fn put_letter(code: &mut [u8], at: u32, value: u8)
     requires { ⌜ at ≤ code-limit ⌝ }
     ensures { λ _. ⌜ now (code .exit) ≡ put (now (code .entry)) at (bits-of 8 value) ⌝ }
