@@ -109,7 +109,8 @@ unfolding field-of word stops
 reads [] h = cut cut-end
 reads (a ∷ bs) h = one (stops a) refl
   where
-    three : (b c : ℕ) (ds : List ℕ) → b < 256 → c < 256 → stops a ≡ false → stops b ≡ false → (t : Bool) → stops c ≡ t → Reads (a ∷ b ∷ c ∷ ds) (cond t (made 2 a b c) (made 3 0 0 0))
+    three : (b c : ℕ) (ds : List ℕ) → b < 256 → c < 256 → stops a ≡ false → stops b ≡ false → (t : Bool) → stops c ≡ t
+        → Reads (a ∷ b ∷ c ∷ ds) (cond t (made 2 a b c) (made 3 0 0 0))
     three b c ds lb lc p q true r = cut (cut-step a (b ∷ c ∷ ds) p (cut-step b (c ∷ ds) q (cut-stop c ds lc r)))
     three b c ds lb lc p q false r = long-field a b c ds p q r (some-field ds)
 

@@ -26,7 +26,9 @@ field-at s i = field-of (getD s i 256) (getD s (i + 1) 256) (getD s (i + 2) 256)
 -- at most three bytes of a field are looked at
 pub field-small : (s : List ℕ) (i : ℕ) (f : Field) → f ≡ field-at s i → f .size ≤ 3
 unfolding field-at field-of
-field-small s i f e = rw e (go (getD s i 256) (getD s (i + 1) 256) (getD s (i + 2) 256) (stops (getD s i 256)) (stops (getD s (i + 1) 256)) (stops (getD s (i + 2) 256)))
+field-small s i f e =
+    rw e
+    (go (getD s i 256) (getD s (i + 1) 256) (getD s (i + 2) 256) (stops (getD s i 256)) (stops (getD s (i + 1) 256)) (stops (getD s (i + 2) 256)))
   where
     go : (a b c : ℕ) (p q r : Bool) → cond p (made 0 0 0 a) (cond q (made 1 a 0 b) (cond r (made 2 a b c) (made 3 0 0 0))) .size ≤ 3
     go a b c true q r = omega arith

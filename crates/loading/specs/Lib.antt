@@ -5,7 +5,7 @@ pub mod Scans
 pub mod Cuts
 pub mod Scanning
 pub mod Parsing
-pub mod Reading
+pub mod ReadLines
 pub mod Lines
 pub mod Loading
 pub mod LoadLaws

@@ -12,14 +12,14 @@ use lib.ListN.{length, getD, set, take, drop, replicate, length-set, length-drop
 use lib.Seq.{take-suc-set, drop-set-lt, drop-cons, length-take-le, drop-drop}
 use Rattle.syntax.specs.declared.Line.{Line}
 use Rattle.syntax.specs.declared.Pattern.{Pattern}
-use Rattle.loading.specs.declared.reading.Read.{Read}
+use Rattle.loading.specs.declared.lines.Read.{Read}
 use Rattle.loading.specs.declared.scan.Scanned.{Scanned}
 use Rattle.loading.specs.declared.scan.Scanned.the-variants.{Line as Scan-line, Fault as No-line}
 use Rattle.loading.specs.Text.{Row, byte-front, row-front, rows, line-of, row-line, Forms, good, fault, line-front, forms}
 use Rattle.syntax.specs.Table.{blank, no-lines}
 use Rattle.loading.specs.Load.{table}
 use Rattle.loading.specs.Scans.{first-fields, first-closed, first-size, scan-of, scan-by, scanned}
-use Rattle.loading.specs.Reading.{read-as, Reads-lines, lines-front, Read-so-far}
+use Rattle.loading.specs.ReadLines.{read-as, Reads-lines, lines-front, Read-so-far}
 
 -- ── the first line of a text ──
 abbrev first-row : List ℕ → Row
@@ -55,7 +55,8 @@ unfolding first-closed first-size
 closed-inside [] h = absurd (false≢true h)
 closed-inside (b ∷ bs) h = go (eqb b 10) (closed-inside bs) h
   where
-    go : (x : Bool) → (first-closed bs ≡ true → suc (first-size bs) ≤ length bs) → cond x true (first-closed bs) ≡ true → suc (cond x 0 (suc (first-size bs))) ≤ suc (length bs)
+    go : (x : Bool) → (first-closed bs ≡ true → suc (first-size bs) ≤ length bs) → cond x true (first-closed bs) ≡ true
+        → suc (cond x 0 (suc (first-size bs))) ≤ suc (length bs)
     go true ih e = omega arith
     go false ih e = omega (arith, ih e)
 
@@ -79,7 +80,8 @@ module _ (i at : ℕ) (w : List ℕ) where
   unfolding scan-by row-line
   scan-says-line x next e = go (first-closed w) refl (line-of i (first-fields w)) refl e
     where
-      go : (c : Bool) → first-closed w ≡ c → (o : Option Line) → line-of i (first-fields w) ≡ o → Scan-line x next ≡ cond c (scan-of o (at + suc (first-size w))) No-line → Found x next
+      go : (c : Bool) → first-closed w ≡ c → (o : Option Line) → line-of i (first-fields w) ≡ o
+          → Scan-line x next ≡ cond c (scan-of o (at + suc (first-size w))) No-line → Found x next
       go true q none p e = absurd (let z : _≡_ {A = ℕ} 0 1 = (cc) in omega arith)
       go true q (some y) p e = let s : x ≡ y = (cc) in record { line-is = rw (q, p, s); next-is = (cc); inside = closed-inside w q }
       go false q o p e = absurd (let z : _≡_ {A = ℕ} 0 1 = (cc) in omega arith)
@@ -114,17 +116,20 @@ module _ (text : List ℕ) (p : Pattern) (at : ℕ) (s : Read-so-far text p at) 
   unfolding Reads-lines rows forms table
   read-end h =
       let d : drop at text ≡ [] = drop-of-length-le text h in
-      let e : forms 0 (rows text) ≡ good (take (p .count) (p .lines) ++ []) = s .rest ∙ ap (λ w. lines-front (take (p .count) (p .lines)) (forms (p .count) (rows w))) d in
+      let e : forms 0 (rows text) ≡ good (take (p .count) (p .lines) ++ []) =
+      s .rest ∙ ap (λ w. lines-front (take (p .count) (p .lines)) (forms (p .count) (rows w))) d in
       let n : length (take (p .count) (p .lines)) ≡ p .count = length-take-le (p .count) (p .lines) (omega (arith, s .few, s .size)) in
       rw (e, append-nil) (refl, same n)
     where
-      same : length (take (p .count) (p .lines)) ≡ p .count → p ≡ record { count = length (take (p .count) (p .lines)); lines = take (p .count) (p .lines) ++ replicate (64 - length (take (p .count) (p .lines))) blank }
+      same : length (take (p .count) (p .lines)) ≡ p .count → let xs = take (p .count) (p .lines) in
+          p ≡ record { count = length xs; lines = xs ++ replicate (64 - length xs) blank }
       same n = rw (n, ← s .unwritten, take-append-drop)
 
   module _ (l : at < length text) where
     on : forms 0 (rows text)
         ≡ lines-front (take (p .count) (p .lines))
-        (cond (ltb (p .count) 64) (line-front (p .count) (row-line (p .count) (first-row (drop at text))) (forms (suc (p .count)) (rows (drop (suc (first-size (drop at text))) (drop at text))))) (fault 64))
+        (cond (ltb (p .count) 64) (line-front (p .count) (row-line (p .count) (first-row (drop at text)))
+        (forms (suc (p .count)) (rows (drop (suc (first-size (drop at text))) (drop at text))))) (fault 64))
     on = s .rest ∙ ap (lines-front (take (p .count) (p .lines))) (forms-first (p .count) (drop at text) (rw length-drop (omega arith)))
 
     pub read-many : 64 ≤ p .count → Reads-lines text (record { pattern = p; fault = 64 })
@@ -146,15 +151,20 @@ module _ (text : List ℕ) (p : Pattern) (at : ℕ) (s : Read-so-far text p at) 
           let n = simp length-drop at (f .inside) in
           let c : suc (p .count) ≡ p .count + 1 = omega arith in
           let k : p .count < length (p .lines) = omega (arith, s .size) in
-          let d : drop (suc (first-size (drop at text))) (drop at text) ≡ drop next text = drop-drop (suc (first-size (drop at text))) at text ∙ ap (λ j. drop j text) (sym (f .next-is)) in
-          let m : take (p .count + 1) (set (p .lines) (p .count) x) ≡ take (p .count) (p .lines) ++ (x ∷ []) = ap (λ j. take j (set (p .lines) (p .count) x)) (sym c) ∙ take-suc-set (p .lines) (p .count) x k in
+          let d : drop (suc (first-size (drop at text))) (drop at text) ≡ drop next text =
+          drop-drop (suc (first-size (drop at text))) at text ∙ ap (λ j. drop j text) (sym (f .next-is)) in
+          let m : take (p .count + 1) (set (p .lines) (p .count) x) ≡ take (p .count) (p .lines) ++ (x ∷ []) =
+          ap (λ j. take j (set (p .lines) (p .count) x)) (sym c) ∙ take-suc-set (p .lines) (p .count) x k in
           record {
             within = omega (arith, f .next-is);
             few = omega arith;
             size = length-set (p .lines) (p .count) x ∙ s .size;
-            unwritten = ap (λ j. drop j (set (p .lines) (p .count) x)) (sym c) ∙ drop-set-lt (suc (p .count)) (p .lines) (p .count) x (omega arith) ∙ shorter k ∙ ap (λ j. replicate (64 - j) blank) c;
+            unwritten = ap (λ j. drop j (set (p .lines) (p .count) x)) (sym c) ∙ drop-set-lt (suc (p .count)) (p .lines) (p .count) x (omega arith)
+                ∙ shorter k ∙ ap (λ j. replicate (64 - j) blank) c;
             rest =
-                on ∙ rw (lt-ltb (p .count) 64 few, f .line-is, d) (front-twice (take (p .count) (p .lines)) x (p .count) (forms (suc (p .count)) (rows (drop next text))))
+                on
+                ∙ rw (lt-ltb (p .count) 64 few, f .line-is, d)
+                (front-twice (take (p .count) (p .lines)) x (p .count) (forms (suc (p .count)) (rows (drop next text))))
                 ∙ ap₂ (λ xs j. lines-front xs (forms j (rows (drop next text)))) (sym m) c;
           }
         where

@@ -14,7 +14,8 @@ use Rattle.syntax.specs.declared.Node.the-variants.{Leaf as Leaf-node, Sequence
 use Rattle.syntax.specs.declared.Line.{Line}
 use Rattle.syntax.specs.declared.Pattern.{Pattern}
 use Rattle.syntax.specs.Letter.{is-letter}
-use Rattle.loading.specs.Text.{Row, place, single, account, when, node-of-none, node-of-one, range-of, parts-of, node-of-two, node-of, with-account, line-of, row-line, rows, Forms, good, fault, line-front, forms}
+use Rattle.loading.specs.Text.{place, single, account, when, node-of-none, node-of-one, range-of, parts-of, node-of-two, node-of, with-account}
+use Rattle.loading.specs.Text.{Row, line-of, row-line, rows, Forms, good, fault, line-front, forms}
 use Rattle.syntax.specs.Table.{blank, no-lines, line-at, node-good, line-good, badly-formed, lowest, tree-fault, is-none, obeys}
 use Rattle.syntax.specs.Lowest.{none-lowest}
 use Rattle.loading.specs.Load.{table, tree-answer, tree-table, forms-answer, forms-table, load-answer, load-table}
@@ -31,7 +32,8 @@ when-is true x y e = (cc)
 when-is false x y e = absurd (let z : _≡_ {A = ℕ} 0 1 = (cc) in omega arith)
 
 -- a choice of what is good, or of nothing
-either-good : (b : Bool) (x y : Option Node) (n : Node) → (x ≡ some n → node-good n ≡ true) → (y ≡ some n → node-good n ≡ true) → cond b x y ≡ some n → node-good n ≡ true
+either-good : (b : Bool) (x y : Option Node) (n : Node) → (x ≡ some n → node-good n ≡ true) → (y ≡ some n → node-good n ≡ true)
+    → cond b x y ≡ some n → node-good n ≡ true
 either-good true x y n f g e = f e
 either-good false x y n f g e = g e
 
@@ -61,7 +63,8 @@ line-formed i (p ∷ []) x e = absurd (let z : _≡_ {A = ℕ} 0 1 = (cc) in ome
 line-formed i (p ∷ k ∷ []) x e = absurd (let z : _≡_ {A = ℕ} 0 1 = (cc) in omega arith)
 line-formed i (p ∷ k ∷ a ∷ more) x e = go (eqb (place p) i) (node-of (single k) more) refl e
   where
-    go : (b : Bool) (o : Option Node) → node-of (single k) more ≡ o → cond b (with-account (account (single a)) o) none ≡ some x → (leb (x .account) 9 && node-good (x .node)) ≡ true
+    go : (b : Bool) (o : Option Node) → node-of (single k) more ≡ o → cond b (with-account (account (single a)) o) none ≡ some x
+        → (leb (x .account) 9 && node-good (x .node)) ≡ true
     go true none q e = absurd (let z : _≡_ {A = ℕ} 0 1 = (cc) in omega arith)
     go true (some n) q e =
         let s : record { account = account (single a); node = n } ≡ x = when-is (ltb (account (single a)) 10) _ x e in
@@ -91,7 +94,8 @@ line-by-line [] i xs h = let e : xs ≡ [] = (cc) in rw e (record { as-many = re
 line-by-line (r ∷ rs) i xs h = go (line-by-line rs (suc i)) (ltb i 64) (row-line i r) refl (forms (suc i) rs) refl h
   where
     go :
-        ((ys : List Line) → forms (suc i) rs ≡ good ys → Line-by-line (suc i) rs ys) → (b : Bool) (o : Option Line) → row-line i r ≡ o → (f : Forms) → forms (suc i) rs ≡ f
+        ((ys : List Line) → forms (suc i) rs ≡ good ys → Line-by-line (suc i) rs ys)
+        → (b : Bool) (o : Option Line) → row-line i r ≡ o → (f : Forms) → forms (suc i) rs ≡ f
         → cond b (line-front i o f) (fault 64) ≡ good xs → Line-by-line i (r ∷ rs) xs
     go ih true (some x) q (good ys) p h = let s : x ∷ ys ≡ xs = (cc) in rw (← s) (record { as-many = ap suc (ih ys p .as-many); says = each (ih ys p) })
       where
@@ -153,7 +157,8 @@ says-lines text h =
       says = λ i l.
           let e : 0 + i ≡ i = omega arith in
           let k : i < length (a .lines) = omega arith in
-          ap (λ j. row-line j (getD (rows text) i no-row)) (sym e) ∙ a .written .says i k ∙ ap some (sym (table-line (a .lines) i k) ∙ ap (λ p. line-at p i) (sym (a .table-is)));
+          ap (λ j. row-line j (getD (rows text) i no-row)) (sym e) ∙ a .written .says i k
+          ∙ ap some (sym (table-line (a .lines) i k) ∙ ap (λ p. line-at p i) (sym (a .table-is)));
     }
 
 -- a loaded table passes the test
@@ -165,7 +170,9 @@ loaded-obeys text h = let a = accepted text h in ap obeys (a .table-is) ∙ pass
         let n = table-count xs in
         let f : lowest (badly-formed (table xs)) 0 (table xs .count) ≡ none =
         none-lowest (badly-formed (table xs)) (table xs .count) 0
-        (λ i a b. let k : i < length xs = omega arith in ap (λ x. not (line-good x)) (table-line xs i k) ∙ ap not (row-formed (0 + i) (getD (rows text) i no-row) (getD xs i blank) (w .says i k))) in
+        (λ i a b.
+        let k : i < length xs = omega arith in
+        ap (λ x. not (line-good x)) (table-line xs i k) ∙ ap not (row-formed (0 + i) (getD (rows text) i no-row) (getD xs i blank) (w .says i k))) in
         sym (good-table (table xs) (omega arith) (omega arith) (ap is-none f) q)
 
 -- 01: "A refused load gives a table of no lines, itself a departure from the tree rules."

@@ -11,10 +11,10 @@ use lib.ListN.{length}
 use Rattle.syntax.specs.declared.Line.{Line}
 use Rattle.refusals.specs.declared.Refusal.the-variants.{LineForm, Tree}
 use Rattle.loading.specs.declared.Outcome.the-variants.{Lines}
-use Rattle.loading.specs.declared.reading.Read.{Read}
+use Rattle.loading.specs.declared.lines.Read.{Read}
 use Rattle.loading.specs.Text.{Row, rows, row-line, Forms, good, fault, line-front, forms}
 use Rattle.syntax.specs.Table.{tree-fault}
-use Rattle.loading.specs.Reading.{read-as, Reads-lines}
+use Rattle.loading.specs.ReadLines.{read-as, Reads-lines}
 use Rattle.loading.specs.Load.{table, tree-answer, tree-table, forms-answer, forms-table, load-answer, load-table, refused-load, Loads}
 
 -- ── how many lines are read, and where a form fault can be ──
@@ -89,7 +89,8 @@ module _ (text : List ℕ) (r : Read) (h : Reads-lines text r) where
         where
           go :
               (xs : List Line) → forms 0 (rows text) ≡ good xs → r .pattern ≡ table xs
-              → (forms-answer (forms 0 (rows text)) ≡ tree-answer (r .pattern) (tree-fault (r .pattern))) × (forms-table (forms 0 (rows text)) ≡ tree-table (r .pattern) (tree-fault (r .pattern)))
+              → (forms-answer (forms 0 (rows text)) ≡ tree-answer (r .pattern) (tree-fault (r .pattern)))
+              × (forms-table (forms 0 (rows text)) ≡ tree-table (r .pattern) (tree-fault (r .pattern)))
           go [] e q = absurd (some-lines (ap (λ p. p .count) q))
           go (x ∷ xs) e q = rw (e, q) (refl, refl)
 

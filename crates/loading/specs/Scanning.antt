@@ -17,7 +17,8 @@ use Rattle.loading.specs.declared.scan.Scanned.the-variants.{Line as Sca
 use Rattle.syntax.specs.Letter.{is-letter}
 use Rattle.loading.specs.Text.{place, single, account, when, node-of-none, node-of-one, range-of, parts-of, node-of-two, node-of, with-account, line-of}
 use Rattle.loading.specs.Fields.{word}
-use Rattle.loading.specs.Scans.{first-fields, first-closed, first-size, parsed, finished, scan-of, scan-by, parts-say, account-says, parts-scanned, account-scanned, scanned}
+use Rattle.loading.specs.Scans.{first-fields, first-closed, first-size, parsed, finished, scan-of, scan-by, scanned}
+use Rattle.loading.specs.Scans.{parts-say, account-says, parts-scanned, account-scanned}
 use Rattle.loading.specs.Cuts.{Cut, tab, newline, unclosed, Reads, cut, long, some-field}
 
 abbrev pub Says : Type 0
@@ -56,7 +57,8 @@ module _ (s : List ℕ) (at : ℕ) (f : Field) (r : Reads (drop at s) f) where
       go (long e a b c x more i) = absurd (omega arith)
 
 module _ (says : Says) (s : List ℕ) (at : ℕ) (f : Field) (r : Reads (drop at s) f) where
-  scan-long : No-long says → (a b c : ℕ) (x : List ℕ) (more : List (List ℕ)) → first-fields (drop at s) ≡ (a ∷ b ∷ c ∷ x) ∷ more → No-line ≡ scan-by says at (drop at s)
+  scan-long : No-long says → (a b c : ℕ) (x : List ℕ) (more : List (List ℕ)) → first-fields (drop at s) ≡ (a ∷ b ∷ c ∷ x) ∷ more
+      → No-line ≡ scan-by says at (drop at s)
   scan-long nl a b c x more e = scan-none says at (drop at s) (ap says e ∙ nl a b c x more)
 
   -- a field that byte 10 ends is the line's last
@@ -64,7 +66,8 @@ module _ (says : Says) (s : List ℕ) (at : ℕ) (f : Field) (r : Reads (drop at
   unfolding scan-by
   scan-newline h = go r
     where
-      go : Reads (drop at s) f → scan-of (says (word f ∷ [])) (at + f .size + 1) ≡ cond (first-closed (drop at s)) (scan-of (says (first-fields (drop at s))) (at + suc (first-size (drop at s)))) No-line
+      go : Reads (drop at s) f → scan-of (says (word f ∷ [])) (at + f .size + 1)
+          ≡ cond (first-closed (drop at s)) (scan-of (says (first-fields (drop at s))) (at + suc (first-size (drop at s)))) No-line
       go (cut (newline e i c z l)) = let n : at + f .size + 1 ≡ at + suc (first-size (drop at s)) = omega arith in rw (c, i, n)
       go (cut (tab e i c z l)) = absurd (omega arith)
       go (cut (unclosed e c)) = absurd (omega arith)
@@ -76,7 +79,8 @@ module _ (says : Says) (s : List ℕ) (at : ℕ) (f : Field) (r : Reads (drop at
   scan-tab h = go r
     where
       go : Reads (drop at s) f
-          → cond (first-closed (drop (at + f .size + 1) s)) (scan-of (says (word f ∷ first-fields (drop (at + f .size + 1) s))) (at + f .size + 1 + suc (first-size (drop (at + f .size + 1) s)))) No-line
+          → cond (first-closed (drop (at + f .size + 1) s))
+          (scan-of (says (word f ∷ first-fields (drop (at + f .size + 1) s))) (at + f .size + 1 + suc (first-size (drop (at + f .size + 1) s)))) No-line
           ≡ cond (first-closed (drop at s)) (scan-of (says (first-fields (drop at s))) (at + suc (first-size (drop at s)))) No-line
       go (cut (tab e i c z l)) =
           let m : at + suc (f .size) ≡ at + f .size + 1 = omega arith in
@@ -97,7 +101,8 @@ module _ (says : Says) (s : List ℕ) (at : ℕ) (f : Field) (r : Reads (drop at
       go (cut (unclosed e c)) = scan-unclosed says at (drop at s) c
       go (long e a b c x more i) = scan-long nl a b c x more i
 
-  pub fault-not-newline : (f .stop ≡ 10 → ⊥) → ((x y : List ℕ) (more : List (List ℕ)) → says (x ∷ y ∷ more) ≡ none) → No-long says → No-line ≡ scan-by says at (drop at s)
+  pub fault-not-newline : (f .stop ≡ 10 → ⊥) → ((x y : List ℕ) (more : List (List ℕ)) → says (x ∷ y ∷ more) ≡ none) → No-long says
+      → No-line ≡ scan-by says at (drop at s)
   fault-not-newline h on nl = go r
     where
       go : Reads (drop at s) f → No-line ≡ scan-by says at (drop at s)
@@ -246,10 +251,12 @@ module _ (s : List ℕ) (at : ℕ) (f : Field) (r : Reads (drop at s) f) where
     module _ (t : f .stop ≡ 9) (g : Field) (q : Reads (drop (at + f .size + 1) s) g) where
       pub parts-no-end : (g .stop ≡ 10 → ⊥) → No-line ≡ parts-scanned a k at (drop at s)
       parts-no-end h =
-          fault-not-newline (λ fs. parts-say a k (word f ∷ fs)) s (at + f .size + 1) g q h (λ x y more. parts-no-more a k (word f) x y more) (parts-no-second a k (word f))
+          fault-not-newline (λ fs. parts-say a k (word f ∷ fs)) s (at + f .size + 1) g q h (λ x y more. parts-no-more a k (word f) x y more)
+          (parts-no-second a k (word f))
           ∙ scan-tab (parts-say a k) s at f r t
 
-      pub parts-two : a < 10 → g .stop ≡ 10 → finished a (parsed (node-of-two k (word f) (word g))) (at + f .size + 1 + g .size + 1) ≡ parts-scanned a k at (drop at s)
+      pub parts-two : a < 10 → g .stop ≡ 10 → finished a (parsed (node-of-two k (word f) (word g))) (at + f .size + 1 + g .size + 1)
+          ≡ parts-scanned a k at (drop at s)
       unfolding parts-say node-of
       parts-two l h =
           finish-law a (at + f .size + 1 + g .size + 1) (node-of-two k (word f) (word g)) l
@@ -268,7 +275,8 @@ module _ (s : List ℕ) (at : ℕ) (f : Field) (r : Reads (drop at s) f) where
     pub account-neither : (f .stop ≡ 9 → ⊥) → (f .stop ≡ 10 → ⊥) → No-line ≡ account-scanned k at (drop at s)
     account-neither h n = fault-neither (account-says k) s at f r h n (account-no-long k)
 
-    pub account-on : f .stop ≡ 9 → parts-scanned (account (single (word f))) k (at + f .size + 1) (drop (at + f .size + 1) s) ≡ account-scanned k at (drop at s)
+    pub account-on : f .stop ≡ 9
+        → parts-scanned (account (single (word f))) k (at + f .size + 1) (drop (at + f .size + 1) s) ≡ account-scanned k at (drop at s)
     unfolding account-says
     account-on h = scan-tab (account-says k) s at f r h
 
@@ -282,11 +290,14 @@ module _ (s : List ℕ) (at : ℕ) (f : Field) (r : Reads (drop at s) f) where
     module _ (t : f .stop ≡ 9) (g : Field) (q : Reads (drop (at + f .size + 1) s) g) where
       pub line-no-account : (g .stop ≡ 9 → ⊥) → No-line ≡ scanned i at (drop at s)
       line-no-account h =
-          fault-not-tab (λ fs. line-of i (word f ∷ fs)) s (at + f .size + 1) g q h (line-short i (word f)) (line-no-kind i (word f)) ∙ scan-tab (line-of i) s at f r t
+          fault-not-tab (λ fs. line-of i (word f ∷ fs)) s (at + f .size + 1) g q h (line-short i (word f)) (line-no-kind i (word f))
+          ∙ scan-tab (line-of i) s at f r t
 
       pub line-on :
           place (word f) ≡ i → g .stop ≡ 9
           → account-scanned (single (word g)) (at + f .size + 1 + g .size + 1) (drop (at + f .size + 1 + g .size + 1) s) ≡ scanned i at (drop at s)
       line-on e h =
-          scan-same (account-says (single (word g))) (λ fs. line-of i (word f ∷ word g ∷ fs)) (at + f .size + 1 + g .size + 1) (drop (at + f .size + 1 + g .size + 1) s) (line-account i (word f) (word g) e)
+          scan-same (account-says (single (word g))) (λ fs. line-of i (word f ∷ word g ∷ fs)) (at + f .size + 1 + g .size + 1)
+          (drop (at + f .size + 1 + g .size + 1) s)
+          (line-account i (word f) (word g) e)
           ∙ scan-tab (λ fs. line-of i (word f ∷ fs)) s (at + f .size + 1) g q h ∙ scan-tab (line-of i) s at f r t

@@ -4,9 +4,34 @@ ghost use Prim.Native.Nat.{_≤_};
 ghost use lib.ListN.{length, getD};
 ghost use Rattle.loading.specs.Text.{digit, one-digit, two-digits, place, single, account};
 ghost use Rattle.loading.specs.Fields.{stops, field-at, word};
+use syntax::Pattern;
+
+pub(crate) const TAB: u16 = b'\t' as u16;
+
+pub(crate) const NEWLINE: u16 = b'\n' as u16;
+
+const DASH: u16 = b'-' as u16;
+
+const ZERO: u16 = b'0' as u16;
+
+const ONE: u16 = b'1' as u16;
+
+const NINE: u16 = b'9' as u16;
+
+// Stands past the last byte of a text; no byte is so great.
+const END: u16 = 256;
+
+// Stands for a byte that is no digit; digits are below it.
+const NO_DIGIT: u16 = 10;
+
+// Stands for a field that writes no node index; node indices are below it.
+pub(crate) const NO_PLACE: u16 = Pattern::MAX_LINES as u16;
+
+// Stands for a byte that writes no account; accounts are below it.
+const NO_ACCOUNT: u8 = Pattern::MAX_ACCOUNT + 1;
 
 // A field's first two bytes. No good field is longer, so a longer one has size 3 and nothing more is read of it.
-// `stop` is the byte that ends the field, 256 for the text's end, and 0 where the field is longer than two bytes.
+// `stop` is the byte that ends the field, `END` at the text's end, and 0 where the field is longer than two bytes.
 pub struct Field {
     pub size: usize,
     pub first: u16,
@@ -14,14 +39,14 @@ pub struct Field {
     pub stop: u16,
 }
 
-// The byte at a position, 256 past the end.
+// The byte at a position, `END` past the last.
 fn peek(text: &[u8], at: usize) -> u16
     ensures { λ r. ⌜ r ≡ getD (now (text .entry)) at 256 ⌝ }
 {
     if at < text.len() {
         text[at] as u16
     } else {
-        256
+        END
     }
 }
 
@@ -29,13 +54,13 @@ fn peek(text: &[u8], at: usize) -> u16
 fn ends(b: u16) -> bool
     ensures { λ r. ⌜ r ≡ stops b ⌝ }
 {
-    if b == 9 {
+    if b == TAB {
         return true;
     }
-    if b == 10 {
+    if b == NEWLINE {
         return true;
     }
-    b == 256
+    b == END
 }
 
 pub(crate) fn field_from(text: &[u8], at: usize) -> Field
@@ -77,43 +102,47 @@ pub(crate) fn field_from(text: &[u8], at: usize) -> Field
     }
 }
 
-// The value of a decimal digit, 10 for any other byte.
+// The value of a decimal digit, `NO_DIGIT` for any other byte.
 fn digit_of(b: u16) -> u16
     ensures { λ r. ⌜ r ≡ digit b ⌝ }
 {
-    if b < 48 {
-        return 10;
+    if b < ZERO {
+        return NO_DIGIT;
     }
-    if 57 < b {
-        return 10;
+    if NINE < b {
+        return NO_DIGIT;
     }
-    b - 48
+    b - ZERO
 }
 
-// A number of one digit, 64 where it is none.
+// A number of one digit, `NO_PLACE` where it is none.
 fn short_place(a: u16) -> u16
     ensures { λ r. ⌜ r ≡ one-digit a ⌝ }
 {
-    if a < 10 { a } else { 64 }
+    if a < NO_DIGIT { a } else { NO_PLACE }
 }
 
-// A number of two digits, 64 where it is no node index.
+// A number of two digits, `NO_PLACE` where it is no node index.
 fn long_place(a: u16, b: u16) -> u16
     ensures { λ r. ⌜ r ≡ two-digits a b ⌝ }
 {
     if a < 1 {
-        return 64;
+        return NO_PLACE;
     }
     if 9 < a {
-        return 64;
+        return NO_PLACE;
     }
     if 9 < b {
-        return 64;
+        return NO_PLACE;
     }
-    if 10 * a + b < 64 { 10 * a + b } else { 64 }
+    if 10 * a + b < NO_PLACE {
+        10 * a + b
+    } else {
+        NO_PLACE
+    }
 }
 
-// The node index that a field writes, 64 where it writes none.
+// The node index that a field writes, `NO_PLACE` where it writes none.
 pub(crate) fn place_of(f: Field) -> u16
     ensures { λ r. ⌜ r ≡ place (word f) ⌝ }
 {
@@ -123,7 +152,7 @@ pub(crate) fn place_of(f: Field) -> u16
     if f.size == 2 {
         return long_place(digit_of(f.first), digit_of(f.second));
     }
-    64
+    NO_PLACE
 }
 
 // The byte of a field of one byte, 0 for any other field.
@@ -133,18 +162,18 @@ pub(crate) fn single_of(f: Field) -> u16
     if f.size == 1 { f.first } else { 0 }
 }
 
-// The account that a byte writes, 10 where it writes none.
+// The account that a byte writes, `NO_ACCOUNT` where it writes none.
 pub(crate) fn account_of(b: u16) -> u8
     ensures { λ r. ⌜ r ≡ account b ⌝ }
 {
-    if b == 45 {
+    if b == DASH {
         return 0;
     }
-    if b < 49 {
-        return 10;
+    if b < ONE {
+        return NO_ACCOUNT;
     }
-    if 57 < b {
-        return 10;
+    if NINE < b {
+        return NO_ACCOUNT;
     }
-    (b - 48) as u8
+    (b - ZERO) as u8
 }

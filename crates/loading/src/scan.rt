@@ -7,6 +7,9 @@ ghost use Rattle.loading.specs.Text.{node-of-none, node-of-one, range-of
 ghost use Rattle.loading.specs.Fields.{word};
 ghost use Rattle.loading.specs.Scans.{parsed, finished, parts-scanned, account-scanned, scanned};
 use super::field::Field;
+use super::field::NEWLINE;
+use super::field::NO_PLACE;
+use super::field::TAB;
 use super::field::account_of;
 use super::field::field_from;
 use super::field::place_of;
@@ -14,7 +17,21 @@ use super::field::single_of;
 use syntax::Leaf;
 use syntax::Line;
 use syntax::Node;
+use syntax::Pattern;
 use syntax::is_letter;
+
+// The kinds of nodes, as a text writes them.
+const NOTHING: u16 = b'E' as u16;
+
+const LETTER: u16 = b'L' as u16;
+
+const RANGE: u16 = b'R' as u16;
+
+const SEQUENCE: u16 = b'S' as u16;
+
+const ALTERNATIVE: u16 = b'A' as u16;
+
+const STAR: u16 = b'K' as u16;
 
 // What a kind and the fields after the account say.
 pub enum Parsed {
@@ -41,7 +58,7 @@ fn is_field_letter(b: u16) -> bool
 fn parse_none(kind: u16) -> Parsed
     ensures { λ r. ⌜ r ≡ parsed (node-of-none kind) ⌝ }
 {
-    if kind == 69 {
+    if kind == NOTHING {
         return Parsed::Node(Node::Leaf(Leaf::Nothing));
     }
     Parsed::Fault
@@ -50,16 +67,16 @@ fn parse_none(kind: u16) -> Parsed
 fn parse_one(kind: u16, x: Field) -> Parsed
     ensures { λ r. ⌜ r ≡ parsed (node-of-one kind (word x)) ⌝ }
 {
-    if kind == 76 {
+    if kind == LETTER {
         let c = single_of(x);
         if is_field_letter(c) {
             return Parsed::Node(Node::Leaf(Leaf::Letter(c as u8)));
         }
         return Parsed::Fault;
     }
-    if kind == 75 {
+    if kind == STAR {
         let p = place_of(x);
-        if p < 64 {
+        if p < NO_PLACE {
             return Parsed::Node(Node::Star(p as u8));
         }
     }
@@ -84,21 +101,21 @@ fn parse_range(a: u16, b: u16) -> Parsed
 fn parse_two(kind: u16, x: Field, y: Field) -> Parsed
     ensures { λ r. ⌜ r ≡ parsed (node-of-two kind (word x) (word y)) ⌝ }
 {
-    if kind == 82 {
+    if kind == RANGE {
         return parse_range(single_of(x), single_of(y));
     }
     let p = place_of(x);
     let q = place_of(y);
-    if 64 <= p {
+    if NO_PLACE <= p {
         return Parsed::Fault;
     }
-    if 64 <= q {
+    if NO_PLACE <= q {
         return Parsed::Fault;
     }
-    if kind == 83 {
+    if kind == SEQUENCE {
         return Parsed::Node(Node::Sequence(p as u8, q as u8));
     }
-    if kind == 65 {
+    if kind == ALTERNATIVE {
         return Parsed::Node(Node::Alternative(p as u8, q as u8));
     }
     Parsed::Fault
@@ -120,14 +137,14 @@ fn scan_parts(text: &[u8], at: usize, kind: u16, account: u8) -> Scanned
 {
     let x = field_from(text, at);
     let end = at + x.size;
-    if x.stop == 10 {
+    if x.stop == NEWLINE {
         return finish(account, parse_one(kind, x), end + 1);
     }
-    if x.stop != 9 {
+    if x.stop != TAB {
         return Scanned::Fault;
     }
     let y = field_from(text, end + 1);
-    if y.stop != 10 {
+    if y.stop != NEWLINE {
         return Scanned::Fault;
     }
     finish(account, parse_two(kind, x, y), end + 1 + y.size + 1)
@@ -140,14 +157,14 @@ fn scan_account(text: &[u8], at: usize, kind: u16) -> Scanned
 {
     let a = field_from(text, at);
     let account = account_of(single_of(a));
-    if 9 < account {
+    if Pattern::MAX_ACCOUNT < account {
         return Scanned::Fault;
     }
     let end = at + a.size;
-    if a.stop == 10 {
+    if a.stop == NEWLINE {
         return finish(account, parse_none(kind), end + 1);
     }
-    if a.stop != 9 {
+    if a.stop != TAB {
         return Scanned::Fault;
     }
     scan_parts(text, end + 1, kind, account)
@@ -159,7 +176,7 @@ pub(crate) fn scan_line(text: &[u8], at: usize, i: usize) -> Scanned
     ensures { λ r. ⌜ r ≡ scanned i at (drop at (now (text .entry))) ⌝ }
 {
     let p = field_from(text, at);
-    if p.stop != 9 {
+    if p.stop != TAB {
         return Scanned::Fault;
     }
     if place_of(p) as usize != i {
@@ -167,7 +184,7 @@ pub(crate) fn scan_line(text: &[u8], at: usize, i: usize) -> Scanned
     }
     let end = at + p.size;
     let k = field_from(text, end + 1);
-    if k.stop != 9 {
+    if k.stop != TAB {
         return Scanned::Fault;
     }
     scan_account(text, end + 1 + k.size + 1, single_of(k))

@@ -22,7 +22,9 @@ refuse-requires-2 : tie.Need-refuse-requires-2
 refuse-requires-2 c κs = search needs
 
 returns-2 : tie.Need-returns-2
-returns-2 c = rw (c .refuse2 .ensures) (load-empty _ _ (c .before .before .before .before .read-lines .ensures) (c .before .before .before .if1 .left) (c .before .if2 .taken))
+returns-2 c =
+    let a = c .before .before .before in
+    rw (c .refuse2 .ensures) (load-empty _ _ (a .before .read-lines .ensures) (a .if1 .left) (c .before .if2 .taken))
 
 tree-fault-of-requires : tie.Need-tree-fault-of-requires
 tree-fault-of-requires c κs = load-few _ _ (c .before .before .before .read-lines .ensures) (c .before .before .if1 .left)
@@ -31,7 +33,10 @@ enum-known-line : tie.Need-enum-known-line
 enum-known-line c = search needs
 
 cast-t13 : tie.Need-cast-t13
-cast-t13 c = omega (arith, fault-within _ _ (fault-found _ _ _ (c .before .before .before .tree-fault-of .ensures) (c .before .line .given .1)), load-few _ _ (c .before .before .before .before .before .before .before .read-lines .ensures) (c .before .before .before .before .before .before .if1 .left))
+cast-t13 c =
+    let a = c .before .before .before .before .before .before in
+    let h = fault-within _ _ (fault-found _ _ _ (c .before .before .before .tree-fault-of .ensures) (c .before .line .given .1)) in
+    omega (arith, h, load-few _ _ (a .before .read-lines .ensures) (a .if1 .left))
 
 refuse-requires-3 : tie.Need-refuse-requires-3
 refuse-requires-3 c κs = search needs
@@ -40,13 +45,21 @@ enum-told : tie.Need-enum-told
 enum-told c = search needs
 
 cast-t15 : tie.Need-cast-t15
-cast-t15 c = omega (arith, load-few _ _ (c .before .before .before .before .before .before .read-lines .ensures) (c .before .before .before .before .before .if1 .left))
+cast-t15 c =
+    let a = c .before .before .before .before .before in
+    omega (arith, load-few _ _ (a .before .read-lines .ensures) (a .if1 .left))
 
 returns-3 : tie.Need-returns-3
-returns-3 c = rw (c .refuse3 .ensures) (load-tree _ _ (c .before .before .before .before .before .before .before .before .read-lines .ensures) (c .before .before .before .before .before .before .before .if1 .left) (c .before .before .before .before .before .if2 .left) _ (fault-found _ _ _ (c .before .before .before .before .tree-fault-of .ensures) (c .before .before .line .given .1)))
+returns-3 c =
+    let a = c .before .before .before .before .before .before .before in
+    let h = fault-found _ _ _ (c .before .before .before .before .tree-fault-of .ensures) (c .before .before .line .given .1) in
+    rw (c .refuse3 .ensures) (load-tree _ _ (a .before .read-lines .ensures) (a .if1 .left) (c .before .before .before .before .before .if2 .left) _ h)
 
 returns-4 : tie.Need-returns-4
-returns-4 c = load-good _ _ (c .before .before .before .before .before .before .read-lines .ensures) (c .before .before .before .before .before .if1 .left) (c .before .before .before .if2 .left) (fault-none _ _ (c .before .before .tree-fault-of .ensures) (c .enum-told .given .1))
+returns-4 c =
+    let a = c .before .before .before .before .before in
+    let h = fault-none _ _ (c .before .before .tree-fault-of .ensures) (c .enum-told .given .1) in
+    load-good _ _ (a .before .read-lines .ensures) (a .if1 .left) (c .before .before .before .if2 .left) h
 
 pub load-spec : {M : Type 1} → statement M
 load-spec =

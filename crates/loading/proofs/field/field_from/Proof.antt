@@ -12,7 +12,8 @@ ends-requires : tie.Need-ends-requires
 ends-requires c κs = search needs
 
 returns : tie.Need-returns
-returns c = field-empty (c .before .before .before .before .args .text .now) _ (c .before .before .peek .ensures) (sym (c .before .ends .ensures) ∙ c .if1 .taken)
+returns c =
+    field-empty (c .before .before .before .before .args .text .now) _ (c .before .before .peek .ensures) (sym (c .before .ends .ensures) ∙ c .if1 .taken)
 
 add-peek : tie.Need-add-peek
 add-peek c = search needs
@@ -24,7 +25,10 @@ ends-requires-2 : tie.Need-ends-requires-2
 ends-requires-2 c κs = search needs
 
 returns-2 : tie.Need-returns-2
-returns-2 c = field-one (c .before .before .before .before .before .before .before .args .text .now) _ (c .before .before .before .before .before .peek .ensures) (sym (c .before .before .before .before .ends .ensures) ∙ c .before .before .before .if1 .left) (c .before .before .peek2 .ensures) (sym (c .before .ends2 .ensures) ∙ c .if2 .taken)
+returns-2 c =
+    let a = c .before .before .before in
+    field-one (a .before .before .before .before .args .text .now) _ (a .before .before .peek .ensures)
+    (sym (a .before .ends .ensures) ∙ a .if1 .left) (c .before .before .peek2 .ensures) (sym (c .before .ends2 .ensures) ∙ c .if2 .taken)
 
 add-peek-2 : tie.Need-add-peek-2
 add-peek-2 c = search needs
@@ -36,10 +40,20 @@ ends-requires-3 : tie.Need-ends-requires-3
 ends-requires-3 c κs = search needs
 
 returns-3 : tie.Need-returns-3
-returns-3 c = field-two (c .before .before .before .before .before .before .before .before .before .before .args .text .now) _ (c .before .before .before .before .before .before .before .before .peek .ensures) (sym (c .before .before .before .before .before .before .before .ends .ensures) ∙ c .before .before .before .before .before .before .if1 .left) (c .before .before .before .before .before .peek2 .ensures) (sym (c .before .before .before .before .ends2 .ensures) ∙ c .before .before .before .if2 .left) (c .before .before .peek3 .ensures) (sym (c .before .ends3 .ensures) ∙ c .if3 .taken)
+returns-3 c =
+    let b = c .before .before .before in
+    let a = b .before .before .before in
+    field-two (a .before .before .before .before .args .text .now) _ (a .before .before .peek .ensures) (sym (a .before .ends .ensures) ∙ a .if1 .left)
+    (b .before .before .peek2 .ensures) (sym (b .before .ends2 .ensures) ∙ b .if2 .left) (c .before .before .peek3 .ensures)
+    (sym (c .before .ends3 .ensures) ∙ c .if3 .taken)
 
 returns-4 : tie.Need-returns-4
-returns-4 c = field-long (c .before .before .before .before .before .before .before .before .before .before .args .text .now) _ (c .before .before .before .before .before .before .before .before .peek .ensures) (sym (c .before .before .before .before .before .before .before .ends .ensures) ∙ c .before .before .before .before .before .before .if1 .left) (c .before .before .before .before .before .peek2 .ensures) (sym (c .before .before .before .before .ends2 .ensures) ∙ c .before .before .before .if2 .left) (c .before .before .peek3 .ensures) (sym (c .before .ends3 .ensures) ∙ c .if3 .left)
+returns-4 c =
+    let b = c .before .before .before in
+    let a = b .before .before .before in
+    field-long (a .before .before .before .before .args .text .now) _ (a .before .before .peek .ensures) (sym (a .before .ends .ensures) ∙ a .if1 .left)
+    (b .before .before .peek2 .ensures) (sym (b .before .ends2 .ensures) ∙ b .if2 .left) (c .before .before .peek3 .ensures)
+    (sym (c .before .ends3 .ensures) ∙ c .if3 .left)
 
 pub field-from-spec : {M : Type 1} → statement M
 field-from-spec =

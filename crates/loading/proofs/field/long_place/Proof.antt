@@ -32,11 +32,23 @@ add-result c = search needs
 
 returns-4 : tie.Need-returns-4
 unfolding two-digits
-returns-4 c = simp (le-leb 1 (c .before .before .before .before .args .a) (omega arith), le-leb _ _ (c .before .before .if2 .left), le-leb _ _ (c .before .if3 .left), lt-ltb _ _ (c .if4 .taken))
+returns-4 c =
+    simp (
+      le-leb 1 (c .before .before .before .before .args .a) (omega arith),
+      le-leb _ _ (c .before .before .if2 .left),
+      le-leb _ _ (c .before .if3 .left),
+      lt-ltb _ _ (c .if4 .taken),
+    )
 
 returns-5 : tie.Need-returns-5
 unfolding two-digits
-returns-5 c = simp (le-leb 1 (c .before .before .before .before .args .a) (omega arith), le-leb _ _ (c .before .before .if2 .left), le-leb _ _ (c .before .if3 .left), le-ltb _ _ (c .if4 .left))
+returns-5 c =
+    simp (
+      le-leb 1 (c .before .before .before .before .args .a) (omega arith),
+      le-leb _ _ (c .before .before .if2 .left),
+      le-leb _ _ (c .before .if3 .left),
+      le-ltb _ _ (c .if4 .left),
+    )
 
 pub long-place-spec : {M : Type 1} → statement M
 long-place-spec =

@@ -14,7 +14,9 @@ short-place-requires c κs = search needs
 
 returns : tie.Need-returns
 unfolding place
-returns c = c .short-place .ensures ∙ ap one-digit (c .before .digit-of .ensures) ∙ sym (ap place (word-one (c .before .before .before .before .args .f) (c .before .before .if1 .taken)))
+returns c =
+    c .short-place .ensures ∙ ap one-digit (c .before .digit-of .ensures)
+    ∙ sym (ap place (word-one (c .before .before .before .before .args .f) (c .before .before .if1 .taken)))
 
 digit-of-requires-2 : tie.Need-digit-of-requires-2
 digit-of-requires-2 c κs = search needs
@@ -27,7 +29,9 @@ long-place-requires c κs = search needs
 
 returns-2 : tie.Need-returns-2
 unfolding place
-returns-2 c = c .long-place .ensures ∙ ap₂ two-digits (c .before .before .digit-of2 .ensures) (c .before .digit-of3 .ensures) ∙ sym (ap place (word-two (c .before .before .before .before .before .before .before .args .f) (c .before .before .before .if2 .taken)))
+returns-2 c =
+    c .long-place .ensures ∙ ap₂ two-digits (c .before .before .digit-of2 .ensures) (c .before .digit-of3 .ensures)
+    ∙ sym (ap place (word-two (c .before .before .before .before .before .before .before .args .f) (c .before .before .before .if2 .taken)))
 
 returns-3 : tie.Need-returns-3
 returns-3 c = sym (word-no-place (c .before .before .before .before .args .f) (c .before .before .if1 .left) (c .if2 .left))

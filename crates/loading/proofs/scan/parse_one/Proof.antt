@@ -16,10 +16,14 @@ cast-t7 : tie.Need-cast-t7
 cast-t7 c = record { fits = letter-small _ (sym (c .before .is-field-letter .ensures) ∙ c .if2 .taken) }
 
 returns : tie.Need-returns
-returns c = one-letter _ _ _ (c .before .before .before .if1 .taken) (c .before .before .single-of .ensures) (sym (c .before .is-field-letter .ensures) ∙ c .if2 .taken)
+returns c =
+    one-letter _ _ _ (c .before .before .before .if1 .taken) (c .before .before .single-of .ensures)
+    (sym (c .before .is-field-letter .ensures) ∙ c .if2 .taken)
 
 returns-2 : tie.Need-returns-2
-returns-2 c = one-no-letter _ _ _ (c .before .before .before .if1 .taken) (c .before .before .single-of .ensures) (sym (c .before .is-field-letter .ensures) ∙ c .if2 .left)
+returns-2 c =
+    one-no-letter _ _ _ (c .before .before .before .if1 .taken) (c .before .before .single-of .ensures)
+    (sym (c .before .is-field-letter .ensures) ∙ c .if2 .left)
 
 place-of-requires : tie.Need-place-of-requires
 place-of-requires c κs = search needs

@@ -17,19 +17,26 @@ is-field-letter-requires-2 : tie.Need-is-field-letter-requires-2
 is-field-letter-requires-2 c κs = search needs
 
 returns-2 : tie.Need-returns-2
-returns-2 c = range-no-high _ _ (sym (c .before .before .before .is-field-letter .ensures) ∙ not-false _ (c .before .before .if1 .left)) (sym (c .before .is-field-letter2 .ensures) ∙ not-true _ (c .if2 .taken))
+returns-2 c =
+    range-no-high _ _ (sym (c .before .before .before .is-field-letter .ensures) ∙ not-false _ (c .before .before .if1 .left))
+    (sym (c .before .is-field-letter2 .ensures) ∙ not-true _ (c .if2 .taken))
 
 cast-t5 : tie.Need-cast-t5
-cast-t5 c = record { fits = letter-small _ (sym (c .before .before .before .before .is-field-letter .ensures) ∙ not-false _ (c .before .before .before .if1 .left)) }
+cast-t5 c =
+    record { fits = letter-small _ (sym (c .before .before .before .before .is-field-letter .ensures) ∙ not-false _ (c .before .before .before .if1 .left)) }
 
 cast-t6 : tie.Need-cast-t6
 cast-t6 c = record { fits = letter-small _ (sym (c .before .before .is-field-letter2 .ensures) ∙ not-false _ (c .before .if2 .left)) }
 
 returns-3 : tie.Need-returns-3
-returns-3 c = range-good _ _ (sym (c .before .before .before .before .is-field-letter .ensures) ∙ not-false _ (c .before .before .before .if1 .left)) (sym (c .before .before .is-field-letter2 .ensures) ∙ not-false _ (c .before .if2 .left)) (c .if3 .taken)
+returns-3 c =
+    range-good _ _ (sym (c .before .before .before .before .is-field-letter .ensures) ∙ not-false _ (c .before .before .before .if1 .left))
+    (sym (c .before .before .is-field-letter2 .ensures) ∙ not-false _ (c .before .if2 .left)) (c .if3 .taken)
 
 returns-4 : tie.Need-returns-4
-returns-4 c = range-reversed _ _ (sym (c .before .before .before .before .is-field-letter .ensures) ∙ not-false _ (c .before .before .before .if1 .left)) (sym (c .before .before .is-field-letter2 .ensures) ∙ not-false _ (c .before .if2 .left)) (c .if3 .left)
+returns-4 c =
+    range-reversed _ _ (sym (c .before .before .before .before .is-field-letter .ensures) ∙ not-false _ (c .before .before .before .if1 .left))
+    (sym (c .before .before .is-field-letter2 .ensures) ∙ not-false _ (c .before .if2 .left)) (c .if3 .left)
 
 pub parse-range-spec : {M : Type 1} → statement M
 parse-range-spec =

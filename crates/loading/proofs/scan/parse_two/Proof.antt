@@ -17,7 +17,10 @@ parse-range-requires : tie.Need-parse-range-requires
 parse-range-requires c κs = search needs
 
 returns : tie.Need-returns
-returns c = c .parse-range .ensures ∙ ap₂ (λ x y. parsed (range-of x y)) (c .before .before .single-of .ensures) (c .before .single-of2 .ensures) ∙ two-range _ _ _ (c .before .before .before .if1 .taken)
+returns c =
+    c .parse-range .ensures
+    ∙ ap₂ (λ x y. parsed (range-of x y)) (c .before .before .single-of .ensures) (c .before .single-of2 .ensures)
+    ∙ two-range _ _ _ (c .before .before .before .if1 .taken)
 
 place-of-requires : tie.Need-place-of-requires
 place-of-requires c κs = search needs
@@ -38,7 +41,9 @@ cast-t10 : tie.Need-cast-t10
 cast-t10 c = search needs
 
 returns-4 : tie.Need-returns-4
-returns-4 c = two-sequence _ _ _ (c .before .before .before .before .before .if1 .left) _ _ (c .before .before .before .before .place-of .ensures) (c .before .before .before .place-of2 .ensures) (c .before .before .if2 .left) (c .before .if3 .left) (c .if4 .taken)
+returns-4 c =
+    two-sequence _ _ _ (c .before .before .before .before .before .if1 .left) _ _ (c .before .before .before .before .place-of .ensures)
+    (c .before .before .before .place-of2 .ensures) (c .before .before .if2 .left) (c .before .if3 .left) (c .if4 .taken)
 
 cast-t12 : tie.Need-cast-t12
 cast-t12 c = search needs
@@ -47,7 +52,10 @@ cast-t13 : tie.Need-cast-t13
 cast-t13 c = search needs
 
 returns-5 : tie.Need-returns-5
-returns-5 c = two-alternative _ _ _ (c .before .before .before .before .before .before .if1 .left) _ _ (c .before .before .before .before .before .place-of .ensures) (c .before .before .before .before .place-of2 .ensures) (c .before .before .before .if2 .left) (c .before .before .if3 .left) (c .before .if4 .left) (c .if5 .taken)
+returns-5 c =
+    two-alternative _ _ _ (c .before .before .before .before .before .before .if1 .left) _ _
+    (c .before .before .before .before .before .place-of .ensures) (c .before .before .before .before .place-of2 .ensures)
+    (c .before .before .before .if2 .left) (c .before .before .if3 .left) (c .before .if4 .left) (c .if5 .taken)
 
 returns-6 : tie.Need-returns-6
 returns-6 c = two-other _ _ _ (c .before .before .before .before .before .before .if1 .left) (c .before .if4 .left) (c .if5 .left)

@@ -14,7 +14,9 @@ use Rattle.loading.proofs.scan.scan_account.Tie as tie
 
 -- the first field that is read, told of the text
 reads : (c : tie.After-field-from) → Reads (drop (c .before .before .args .at) (c .before .before .args .text .now)) (c .field-from .result)
-reads c = reads-at (c .before .before .args .text .now) (c .before .before .args .at) _ (λ k. omega (arith, c .before .shared-slice-known .given k)) (c .field-from .ensures)
+reads c =
+    reads-at (c .before .before .args .text .now) (c .before .before .args .at) _ (λ k. omega (arith, c .before .shared-slice-known .given k))
+    (c .field-from .ensures)
 
 small : (c : tie.After-field-from) → c .field-from .result .size ≤ 3
 small c = field-small (c .before .before .args .text .now) (c .before .before .args .at) _ (c .field-from .ensures)
@@ -32,7 +34,10 @@ account-of-requires : tie.Need-account-of-requires
 account-of-requires c κs = search needs
 
 returns : tie.Need-returns
-returns c = account-big (c .before .before .before .before .before .args .text .now) (c .before .before .before .before .before .args .at) _ (reads (c .before .before .before)) _ (omega (arith, told (c .before)))
+returns c =
+    let f = c .before .before .before in
+    let s = f .before .before in
+    account-big (s .args .text .now) (s .args .at) _ (reads f) _ (omega (arith, told (c .before)))
 
 add-end : tie.Need-add-end
 add-end c = omega (arith, small (c .before .before .before .before))
@@ -47,19 +52,38 @@ finish-requires : tie.Need-finish-requires
 finish-requires c κs = search needs
 
 returns-2 : tie.Need-returns-2
-returns-2 c = c .finish .ensures ∙ ap₂ (λ a p. finished a p (c .before .before .before .before .before .before .before .before .before .before .args .at + c .before .before .before .before .before .before .before .before .field-from .result .size + 1)) (told (c .before .before .before .before .before .before)) (c .before .parse-none .ensures) ∙ account-last (c .before .before .before .before .before .before .before .before .before .before .args .text .now) (c .before .before .before .before .before .before .before .before .before .before .args .at) _ (reads (c .before .before .before .before .before .before .before .before)) _ (omega (arith, told (c .before .before .before .before .before .before))) (c .before .before .if2 .taken)
+returns-2 c =
+    let a = c .before .before .before .before .before .before in
+    let f = a .before .before in
+    let s = f .before .before in
+    c .finish .ensures
+    ∙ ap₂ (λ a p. finished a p (s .args .at + f .field-from .result .size + 1)) (told a) (c .before .parse-none .ensures)
+    ∙ account-last (s .args .text .now) (s .args .at) _ (reads f) _ (omega (arith, told a)) (c .before .before .if2 .taken)
 
 returns-3 : tie.Need-returns-3
-returns-3 c = account-neither (c .before .before .before .before .before .before .before .before .before .before .args .text .now) (c .before .before .before .before .before .before .before .before .before .before .args .at) _ (reads (c .before .before .before .before .before .before .before .before)) _ (c .if3 .taken) (c .before .before .if2 .left)
+returns-3 c =
+    let f = c .before .before .before .before .before .before .before .before in
+    let s = f .before .before in
+    account-neither (s .args .text .now) (s .args .at) _ (reads f) _ (c .if3 .taken) (c .before .before .if2 .left)
 
 add-scan-parts : tie.Need-add-scan-parts
 add-scan-parts c = omega (arith, small (c .before .before .before .before .before .before .before .before))
 
 scan-parts-requires : tie.Need-scan-parts-requires
-scan-parts-requires c κs = omega (arith, room (c .before .before .before .before .before .before .before .before .before .before .args .text .now) (c .before .before .before .before .before .before .before .before .before .before .args .at) _ (reads (c .before .before .before .before .before .before .before .before)) (c .if3 .left))
+scan-parts-requires c κs =
+    let f = c .before .before .before .before .before .before .before .before in
+    let s = f .before .before in
+    omega (arith, room (s .args .text .now) (s .args .at) _ (reads f) (c .if3 .left))
 
 returns-4 : tie.Need-returns-4
-returns-4 c = c .scan-parts .ensures ∙ ap (λ a. parts-scanned a (c .before .before .before .before .before .before .before .before .before .before .before .args .kind) (c .before .before .before .before .before .before .before .before .before .before .before .args .at + c .before .before .before .before .before .before .before .before .before .field-from .result .size + 1) (drop (c .before .before .before .before .before .before .before .before .before .before .before .args .at + c .before .before .before .before .before .before .before .before .before .field-from .result .size + 1) (c .before .before .before .before .before .before .before .before .before .before .before .args .text .now))) (told (c .before .before .before .before .before .before .before)) ∙ account-on (c .before .before .before .before .before .before .before .before .before .before .before .args .text .now) (c .before .before .before .before .before .before .before .before .before .before .before .args .at) _ (reads (c .before .before .before .before .before .before .before .before .before)) _ (c .before .if3 .left)
+returns-4 c =
+    let a = c .before .before .before .before .before .before .before in
+    let f = a .before .before in
+    let s = f .before .before in
+    let next = s .args .at + f .field-from .result .size + 1 in
+    c .scan-parts .ensures
+    ∙ ap (λ a. parts-scanned a (s .args .kind) next (drop next (s .args .text .now))) (told a)
+    ∙ account-on (s .args .text .now) (s .args .at) _ (reads f) _ (c .before .if3 .left)
 
 pub scan-account-spec : {M : Type 1} → statement M
 scan-account-spec =

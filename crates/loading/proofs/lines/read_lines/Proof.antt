@@ -1,12 +1,12 @@
--- `loading::reading::read_lines` meets its contract.
+-- `loading::lines::read_lines` meets its contract.
 use Prim.Native.Nat.{_-_}
 use native.Mathlib.Omega.{arith}
 use lib.ListN.{length}
-use Rattle.loading.specs.Reading.{Read-so-far}
+use Rattle.loading.specs.ReadLines.{Read-so-far}
 use Rattle.loading.specs.Lines.{read-start, read-end, read-many, read-fault, read-less, read-on}
 use borrow.Author.Needs.{needs}
-use Rattle.loading.proofs.reading.read_lines.Statement.{statement}
-use Rattle.loading.proofs.reading.read_lines.Tie as tie
+use Rattle.loading.proofs.lines.read_lines.Statement.{statement}
+use Rattle.loading.proofs.lines.read_lines.Tie as tie
 
 abbrev Inv-loop : tie.InvT-loop
 Inv-loop text p₀ at₀ p at = Read-so-far text p at
@@ -39,10 +39,18 @@ add-p : tie.Need-add-p Inv-loop μ-loop
 add-p c = search needs
 
 loop-less : tie.Need-loop-less Inv-loop μ-loop
-loop-less c = omega (arith, read-less _ _ _ (c .before .before .before .before .before .before .loop .inv) (c .before .before .before .before .before .if1 .left) (c .before .before .before .before .if2 .left) _ (c .before .before .before .scan-line .ensures) _ _ (c .before .scanned .given .1))
+loop-less c =
+    let s = c .before .before .before in
+    let b = s .before in
+    let a = b .before in
+    omega (arith, read-less _ _ _ (a .before .loop .inv) (a .if1 .left) (b .if2 .left) _ (s .scan-line .ensures) _ _ (c .before .scanned .given .1))
 
 loop-again : tie.Need-loop-again Inv-loop μ-loop
-loop-again c = read-on _ _ _ (c .before .before .before .before .before .before .loop .inv) (c .before .before .before .before .before .if1 .left) (c .before .before .before .before .if2 .left) _ (c .before .before .before .scan-line .ensures) _ _ (c .before .scanned .given .1)
+loop-again c =
+    let s = c .before .before .before in
+    let b = s .before in
+    let a = b .before in
+    read-on _ _ _ (a .before .loop .inv) (a .if1 .left) (b .if2 .left) _ (s .scan-line .ensures) _ _ (c .before .scanned .given .1)
 
 returns : tie.Need-returns Inv-loop μ-loop
 returns c = read-end _ _ _ (c .before .loop .inv) (c .if1 .taken)
@@ -51,7 +59,11 @@ returns-2 : tie.Need-returns-2 Inv-loop μ-loop
 returns-2 c = read-many _ _ _ (c .before .before .loop .inv) (c .before .if1 .left) (c .if2 .taken)
 
 returns-3 : tie.Need-returns-3 Inv-loop μ-loop
-returns-3 c = read-fault _ _ _ (c .before .before .before .before .before .loop .inv) (c .before .before .before .before .if1 .left) (c .before .before .before .if2 .left) _ (c .before .before .scan-line .ensures) (c .enum-told .given .1)
+returns-3 c =
+    let s = c .before .before in
+    let b = s .before in
+    let a = b .before in
+    read-fault _ _ _ (a .before .loop .inv) (a .if1 .left) (b .if2 .left) _ (s .scan-line .ensures) (c .enum-told .given .1)
 
 pub read-lines-spec : {M : Type 1} → statement M
 read-lines-spec =

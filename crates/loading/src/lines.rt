@@ -1,10 +1,13 @@
 // The lines of a pattern text, read once from front to back.
-ghost use Rattle.loading.specs.Reading.{Reads-lines};
+ghost use Rattle.loading.specs.ReadLines.{Reads-lines};
 use super::scan::Scanned;
 use super::scan::scan_line;
 use syntax::Pattern;
 
-// The table of the lines before the first form fault, and that fault's line; 65 where there is none.
+// Stands for the line of a fault where there is none: no line is reported past `Pattern::MAX_LINES`.
+const NO_FAULT: usize = Pattern::MAX_LINES + 1;
+
+// The table of the lines before the first form fault, and that fault's line.
 pub struct Read {
     pub pattern: Pattern,
     pub fault: usize,
@@ -17,7 +20,7 @@ pub(crate) fn read_lines(text: &[u8]) -> Read
     let mut at = 0;
     let fault = loop {
         if text.len() <= at {
-            break 65;
+            break NO_FAULT;
         }
         let i = p.count;
         if Pattern::MAX_LINES <= i {
