@@ -2,6 +2,7 @@
 pub mod Spans
 -- The visits that a walk over a code passes, and the search for one of them.
 pub mod Traces
+pub mod TraceLaws
 pub mod Seeks
 -- The services: one law for each way of the code.
 pub mod SpanLaws

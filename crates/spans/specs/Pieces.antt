@@ -13,7 +13,7 @@ use Rattle.syntax.specs.Letter.{first-bad, letter-limit}
 use Rattle.syntax.specs.Trees.{root}
 use Rattle.syntax.specs.Table.{obeys}
 use Rattle.refusals.specs.Refusals.{number, refused}
-use Rattle.semantics.specs.Visits.{Visit, visit}
+use Rattle.semantics.specs.Visits.{Visit}
 use Rattle.semantics.specs.VisitLaws.{visit-shows}
 use Rattle.spans.specs.declared.Spanned.{Spanned}
 use Rattle.codes.specs.Flatten.{bad-table, no-code, too-long}
@@ -40,12 +40,14 @@ module _ (p : Pattern) (tape code : List ℕ) (count l k : ℕ) where
   shown-fits : (x : Visit) → span-shown p tape code count l k ≡ some x → x .start + x .size ≤ length tape
   unfolding span-shown span-answer span-visit
   shown-fits x e =
-      let (w, q) = shown-from (obeys p) (leb (length tape) letter-limit) (ltb (first-bad tape) (length tape)) (first-bad tape) (code-of-tape (root p) tape code count) (span-visit p code count l k) x e in
-      let c = tape-whole p tape code count w in
+      let (w, q) =
+      shown-from (obeys p) (leb (length tape) letter-limit) (ltb (first-bad tape) (length tape)) (first-bad tape) (code-of-tape (root p) tape code count)
+      (span-visit p code count l k) x e in
+      let c = tape-whole (root p) tape code count w in
       let (v, g) = whole-value (root p) code count c in
       let s = spells (root p) code count (whole-handed (root p) code count c) v g in
       let f = visit-shows (root p) v l k x (sym (ap (visit-by (root p) l k) g) ∙ q) .0 .fits in
-      omega (arith, f, ap length s, tape-letters p tape code count w)
+      omega (arith, f, ap length s, tape-letters (root p) tape code count w)
 
   part-at : (r : Spanned) (x : Option Visit) → span-shown p tape code count l k ≡ x → r .start ≡ start-of x → r .length ≡ size-of x → Part r
   part-at r none e a b = record {

@@ -1,8 +1,8 @@
 -- Showing the piece of a visit: the answer, start and length, for every input. Definitions only.
 use mathlib.Core.Path.{_≡_}
-use mathlib.Core.Bool.{Bool, true, false, _&&_, cond}
+use mathlib.Core.Bool.{cond}
 use mathlib.Core.Option.{Option, none, some}
-use mathlib.Core.List.{List, [], _∷_}
+use mathlib.Core.List.{List, []}
 use Prim.Native.Nat.{ℕ}
 use lib.Dec.{eqb, ltb, leb}
 use lib.ListN.{length, take, drop}
@@ -21,18 +21,8 @@ use Rattle.semantics.specs.Decode.{value-of}
 use Rattle.spans.specs.declared.SpanOutcome.{SpanOutcome}
 use Rattle.spans.specs.declared.SpanOutcome.the-variants.{Shown, Refused}
 use Rattle.spans.specs.declared.Spanned.{Spanned}
-use Rattle.walks.specs.Whole.{whole-code, letters-of}
 use Rattle.codes.specs.Flatten.{bad-table, no-code, too-long}
-
-abbrev pub same : (xs ys : List ℕ) → Bool
-same [] [] = true
-same [] (y ∷ ys) = false
-same (x ∷ xs) [] = false
-same (x ∷ xs) (y ∷ ys) = eqb x y && same xs ys
-
--- 01: "Here 8 also covers a code of another tape."
-unfoldable pub code-of-tape : (t : Tree) → (tape code : List ℕ) → (count : ℕ) → Bool
-code-of-tape t tape code count = whole-code t code count && same (letters-of t code count) tape
+pub use Rattle.codes.specs.Spells.{code-of-tape}
 
 abbrev pub visit-by : (t : Tree) → (node k : ℕ) → Option (Value t) → Option Visit
 visit-by t l k none = none

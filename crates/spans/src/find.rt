@@ -1,13 +1,14 @@
 // The walk over a code that looks for a visit of a node. It goes the way of `walk`, on a code that is known to be whole.
 ghost use mathlib.Core.Path.{_≡_};
-ghost use mathlib.Core.Bool.{false, cond, _&&_};
-ghost use mathlib.Core.List.{List};
-ghost use Prim.Native.Nat.{ℕ, _-_, _*_, _≤_, _<_};
+ghost use mathlib.Core.Bool.{false, _&&_};
+ghost use Prim.Native.Nat.{_*_, _≤_, _<_};
 ghost use lib.Dec.{eqb};
 ghost use lib.ListN.{length};
-ghost use Rattle.table.specs.Columns.{Good, tree-in};
-ghost use Rattle.spans.specs.Traces.{trace-at, hit, miss};
-ghost use Rattle.spans.specs.Seeks.{step-of, Seeking, Finds};
+ghost use Rattle.semantics.specs.Code.{code-limit};
+ghost use Rattle.table.specs.Cells.{Good, tree-in};
+ghost use Rattle.spans.specs.Traces.{trace-at, hit, miss, Inside};
+ghost use Rattle.spans.specs.TraceLaws.{step-of};
+ghost use Rattle.spans.specs.Seeks.{Seeking, Finds};
 use bits::bit_at;
 use syntax::Leaf;
 use syntax::Node;
@@ -15,12 +16,13 @@ use table::node_at;
 use walks::side_at;
 use walks::walk;
 
-// A visit found; or the position behind the bits, the one on the tape, and how many visits are still to be passed.
+// A visit found, by its start and its size; or where the search goes on: at bit `at` of the code and letter `i` of the tape, with `k` visits
+// still to be passed.
 pub struct Found {
     pub hit: bool,
     pub at: u32,
-    pub position: u32,
-    pub left: u32,
+    pub i: u32,
+    pub k: u32,
     pub start: u32,
     pub size: u32,
 }
@@ -56,21 +58,21 @@ fn found_at(start: u32, size: u32) -> Found
     Found {
         hit: true,
         at: 0,
-        position: 0,
-        left: 0,
+        i: 0,
+        k: 0,
         start,
         size,
     }
 }
 
-fn not_found(at: u32, position: u32, left: u32) -> Found
-    ensures { λ r. ⌜ r ≡ miss at position left ⌝ }
+fn not_found(at: u32, i: u32, k: u32) -> Found
+    ensures { λ r. ⌜ r ≡ miss at i k ⌝ }
 {
     Found {
         hit: false,
         at,
-        position,
-        left,
+        i,
+        k,
         start: 0,
         size: 0,
     }
@@ -88,111 +90,61 @@ fn is_here(l: usize, node: u32, k: u32) -> bool
 // How many visits are left to pass inside node l.
 fn left_inside(l: usize, node: u32, k: u32) -> u32
     requires { ⌜ (eqb l node && eqb k 0) ≡ false ⌝ }
-    ensures { λ r. ⌜ r ≡ cond (eqb l node) (k - 1) k ⌝ }
+    ensures { λ r. ⌜ Inside l node k r ⌝ }
 {
     if l == node as usize { k - 1 } else { k }
 }
 
-// Looks for visit k of a node among those of node l, whose bits start at `at` and whose letters start at `position`.
+// Looks for visit k of a node among those of node l, whose bits start at `at` and whose letters start at `i`.
 pub(crate) fn find(
-    kind: &[u8; 64],
-    first: &[u8; 64],
-    second: &[u8; 64],
+    table: &[u64; 64],
     l: usize,
     code: &[u8],
     count: u32,
     at: u32,
-    position: u32,
+    i: u32,
     node: u32,
     k: u32,
 ) -> Found
-    requires { ⌜ Good (now kind) (now first) (now second) ⌝ }
-    requires { ⌜ (l < 64) × (at ≤ count) × (count ≤ 8 * length (now code)) × (count ≤ 524288) ⌝ }
-    requires { ⌜ ((account : List ℕ) → Seeking (trace-at (now code) count (tree-in (now kind) (now first) (now second) account l) at) position) ⌝ }
+    requires { ⌜ Good (now table) ⌝ }
+    requires { ⌜ (l < 64) × (at ≤ count) × (count ≤ 8 * length (now code)) × (count ≤ code-limit) ⌝ }
+    requires { ⌜ Seeking (trace-at (now code) count (tree-in (now table) l) at) i ⌝ }
     ensures { λ r.
-        ⌜ ((account : List ℕ) → Finds (trace-at (now (code .entry)) count (tree-in (now (kind .entry)) (now (first .entry)) (now (second .entry)) account l) at) position node k r) ⌝ }
+        ⌜ Finds (trace-at (now (code .entry)) count (tree-in (now (table .entry)) l) at) i node k r ⌝ }
 {
     if is_here(l, node, k) {
-        let walked = walk(kind, first, second, l, code, count, at);
-        return found_at(position, walked.letters);
+        let walked = walk(table, l, code, count, at);
+        return found_at(i, walked.letters);
     }
     let left = left_inside(l, node, k);
-    let part = node_at(kind, first, second, l);
+    let part = node_at(table, l);
     match part {
         Node::Leaf(leaf) => {
             let step = step_of(leaf);
-            not_found(at + step.bits, position + step.letters, left)
+            not_found(at + step.bits, i + step.letters, left)
         }
         Node::Sequence(p, q) => {
-            let one = find(
-                kind,
-                first,
-                second,
-                p as usize,
-                code,
-                count,
-                at,
-                position,
-                node,
-                left,
-            );
+            let one = find(table, p as usize, code, count, at, i, node, left);
             if one.hit {
                 return one;
             }
-            find(
-                kind,
-                first,
-                second,
-                q as usize,
-                code,
-                count,
-                one.at,
-                one.position,
-                node,
-                one.left,
-            )
+            find(table, q as usize, code, count, one.at, one.i, node, one.k)
         }
         Node::Alternative(p, q) => {
             let side = side_at(code, at, p, q);
-            find(
-                kind,
-                first,
-                second,
-                side as usize,
-                code,
-                count,
-                at + 1,
-                position,
-                node,
-                left,
-            )
+            find(table, side as usize, code, count, at + 1, i, node, left)
         }
         Node::Star(p) => {
-            let mut here = at;
-            let mut i = position;
-            let mut rest = left;
+            let mut one = not_found(at, i, left);
             loop {
-                if bit_at(code, here) {
-                    return not_found(here + 1, i, rest);
+                let next = one.at + 1;
+                if bit_at(code, one.at) {
+                    return not_found(next, one.i, one.k);
                 }
-                let one = find(
-                    kind,
-                    first,
-                    second,
-                    p as usize,
-                    code,
-                    count,
-                    here + 1,
-                    i,
-                    node,
-                    rest,
-                );
+                one = find(table, p as usize, code, count, next, one.i, node, one.k);
                 if one.hit {
                     return one;
                 }
-                here = one.at;
-                i = one.position;
-                rest = one.left;
             }
         }
     }

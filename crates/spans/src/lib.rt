@@ -2,17 +2,15 @@
 ghost use mathlib.Core.Path.{_≡_};
 ghost use Rattle.spans.specs.Spans.{Spans, refused-span, span-shown, piece-of};
 
-mod compare; // compare.rt: a tape against a code
 mod find; // find.rt: the walk that looks for a visit
 
-use compare::spells;
+use codes::spells;
 use find::find;
 use refusals::Refusal;
 use syntax::Pattern;
 use syntax::first_bad;
 use syntax::obeys_rules;
-use table::columns_of;
-use walks::measure;
+use table::table_of;
 
 // What showing a piece answers: that it is shown, or why not.
 pub enum SpanOutcome {
@@ -37,7 +35,7 @@ fn no_span(why: Refusal) -> Spanned
     }
 }
 
-// Start and length of a visit's piece. The code is walked, and is the tape's, before a visit is looked for.
+// Start and length of a visit's piece. A visit is looked for only when the code is known to be the tape's.
 pub fn span(p: Pattern, tape: &[u8], code: &[u8], count: u32, node: u32, visit: u32) -> Spanned
     ensures { λ r. ⌜ Spans p (now (tape .entry)) (now (code .entry)) count node visit r ⌝ }
 {
@@ -51,19 +49,12 @@ pub fn span(p: Pattern, tape: &[u8], code: &[u8], count: u32, node: u32, visit: 
     if bad < tape.len() {
         return no_span(Refusal::TapeByte(bad as u32));
     }
-    if !spells(p, code, count, tape) {
+    let table = table_of(p);
+    let root = p.count - 1;
+    if !spells(&table, root, code, count, tape) {
         return no_span(Refusal::NotACode); // before a visit is looked for
     }
-    let columns = columns_of(p);
-    let kind = columns.kind;
-    let first = columns.first;
-    let second = columns.second;
-    let root = p.count - 1;
-    let measured = measure(&kind, &first, &second, root, code, count);
-    if !measured.whole {
-        return no_span(Refusal::NotACode);
-    }
-    let found = find(&kind, &first, &second, root, code, count, 0, 0, node, visit);
+    let found = find(&table, root, code, count, 0, 0, node, visit);
     if !found.hit {
         return no_span(Refusal::NoSuchVisit);
     }

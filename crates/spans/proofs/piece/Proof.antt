@@ -1,5 +1,6 @@
 -- `spans::piece` meets its contract.
 use Rattle.spans.specs.Pieces.{part}
+use native.Mathlib.Omega.{arith}
 use borrow.Author.Needs.{needs}
 use Rattle.spans.proofs.piece.Statement.{statement}
 use Rattle.spans.proofs.piece.Tie as tie
@@ -23,7 +24,7 @@ part-result-start : tie.Need-part-result-start
 part-result-start c = search needs
 
 part-result-end : tie.Need-part-result-end
-part-result-end c = let f = part _ _ _ _ _ _ _ (c .before .before .span .ensures) .fits in search (needs, f)
+part-result-end c = omega (arith, part _ _ _ _ _ _ _ (c .before .before .span .ensures) .fits)
 
 returns : tie.Need-returns
 returns c = part _ _ _ _ _ _ _ (c .before .before .before .span .ensures) .is

@@ -1,14 +1,25 @@
-use Rattle.spans.specs.Seeks.{trace-grows, rounds-grows, own-found, label-in, here-is, seek-leaf-is, letters-room, inside-seeking, inside-found, first-seeking, second-seeking, first-found, second-found, found-stays, seek-seq-is, seek-side-is, seek-star-is, seek-alt-in, seek-round-in, seek-stop-is, seek-round-is, missed, missed-none, Seek-turns, seek-turns-start, seek-turns-found, seek-turns-more}
-use Rattle.walks.specs.Lines.{side-lower, first-lower, second-lower, star-lower}
-use Rattle.table.specs.Columns.{tree-in}
+-- `spans::find::find` meets its contract.
+use Rattle.spans.specs.Traces.{Trace, trace-then, trace-at, own-seen}
+use Rattle.spans.specs.TraceLaws.{trace-grows, trace-seq, trace-side, trace-star}
+use Rattle.spans.specs.Seeks.{Seeking, own-found, leaf-bits, leaf-letters, leaf-missed, pair-first, pair-found, pair-second, pair-rest}
+use Rattle.spans.specs.Seeks.{alt-in, inside-seeking, inside-found, found-stays}
+use Rattle.spans.specs.Seeks.{Turns, turns-start, turns-in, turns-stop, turns-round, turns-found, turns-less, turns-more}
+use Rattle.walks.specs.Lines.{line-as, side-lower, first-lower, second-lower, star-lower}
+use Rattle.table.specs.Cells.{account-in, tree-in}
+use Rattle.table.specs.CellLaws.{line-index}
+use Rattle.syntax.specs.declared.Node.{Node}
+use Rattle.syntax.specs.declared.Node.the-variants.{Leaf as Leaf-node}
+use Rattle.syntax.specs.Tree.{Label, Tree}
+use Rattle.syntax.specs.Trees.{made}
+use Rattle.semantics.specs.Positions.{Seen, and-then}
 use Rattle.bits.specs.Bits.{bit-at}
-use lib.ListN.{getD}
-use mathlib.Core.List.{List, []}
-use mathlib.Core.Path.{sym, refl, ap, _∙_}
-use Prim.Native.Nat.{_+_, _*_, _-_, _≤_}
+use lib.ListN.{length}
+use mathlib.Core.Bool.{Bool, true, false, cond}
+use mathlib.Core.List.{List}
+use mathlib.Core.Path.{_≡_, sym, ap, _∙_}
+use Prim.Native.Nat.{ℕ, _+_, _*_, _-_, _≤_, _<_}
 use native.Mathlib.Omega.{arith}
 use borrow.Author.Needs.{needs}
-use Prim.Native.Nat.{ℕ, _<_}
 use borrow.Fn.Kinds.{In}
 use borrow.Fn.PlainCycle.{Measures, is, falls, and}
 use Rattle.spans.proofs.find.find.Reads as find
@@ -20,226 +31,355 @@ use Rattle.spans.proofs.find.is_here.Reads as is-here-reads
 use Rattle.spans.proofs.find.left_inside.Reads as left-inside-reads
 use Rattle.spans.proofs.find.not_found.Reads as not-found-reads
 use Rattle.spans.proofs.find.step_of.Reads as step-of-reads
+use Rattle.table.proofs.node_at.Reads as node-at-reads
 use Rattle.walks.proofs.side_at.Reads as side-at-reads
 use Rattle.walks.proofs.walk.Reads as walk-reads
-use Rattle.table.proofs.node_at.Reads as node-at-reads
 use Rattle.spans.proofs.find.+find.{statement}
 use Rattle.spans.proofs.find.+find.Tie.{close}
 
-abbrev μ-find : Measures 4 find-kinds.ps ℕ
-μ-find κs a = (a .1 .1 .1 .1 .1 .0 - a .1 .1 .1 .1 .1 .1 .0) * 64 + a .1 .1 .1 .0
+abbrev μ-find : Measures 2 find-kinds.ps ℕ
+μ-find κs a = (a .1 .1 .1 .0 - a .1 .1 .1 .1 .0) * 64 + a .1 .0
 
-abbrev find-at : ℕ → In 4 find-kinds.ps
-find-at t = and 4 find-kinds.ps (is 4 find-kinds.ps μ-find t) find.Pre
+abbrev find-at : ℕ → In 2 find-kinds.ps
+find-at t = and 2 find-kinds.ps (is 2 find-kinds.ps μ-find t) find.Pre
 
-abbrev find-below : ℕ → In 4 find-kinds.ps
-find-below t = and 4 find-kinds.ps (falls 4 find-kinds.ps _<_ μ-find t) find.Pre
+abbrev find-below : ℕ → In 2 find-kinds.ps
+find-below t = and 2 find-kinds.ps (falls 2 find-kinds.ps _<_ μ-find t) find.Pre
 
 -- what the callees promise, and `find` itself below the measure t
 abbrev given : ℕ → find-lts.Claims
-given t = (is-here-reads.Asked, is-here-reads.Learnt, walk-reads.Asked, walk-reads.Learnt, found-at-reads.Asked, found-at-reads.Learnt, left-inside-reads.Asked, left-inside-reads.Learnt, node-at-reads.Asked, node-at-reads.Learnt, step-of-reads.Asked, step-of-reads.Learnt, not-found-reads.Asked, not-found-reads.Learnt, find-below t, find.Post, side-at-reads.Asked, side-at-reads.Learnt, bit-at-reads.Asked, bit-at-reads.Learnt)
+given t = (
+  is-here-reads.Asked,
+  is-here-reads.Learnt,
+  walk-reads.Asked,
+  walk-reads.Learnt,
+  found-at-reads.Asked,
+  found-at-reads.Learnt,
+  left-inside-reads.Asked,
+  left-inside-reads.Learnt,
+  node-at-reads.Asked,
+  node-at-reads.Learnt,
+  step-of-reads.Asked,
+  step-of-reads.Learnt,
+  not-found-reads.Asked,
+  not-found-reads.Learnt,
+  find-below t,
+  find.Post,
+  side-at-reads.Asked,
+  side-at-reads.Learnt,
+  bit-at-reads.Asked,
+  bit-at-reads.Learnt,
+)
 
 abbrev find-Inv-loop : find-lts.InvT-loop
-find-Inv-loop kind first second l code count at position node k left p here₀ i₀ rest₀ here i rest =
-    (account : List ℕ) → Seek-turns code count (record { index = l; account = getD account l 0 }) (tree-in kind first second account p) at position node left here i rest
+find-Inv-loop table l code count at i node k left p one₀ one =
+    Turns code count (record { index = l; account = account-in table l }) false (tree-in table p) (trace-at code count (tree-in table l) at) at i node k
+    (one .at) (one .i) (one .k)
 
 abbrev find-μ-loop : find-lts.MeasureT-loop
-find-μ-loop kind first second l code count at position node k left p here₀ i₀ rest₀ here i rest = count - here
+find-μ-loop table l code count at i node k left p one₀ one = count - one .at
 
--- src/find.rt:115:8
+-- ── what is known where the node of the line is known ──
+abbrev Line : ℕ → Type 0
+Line t = find-lts.After-node-at (given t) (find-at t) find.Post find-Inv-loop find-μ-loop
+
+abbrev code-in : (t : ℕ) → Line t → List ℕ
+code-in t c = c .before .before .before .before .before .args .code .now
+
+abbrev count-in : (t : ℕ) → Line t → ℕ
+count-in t c = c .before .before .before .before .before .args .count
+
+abbrev tree-at : (t : ℕ) → Line t → ℕ → Tree
+tree-at t c = tree-in (c .before .before .before .before .before .args .table .now)
+
+abbrev seen-at : (t : ℕ) → Line t → (l at : ℕ) → Seen Trace
+seen-at t c l at = trace-at (code-in t c) (count-in t c) (tree-at t c l) at
+
+abbrev label : (t : ℕ) → Line t → Label
+label t c =
+    let s = c .before .before .before .before .before in
+    record { index = s .args .l; account = account-in (s .args .table .now) (s .args .l) }
+
+fits : (t : ℕ) (c : Line t) → count-in t c ≤ length (code-in t c) * 8
+fits t c = omega (arith, c .before .before .before .before .before .pre)
+
+tree-as : (t : ℕ) (c : Line t) (n : Node) → c .node-at .result ≡ n → tree-at t c (label t c .index) ≡ made (label t c) (tree-at t c) n
+tree-as t c n e =
+    let s = c .before .before .before .before .before in
+    line-as (s .pre .1 .0) _ (omega (arith, s .pre)) _ (c .node-at .ensures) n e
+
+seeking : (t : ℕ) (c : Line t) → let s = c .before .before .before .before .before in Seeking (seen-at t c (s .args .l) (s .args .at)) (s .args .i)
+seeking t c = c .before .before .before .before .before .pre .1 .1 .1
+
+-- ── and where it is known which node it is ──
+abbrev Pair : ℕ → Type 0
+Pair t = find-lts.After-part2 (given t) (find-at t) find.Post find-Inv-loop find-μ-loop
+
+abbrev Choice : ℕ → Type 0
+Choice t = find-lts.After-side-at (given t) (find-at t) find.Post find-Inv-loop find-μ-loop
+
+leaf-is : (t : ℕ) (c : find-lts.After-part (given t) (find-at t) find.Post find-Inv-loop find-μ-loop) → let b = c .before .before in
+    tree-at t b (label t b .index) ≡ made (label t b) (tree-at t b) (Leaf-node (c .part .given .0 .0))
+leaf-is t c = tree-as t (c .before .before) _ (c .part .given .1)
+
+pair-is : (t : ℕ) (c : Pair t) → let b = c .before .before in let s = b .before .before .before .before .before in
+    seen-at t b (s .args .l) (s .args .at)
+    ≡ own-seen (s .args .l) (and-then trace-then (seen-at t b (c .part2 .given .0 .0) (s .args .at)) (seen-at t b (c .part2 .given .0 .1 .0)))
+pair-is t c =
+    let b = c .before .before in
+    trace-seq _ _ (fits t b) (tree-as t b _ (c .part2 .given .1)) _ (omega (arith, b .before .before .before .before .before .pre))
+
+pair-lower : (t : ℕ) (c : Pair t) → let s = c .before .before .before .before .before .before .before in
+    (c .part2 .given .0 .0 < s .args .l) × (c .part2 .given .0 .1 .0 < s .args .l)
+pair-lower t c =
+    let b = c .before .before in
+    let s = b .before .before .before .before .before in
+    let h = first-lower (s .pre .1 .0) _ (omega (arith, s .pre)) _ (b .node-at .ensures) _ _ (c .part2 .given .1) in
+    (h, second-lower (s .pre .1 .0) _ (omega (arith, s .pre)) _ (b .node-at .ensures) _ _ (c .part2 .given .1))
+
+choice-in : (t : ℕ) (c : find-lts.After-part3 (given t) (find-at t) find.Post find-Inv-loop find-μ-loop)
+    → let s = c .before .before .before .before .before .before .before in s .args .at < s .args .count
+choice-in t c =
+    let b = c .before .before in
+    alt-in _ _ (fits t b) (tree-as t b _ (c .part3 .given .1)) _ _ (seeking t b)
+
+side : (t : ℕ) (c : Line t) (p q : ℕ) (b : Bool) (r : ℕ) → r ≡ cond b q p → cond b (tree-at t c q) (tree-at t c p) ≡ tree-at t c r
+side t c p q true r e = ap (tree-at t c) (sym e)
+side t c p q false r e = ap (tree-at t c) (sym e)
+
+choice-is : (t : ℕ) (c : Choice t) → let b = c .before .before .before .before in let s = b .before .before .before .before .before in
+    seen-at t b (s .args .l) (s .args .at) ≡ own-seen (s .args .l) (seen-at t b (c .side-at .result) (s .args .at + 1))
+choice-is t c =
+    let d = c .before .before in
+    let b = d .before .before in
+    let at = b .before .before .before .before .before .args .at in
+    let (p, (q, _)) = d .part3 .given .0 in
+    trace-side _ _ (fits t b) (tree-as t b _ (d .part3 .given .1)) _ (choice-in t d)
+    ∙ ap (λ z. own-seen (label t b .index) (trace-at (code-in t b) (count-in t b) z (at + 1)))
+    (side t b p q (bit-at 8 (code-in t b) at) (c .side-at .result) (c .side-at .ensures))
+
+choice-lower : (t : ℕ) (c : Choice t) → c .side-at .result < label t (c .before .before .before .before) .index
+choice-lower t c =
+    let d = c .before .before in
+    let b = d .before .before in
+    let s = b .before .before .before .before .before in
+    side-lower (s .pre .1 .0) _ (omega (arith, s .pre)) _ (b .node-at .ensures) _ _ (d .part3 .given .1) (bit-at 8 (code-in t b) (s .args .at)) _
+    (c .side-at .ensures)
+
+star-down : (t : ℕ) (c : find-lts.After-part4 (given t) (find-at t) find.Post find-Inv-loop find-μ-loop)
+    → c .part4 .given .0 .0 < label t (c .before .before) .index
+star-down t c =
+    let b = c .before .before in
+    let s = b .before .before .before .before .before in
+    star-lower (s .pre .1 .0) _ (omega (arith, s .pre)) _ (b .node-at .ensures) _ (c .part4 .given .1)
+
+-- the bit of a star that is there is in the code
+turn-in : (t : ℕ) (c : find-lts.At-loop (given t) (find-at t) find.Post find-Inv-loop find-μ-loop)
+    → c .loop .one .at < count-in t (c .before .before .before .before .before)
+turn-in t c = turns-in _ _ _ _ _ _ _ _ _ _ (fits t (c .before .before .before .before .before)) _ _ _ (c .loop .inv)
+
 find-is-here-requires : (t : ℕ) → find-lts.Need-is-here-requires (given t) (find-at t) find.Post find-Inv-loop find-μ-loop
 find-is-here-requires t c κs = search needs
 
--- src/find.rt:116:13
 find-walk-requires : (t : ℕ) → find-lts.Need-walk-requires (given t) (find-at t) find.Post find-Inv-loop find-μ-loop
-find-walk-requires t c κs = (c .before .before .before .pre .1 .0, omega (arith, c .before .before .before .pre))
+find-walk-requires t c κs = search needs
 
--- src/find.rt:117:9
 find-found-at-requires : (t : ℕ) → find-lts.Need-found-at-requires (given t) (find-at t) find.Post find-Inv-loop find-μ-loop
 find-found-at-requires t c κs = search needs
 
--- src/find.rt:117:9
 find-returns : (t : ℕ) → find-lts.Need-returns (given t) (find-at t) find.Post find-Inv-loop find-μ-loop
-find-returns t c account =
-    let (a, b) = here-is _ _ _ (sym (c .before .before .before .is-here .ensures) ∙ c .before .before .if1 .taken) in
-    rw (c .found-at .ensures) (own-found _ _ _ _ _ (c .before .before .before .before .before .pre .1 .1 .1 account) _ _ _ (label-in _ _ _ account _) a b _ (c .before .walk .ensures account))
+find-returns t c =
+    let s = c .before .before .before .before .before in
+    let e = sym (c .before .before .before .is-here .ensures) ∙ c .before .before .if1 .taken in
+    let l = line-index (s .pre .1 .0) (s .args .l) (omega (arith, s .pre)) in
+    own-found _ _ _ _ _ (s .pre .1 .1 .1) _ _ _ l e _ (c .before .walk .ensures) _ (c .found-at .ensures)
 
--- src/find.rt:119:9
 find-left-inside-requires : (t : ℕ) → find-lts.Need-left-inside-requires (given t) (find-at t) find.Post find-Inv-loop find-μ-loop
 find-left-inside-requires t c κs = sym (c .before .is-here .ensures) ∙ c .if1 .left
 
--- src/find.rt:120:9
 find-node-at-requires : (t : ℕ) → find-lts.Need-node-at-requires (given t) (find-at t) find.Post find-Inv-loop find-μ-loop
 find-node-at-requires t c κs = search needs
 
--- src/find.rt:122:20
 find-enum-known-part : (t : ℕ) → find-lts.Need-enum-known-part (given t) (find-at t) find.Post find-Inv-loop find-μ-loop
 find-enum-known-part t c = search needs
 
--- src/find.rt:123:17
 find-step-of-requires : (t : ℕ) → find-lts.Need-step-of-requires (given t) (find-at t) find.Post find-Inv-loop find-μ-loop
 find-step-of-requires t c κs = search needs
 
--- src/find.rt:124:23
 find-add-not-found : (t : ℕ) → find-lts.Need-add-not-found (given t) (find-at t) find.Post find-Inv-loop find-μ-loop
 find-add-not-found t c =
-    let h = seek-leaf-is (c .before .before .before .before .before .before .before .before .before .before .pre .1 .0) [] _ _ (omega (arith, c .before .before .before .before .before .before .before .before .before .before .pre)) _ (omega (arith, c .before .before .before .before .before .before .before .before .before .before .pre)) _ (c .before .before .before .before .before .node-at .ensures) _ _ _ (c .before .before .before .before .before .before .before .before .before .before .pre .1 .1 .1 []) (c .before .before .before .part .given .1) (omega (arith, c .before .before .before .before .before .before .before .before .before .before .pre)) in
-    omega (arith, c .before .before .before .before .before .before .before .before .before .before .pre, h .0, ap (λ z. z .bits) (c .before .step-of .ensures))
+    let d = c .before .before .before in
+    let b = d .before .before in
+    let s = b .before .before .before .before .before in
+    let x = d .part .given .0 .0 in
+    let e = c .before .step-of .ensures in
+    let h = leaf-bits _ _ (fits t b) (label t b) (tree-at t b) x (leaf-is t d) _ _ (omega (arith, s .pre)) (seeking t b) _ e in
+    omega (arith, s .pre, h)
 
--- src/find.rt:124:39
 find-add-not-found-2 : (t : ℕ) → find-lts.Need-add-not-found-2 (given t) (find-at t) find.Post find-Inv-loop find-μ-loop
 find-add-not-found-2 t c =
-    let h = seek-leaf-is (c .before .before .before .before .before .before .before .before .before .before .before .pre .1 .0) [] _ _ (omega (arith, c .before .before .before .before .before .before .before .before .before .before .before .pre)) _ (omega (arith, c .before .before .before .before .before .before .before .before .before .before .before .pre)) _ (c .before .before .before .before .before .before .node-at .ensures) _ _ _ (c .before .before .before .before .before .before .before .before .before .before .before .pre .1 .1 .1 []) (c .before .before .before .before .part .given .1) (omega (arith, c .before .before .before .before .before .before .before .before .before .before .before .pre)) in
-    let g = letters-room _ _ _ (inside-seeking _ _ _ (h .1) _ (c .before .before .before .before .before .before .before .before .before .before .before .pre .1 .1 .1 [])) in
-    omega (arith, c .before .before .before .before .before .before .before .before .before .before .before .pre, g, ap (λ z. z .letters) (c .before .before .step-of .ensures))
+    let d = c .before .before .before .before in
+    let b = d .before .before in
+    let s = b .before .before .before .before .before in
+    let x = d .part .given .0 .0 in
+    let e = c .before .before .step-of .ensures in
+    let h = leaf-letters _ _ (fits t b) (label t b) (tree-at t b) x (leaf-is t d) _ _ (omega (arith, s .pre)) (seeking t b) _ e in
+    omega (arith, s .pre, h)
 
--- src/find.rt:124:13
 find-not-found-requires : (t : ℕ) → find-lts.Need-not-found-requires (given t) (find-at t) find.Post find-Inv-loop find-μ-loop
 find-not-found-requires t c κs = search needs
 
--- src/find.rt:126:24
 find-enum-known-part-2 : (t : ℕ) → find-lts.Need-enum-known-part-2 (given t) (find-at t) find.Post find-Inv-loop find-μ-loop
 find-enum-known-part-2 t c = search needs
 
--- src/find.rt:127:49
 find-cast-find : (t : ℕ) → find-lts.Need-cast-find (given t) (find-at t) find.Post find-Inv-loop find-μ-loop
-find-cast-find t c =
-    let h = first-lower (c .before .before .before .before .before .before .before .before .pre .1 .0) _ (omega (arith, c .before .before .before .before .before .before .before .before .pre)) _ (c .before .before .before .node-at .ensures) _ _ (c .before .part2 .given .1) in
-    omega (arith, c .before .before .before .before .before .before .before .before .pre)
+find-cast-find t c = search needs
 
--- src/find.rt:127:17
 find-find-requires : (t : ℕ) → find-lts.Need-find-requires (given t) (find-at t) find.Post find-Inv-loop find-μ-loop
 find-find-requires t c κs =
-    let h = first-lower (c .before .before .before .before .before .before .before .before .pre .1 .0) _ (omega (arith, c .before .before .before .before .before .before .before .before .pre)) _ (c .before .before .before .node-at .ensures) _ _ (c .before .part2 .given .1) in
-    (omega (arith, c .before .before .before .before .before .before .before .before .pre), (c .before .before .before .before .before .before .before .before .pre .1 .0, (omega (arith, c .before .before .before .before .before .before .before .before .pre), λ account. first-seeking _ _ _ (λ i y j h x. trace-grows _ _ (omega (arith, c .before .before .before .before .before .before .before .before .pre)) _ i y j h x) refl _ (inside-seeking _ _ _ (seek-seq-is (c .before .before .before .before .before .before .before .before .pre .1 .0) account _ _ (omega (arith, c .before .before .before .before .before .before .before .before .pre)) _ (omega (arith, c .before .before .before .before .before .before .before .before .pre)) _ (c .before .before .before .node-at .ensures) _ _ _ (c .before .part2 .given .1) (omega (arith, c .before .before .before .before .before .before .before .before .pre))) _ (c .before .before .before .before .before .before .before .before .pre .1 .1 .1 account)))))
+    let d = c .before in
+    let b = d .before .before in
+    let s = b .before .before .before .before .before in
+    let h = pair-lower t d in
+    (omega (arith, s .pre, h), (s .pre .1 .0, (omega (arith, s .pre, h), pair-first _ _ _ _ (pair-is t d) (trace-grows _ _ _) _ (seeking t b))))
 
--- src/find.rt:129:17
 find-returns-2 : (t : ℕ) → find-lts.Need-returns-2 (given t) (find-at t) find.Post find-Inv-loop find-μ-loop
-find-returns-2 t c account = inside-found _ _ _ (seek-seq-is (c .before .before .before .before .before .before .before .before .before .before .pre .1 .0) account _ _ (omega (arith, c .before .before .before .before .before .before .before .before .before .before .pre)) _ (omega (arith, c .before .before .before .before .before .before .before .before .before .before .pre)) _ (c .before .before .before .before .before .node-at .ensures) _ _ _ (c .before .before .before .part2 .given .1) (omega (arith, c .before .before .before .before .before .before .before .before .before .before .pre))) _ _ _ _ (c .before .before .before .before .before .before .left-inside .ensures) (sym (c .before .before .before .before .before .before .before .before .is-here .ensures) ∙ c .before .before .before .before .before .before .before .if1 .left) _ (first-found _ _ _ (λ i y j h x. trace-grows _ _ (omega (arith, c .before .before .before .before .before .before .before .before .before .before .pre)) _ i y j h x) refl _ _ _ (inside-seeking _ _ _ (seek-seq-is (c .before .before .before .before .before .before .before .before .before .before .pre .1 .0) account _ _ (omega (arith, c .before .before .before .before .before .before .before .before .before .before .pre)) _ (omega (arith, c .before .before .before .before .before .before .before .before .before .before .pre)) _ (c .before .before .before .before .before .node-at .ensures) _ _ _ (c .before .before .before .part2 .given .1) (omega (arith, c .before .before .before .before .before .before .before .before .before .before .pre))) _ (c .before .before .before .before .before .before .before .before .before .before .pre .1 .1 .1 account)) _ (c .before .find .ensures account) (c .if2 .taken))
+find-returns-2 t c =
+    let d = c .before .before in
+    let b = d .before .before .before in
+    pair-found _ _ _ _ (pair-is t (d .before)) (trace-grows _ _ _) _ (seeking t b) _ _ _ (b .before .left-inside .ensures) _ (c .before .find .ensures)
+    (c .if2 .taken)
 
--- src/find.rt:131:39
 find-cast-find-2 : (t : ℕ) → find-lts.Need-cast-find-2 (given t) (find-at t) find.Post find-Inv-loop find-μ-loop
-find-cast-find-2 t c =
-    let h = second-lower (c .before .before .before .before .before .before .before .before .before .before .pre .1 .0) _ (omega (arith, c .before .before .before .before .before .before .before .before .before .before .pre)) _ (c .before .before .before .before .before .node-at .ensures) _ _ (c .before .before .before .part2 .given .1) in
-    omega (arith, c .before .before .before .before .before .before .before .before .before .before .pre)
+find-cast-find-2 t c = search needs
 
--- src/find.rt:131:13
 find-find-requires-2 : (t : ℕ) → find-lts.Need-find-requires-2 (given t) (find-at t) find.Post find-Inv-loop find-μ-loop
 find-find-requires-2 t c κs =
-    let h = second-lower (c .before .before .before .before .before .before .before .before .before .before .pre .1 .0) _ (omega (arith, c .before .before .before .before .before .before .before .before .before .before .pre)) _ (c .before .before .before .before .before .node-at .ensures) _ _ (c .before .before .before .part2 .given .1) in
-    let g = found-stays _ _ (omega (arith, c .before .before .before .before .before .before .before .before .before .before .pre)) _ _ _ _ _ _ (c .before .find .ensures []) (omega (arith, c .before .before .before .before .before .before .before .before .before .before .pre)) (c .if2 .left) in
-    (omega (arith, c .before .before .before .before .before .before .before .before .before .before .pre, g .0, g .1), (c .before .before .before .before .before .before .before .before .before .before .pre .1 .0, (omega (arith, c .before .before .before .before .before .before .before .before .before .before .pre, g .0, g .1), λ account. second-seeking _ _ _ (λ i y j h x. trace-grows _ _ (omega (arith, c .before .before .before .before .before .before .before .before .before .before .pre)) _ i y j h x) refl _ _ _ (inside-seeking _ _ _ (seek-seq-is (c .before .before .before .before .before .before .before .before .before .before .pre .1 .0) account _ _ (omega (arith, c .before .before .before .before .before .before .before .before .before .before .pre)) _ (omega (arith, c .before .before .before .before .before .before .before .before .before .before .pre)) _ (c .before .before .before .before .before .node-at .ensures) _ _ _ (c .before .before .before .part2 .given .1) (omega (arith, c .before .before .before .before .before .before .before .before .before .before .pre))) _ (c .before .before .before .before .before .before .before .before .before .before .pre .1 .1 .1 account)) _ (c .before .find .ensures account) (c .if2 .left))))
+    let d = c .before .before .before in
+    let b = d .before .before in
+    let s = b .before .before .before .before .before in
+    let h = pair-lower t d in
+    let g = found-stays _ _ (fits t b) _ _ _ _ _ _ (c .before .find .ensures) (omega (arith, s .pre)) (c .if2 .left) in
+    let p = b .before .left-inside .ensures in
+    let r = pair-second _ _ _ _ (pair-is t d) (trace-grows _ _ _) _ (seeking t b) _ _ _ p _ (c .before .find .ensures) (c .if2 .left) in
+    (omega (arith, s .pre, h, g), (s .pre .1 .0, (omega (arith, s .pre, h, g), r)))
 
--- src/find.rt:133:27
 find-enum-known-part-3 : (t : ℕ) → find-lts.Need-enum-known-part-3 (given t) (find-at t) find.Post find-Inv-loop find-μ-loop
 find-enum-known-part-3 t c = search needs
 
--- src/find.rt:134:17
 find-side-at-requires : (t : ℕ) → find-lts.Need-side-at-requires (given t) (find-at t) find.Post find-Inv-loop find-μ-loop
 find-side-at-requires t c κs =
-    let h = seek-alt-in (c .before .before .before .before .before .before .before .before .pre .1 .0) [] _ _ (omega (arith, c .before .before .before .before .before .before .before .before .pre)) _ (omega (arith, c .before .before .before .before .before .before .before .before .pre)) _ (c .before .before .before .node-at .ensures) _ _ _ _ (c .before .before .before .before .before .before .before .before .pre .1 .1 .1 []) (c .before .part3 .given .1) in
+    let h = choice-in t (c .before) in
     omega (arith, c .before .before .before .before .before .before .before .before .pre)
 
--- src/find.rt:135:39
 find-cast-find-3 : (t : ℕ) → find-lts.Need-cast-find-3 (given t) (find-at t) find.Post find-Inv-loop find-μ-loop
-find-cast-find-3 t c =
-    let h = side-lower (c .before .before .before .before .before .before .before .before .before .pre .1 .0) _ (omega (arith, c .before .before .before .before .before .before .before .before .before .pre)) _ (c .before .before .before .before .node-at .ensures) _ _ (c .before .before .part3 .given .1) (bit-at 8 (c .before .before .before .before .before .before .before .before .before .args .code .now) (c .before .before .before .before .before .before .before .before .before .args .at)) _ (c .side-at .ensures) in
-    omega (arith, c .before .before .before .before .before .before .before .before .before .pre)
+find-cast-find-3 t c = search needs
 
--- src/find.rt:135:67
 find-add-find : (t : ℕ) → find-lts.Need-add-find (given t) (find-at t) find.Post find-Inv-loop find-μ-loop
 find-add-find t c = search needs
 
--- src/find.rt:135:13
 find-find-requires-3 : (t : ℕ) → find-lts.Need-find-requires-3 (given t) (find-at t) find.Post find-Inv-loop find-μ-loop
 find-find-requires-3 t c κs =
-    let h = side-lower (c .before .before .before .before .before .before .before .before .before .pre .1 .0) _ (omega (arith, c .before .before .before .before .before .before .before .before .before .pre)) _ (c .before .before .before .before .node-at .ensures) _ _ (c .before .before .part3 .given .1) (bit-at 8 (c .before .before .before .before .before .before .before .before .before .args .code .now) (c .before .before .before .before .before .before .before .before .before .args .at)) _ (c .side-at .ensures) in
-    let g = seek-alt-in (c .before .before .before .before .before .before .before .before .before .pre .1 .0) [] _ _ (omega (arith, c .before .before .before .before .before .before .before .before .before .pre)) _ (omega (arith, c .before .before .before .before .before .before .before .before .before .pre)) _ (c .before .before .before .before .node-at .ensures) _ _ _ _ (c .before .before .before .before .before .before .before .before .before .pre .1 .1 .1 []) (c .before .before .part3 .given .1) in
-    (omega (arith, c .before .before .before .before .before .before .before .before .before .pre), (c .before .before .before .before .before .before .before .before .before .pre .1 .0, (omega (arith, c .before .before .before .before .before .before .before .before .before .pre), λ account. inside-seeking _ _ _ (seek-side-is (c .before .before .before .before .before .before .before .before .before .pre .1 .0) account _ _ (omega (arith, c .before .before .before .before .before .before .before .before .before .pre)) _ (omega (arith, c .before .before .before .before .before .before .before .before .before .pre)) _ (c .before .before .before .before .node-at .ensures) _ _ _ _ (c .before .before .part3 .given .1) g (c .side-at .ensures)) _ (c .before .before .before .before .before .before .before .before .before .pre .1 .1 .1 account))))
+    let b = c .before .before .before .before in
+    let s = b .before .before .before .before .before in
+    let h = choice-lower t c in
+    let g = choice-in t (c .before .before) in
+    (omega (arith, s .pre, h, g), (s .pre .1 .0, (omega (arith, s .pre, h, g), inside-seeking _ _ _ (choice-is t c) _ (seeking t b))))
 
--- src/find.rt:137:20
 find-enum-known-part-4 : (t : ℕ) → find-lts.Need-enum-known-part-4 (given t) (find-at t) find.Post find-Inv-loop find-μ-loop
 find-enum-known-part-4 t c = search needs
 
--- src/find.rt:141:13
-find-loop-holds : (t : ℕ) → find-lts.Need-loop-holds (given t) (find-at t) find.Post find-Inv-loop find-μ-loop
-find-loop-holds t c account = seek-turns-start _ _ (omega (arith, c .before .before .before .before .before .before .before .before .pre)) _ _ _ _ _ _ (omega (arith, c .before .before .before .before .before .before .before .before .pre)) (inside-seeking _ _ _ (seek-star-is (c .before .before .before .before .before .before .before .before .pre .1 .0) account _ _ (omega (arith, c .before .before .before .before .before .before .before .before .pre)) _ (omega (arith, c .before .before .before .before .before .before .before .before .pre)) _ (c .before .before .before .node-at .ensures) _ _ (c .before .part4 .given .1)) _ (c .before .before .before .before .before .before .before .before .pre .1 .1 .1 account))
-
--- src/find.rt:142:20
-find-bit-at-requires : (t : ℕ) → find-lts.Need-bit-at-requires (given t) (find-at t) find.Post find-Inv-loop find-μ-loop
-find-bit-at-requires t c κs =
-    let h = seek-round-in (c .before .before .before .before .before .before .before .before .before .pre .1 .0) [] _ _ (omega (arith, c .before .before .before .before .before .before .before .before .before .pre)) _ (omega (arith, c .before .before .before .before .before .before .before .before .before .pre)) _ (c .before .before .before .before .node-at .ensures) (c .before .before .before .before .before .before .before .before .before .args .at) _ _ _ (c .loop .inv [] .ready) in
-    omega (arith, c .before .before .before .before .before .before .before .before .before .pre)
-
--- src/find.rt:143:38
-find-add-not-found-3 : (t : ℕ) → find-lts.Need-add-not-found-3 (given t) (find-at t) find.Post find-Inv-loop find-μ-loop
-find-add-not-found-3 t c =
-    let h = seek-round-in (c .before .before .before .before .before .before .before .before .before .before .before .pre .1 .0) [] _ _ (omega (arith, c .before .before .before .before .before .before .before .before .before .before .before .pre)) _ (omega (arith, c .before .before .before .before .before .before .before .before .before .before .before .pre)) _ (c .before .before .before .before .before .before .node-at .ensures) (c .before .before .before .before .before .before .before .before .before .before .before .args .at) _ _ _ (c .before .before .loop .inv [] .ready) in
-    omega (arith, c .before .before .before .before .before .before .before .before .before .before .before .pre)
-
--- src/find.rt:143:21
 find-not-found-requires-2 : (t : ℕ) → find-lts.Need-not-found-requires-2 (given t) (find-at t) find.Post find-Inv-loop find-μ-loop
 find-not-found-requires-2 t c κs = search needs
 
--- src/find.rt:143:21
+find-loop-holds : (t : ℕ) → find-lts.Need-loop-holds (given t) (find-at t) find.Post find-Inv-loop find-μ-loop
+find-loop-holds t c =
+    let d = c .before .before in
+    let b = d .before .before in
+    let s = b .before .before .before .before .before in
+    let e = trace-star _ _ (fits t b) (tree-as t b _ (d .part4 .given .1)) _ in
+    rw (c .not-found2 .ensures) (turns-start _ _ _ _ _ _ _ _ _ _ e (omega (arith, s .pre)) (seeking t b) _ (b .before .left-inside .ensures))
+
+find-add-next : (t : ℕ) → find-lts.Need-add-next (given t) (find-at t) find.Post find-Inv-loop find-μ-loop
+find-add-next t c =
+    let h = turn-in t (c .before) in
+    omega (arith, c .before .before .before .before .before .before .before .before .before .before .before .pre)
+
+find-bit-at-requires : (t : ℕ) → find-lts.Need-bit-at-requires (given t) (find-at t) find.Post find-Inv-loop find-μ-loop
+find-bit-at-requires t c κs =
+    let h = turn-in t (c .before) in
+    omega (arith, c .before .before .before .before .before .before .before .before .before .before .before .pre)
+
+find-not-found-requires-3 : (t : ℕ) → find-lts.Need-not-found-requires-3 (given t) (find-at t) find.Post find-Inv-loop find-μ-loop
+find-not-found-requires-3 t c κs = search needs
+
 find-returns-3 : (t : ℕ) → find-lts.Need-returns-3 (given t) (find-at t) find.Post find-Inv-loop find-μ-loop
-find-returns-3 t c account = rw (c .not-found2 .ensures) (inside-found _ _ _ (seek-star-is (c .before .before .before .before .before .before .before .before .before .before .before .before .pre .1 .0) account _ _ (omega (arith, c .before .before .before .before .before .before .before .before .before .before .before .before .pre)) _ (omega (arith, c .before .before .before .before .before .before .before .before .before .before .before .before .pre)) _ (c .before .before .before .before .before .before .before .node-at .ensures) _ _ (c .before .before .before .before .before .part4 .given .1)) _ _ _ _ (c .before .before .before .before .before .before .before .before .left-inside .ensures) (sym (c .before .before .before .before .before .before .before .before .before .before .is-here .ensures) ∙ c .before .before .before .before .before .before .before .before .before .if1 .left) _ (c .before .before .before .loop .inv account .finish _ (missed-none _ _ _ _ _ (seek-stop-is (c .before .before .before .before .before .before .before .before .before .before .before .before .pre .1 .0) account _ _ (omega (arith, c .before .before .before .before .before .before .before .before .before .before .before .before .pre)) _ (omega (arith, c .before .before .before .before .before .before .before .before .before .before .before .before .pre)) _ (c .before .before .before .before .before .before .before .node-at .ensures) (c .before .before .before .before .before .before .before .before .before .before .before .before .args .at) _ _ _ (c .before .before .before .loop .inv account .ready) _ (c .before .before .bit-at .ensures) (c .before .if3 .taken)))))
+find-returns-3 t c =
+    let d = c .before .before .before .before in
+    let f = fits t (d .before .before .before .before .before) in
+    turns-stop _ _ _ _ _ _ _ _ _ _ f _ _ _ (d .loop .inv) _ (c .before .before .bit-at .ensures) (c .before .if3 .taken) _ (c .not-found3 .ensures)
 
--- src/find.rt:145:53
 find-cast-find-4 : (t : ℕ) → find-lts.Need-cast-find-4 (given t) (find-at t) find.Post find-Inv-loop find-μ-loop
-find-cast-find-4 t c =
-    let h = star-lower (c .before .before .before .before .before .before .before .before .before .before .before .pre .1 .0) _ (omega (arith, c .before .before .before .before .before .before .before .before .before .before .before .pre)) _ (c .before .before .before .before .before .before .node-at .ensures) _ (c .before .before .before .before .part4 .given .1) in
-    omega (arith, c .before .before .before .before .before .before .before .before .before .before .before .pre)
+find-cast-find-4 t c = search needs
 
--- src/find.rt:145:78
-find-add-find-2 : (t : ℕ) → find-lts.Need-add-find-2 (given t) (find-at t) find.Post find-Inv-loop find-μ-loop
-find-add-find-2 t c =
-    let h = seek-round-in (c .before .before .before .before .before .before .before .before .before .before .before .pre .1 .0) [] _ _ (omega (arith, c .before .before .before .before .before .before .before .before .before .before .before .pre)) _ (omega (arith, c .before .before .before .before .before .before .before .before .before .before .before .pre)) _ (c .before .before .before .before .before .before .node-at .ensures) (c .before .before .before .before .before .before .before .before .before .before .before .args .at) _ _ _ (c .before .before .loop .inv [] .ready) in
-    omega (arith, c .before .before .before .before .before .before .before .before .before .before .before .pre)
-
--- src/find.rt:145:21
 find-find-requires-4 : (t : ℕ) → find-lts.Need-find-requires-4 (given t) (find-at t) find.Post find-Inv-loop find-μ-loop
 find-find-requires-4 t c κs =
-    let h = star-lower (c .before .before .before .before .before .before .before .before .before .before .before .pre .1 .0) _ (omega (arith, c .before .before .before .before .before .before .before .before .before .before .before .pre)) _ (c .before .before .before .before .before .before .node-at .ensures) _ (c .before .before .before .before .part4 .given .1) in
-    let z = c .before .before .loop .inv [] in
-    let g = seek-round-in (c .before .before .before .before .before .before .before .before .before .before .before .pre .1 .0) [] _ _ (omega (arith, c .before .before .before .before .before .before .before .before .before .before .before .pre)) _ (omega (arith, c .before .before .before .before .before .before .before .before .before .before .before .pre)) _ (c .before .before .before .before .before .before .node-at .ensures) (c .before .before .before .before .before .before .before .before .before .before .before .args .at) _ _ _ (c .before .before .loop .inv [] .ready) in
-    (omega (arith, c .before .before .before .before .before .before .before .before .before .before .before .pre), (c .before .before .before .before .before .before .before .before .before .before .before .pre .1 .0, (omega (arith, c .before .before .before .before .before .before .before .before .before .before .before .pre), λ account. first-seeking _ _ _ (λ i y j h x. rounds-grows _ _ (omega (arith, c .before .before .before .before .before .before .before .before .before .before .before .pre)) _ _ i y j h x) (seek-round-is (c .before .before .before .before .before .before .before .before .before .before .before .pre .1 .0) account _ _ (omega (arith, c .before .before .before .before .before .before .before .before .before .before .before .pre)) _ (omega (arith, c .before .before .before .before .before .before .before .before .before .before .before .pre)) _ (c .before .before .before .before .before .before .node-at .ensures) (c .before .before .before .before .before .before .before .before .before .before .before .args .at) _ _ _ (c .before .before .loop .inv account .ready) _ (c .before .bit-at .ensures) (c .if3 .left)) _ (c .before .before .loop .inv account .ready))))
+    let d = c .before .before .before in
+    let b = d .before .before .before .before .before in
+    let s = b .before .before .before .before .before in
+    let h = star-down t (d .before .before .before) in
+    let g = turn-in t d in
+    let low = d .loop .inv .low in
+    let r = turns-round _ _ _ _ _ _ _ _ _ _ (fits t b) _ _ _ (d .loop .inv) _ (c .before .bit-at .ensures) (c .if3 .left) in
+    (omega (arith, s .pre, h, g, low), (s .pre .1 .0, (omega (arith, s .pre, h, g), r)))
 
--- src/find.rt:147:21
 find-returns-4 : (t : ℕ) → find-lts.Need-returns-4 (given t) (find-at t) find.Post find-Inv-loop find-μ-loop
-find-returns-4 t c account =
-    let g = seek-round-in (c .before .before .before .before .before .before .before .before .before .before .before .before .before .pre .1 .0) [] _ _ (omega (arith, c .before .before .before .before .before .before .before .before .before .before .before .before .before .pre)) _ (omega (arith, c .before .before .before .before .before .before .before .before .before .before .before .before .before .pre)) _ (c .before .before .before .before .before .before .before .before .node-at .ensures) (c .before .before .before .before .before .before .before .before .before .before .before .before .before .args .at) _ _ _ (c .before .before .before .before .loop .inv [] .ready) in
-    inside-found _ _ _ (seek-star-is (c .before .before .before .before .before .before .before .before .before .before .before .before .before .pre .1 .0) account _ _ (omega (arith, c .before .before .before .before .before .before .before .before .before .before .before .before .before .pre)) _ (omega (arith, c .before .before .before .before .before .before .before .before .before .before .before .before .before .pre)) _ (c .before .before .before .before .before .before .before .before .node-at .ensures) _ _ (c .before .before .before .before .before .before .part4 .given .1)) _ _ _ _ (c .before .before .before .before .before .before .before .before .before .left-inside .ensures) (sym (c .before .before .before .before .before .before .before .before .before .before .before .is-here .ensures) ∙ c .before .before .before .before .before .before .before .before .before .before .if1 .left) _ (seek-turns-found _ _ (omega (arith, c .before .before .before .before .before .before .before .before .before .before .before .before .before .pre)) _ _ _ _ _ _ _ _ _ (c .before .before .before .before .loop .inv account) g (seek-round-is (c .before .before .before .before .before .before .before .before .before .before .before .before .before .pre .1 .0) account _ _ (omega (arith, c .before .before .before .before .before .before .before .before .before .before .before .before .before .pre)) _ (omega (arith, c .before .before .before .before .before .before .before .before .before .before .before .before .before .pre)) _ (c .before .before .before .before .before .before .before .before .node-at .ensures) (c .before .before .before .before .before .before .before .before .before .before .before .before .before .args .at) _ _ _ (c .before .before .before .before .loop .inv account .ready) _ (c .before .before .before .bit-at .ensures) (c .before .before .if3 .left)) _ (c .before .find4 .ensures account) (c .if4 .taken))
+find-returns-4 t c =
+    let e = c .before .before in
+    let d = e .before .before .before in
+    let f = fits t (d .before .before .before .before .before) in
+    let b = e .before .bit-at .ensures in
+    turns-found _ _ _ _ _ _ _ _ _ _ f _ _ _ (d .loop .inv) _ b (e .if3 .left) _ (c .before .find4 .ensures) (c .if4 .taken)
 
--- src/find.rt:141:13
 find-loop-less : (t : ℕ) → find-lts.Need-loop-less (given t) (find-at t) find.Post find-Inv-loop find-μ-loop
 find-loop-less t c =
-    let z = c .before .before .before .before .loop .inv [] in
-    let g = seek-round-in (c .before .before .before .before .before .before .before .before .before .before .before .before .before .pre .1 .0) [] _ _ (omega (arith, c .before .before .before .before .before .before .before .before .before .before .before .before .before .pre)) _ (omega (arith, c .before .before .before .before .before .before .before .before .before .before .before .before .before .pre)) _ (c .before .before .before .before .before .before .before .before .node-at .ensures) (c .before .before .before .before .before .before .before .before .before .before .before .before .before .args .at) _ _ _ (c .before .before .before .before .loop .inv [] .ready) in
-    let w = found-stays _ _ (omega (arith, c .before .before .before .before .before .before .before .before .before .before .before .before .before .pre)) _ _ _ _ _ _ (c .before .find4 .ensures []) (omega (arith, c .before .before .before .before .before .before .before .before .before .before .before .before .before .pre)) (c .if4 .left) in
-    omega (arith, c .before .before .before .before .before .before .before .before .before .before .before .before .before .pre, w .0, w .1)
+    let e = c .before .before in
+    let d = e .before .before .before in
+    let f = fits t (d .before .before .before .before .before) in
+    let b = e .before .bit-at .ensures in
+    let h = turns-less _ _ _ _ _ _ _ _ _ _ f _ _ _ (d .loop .inv) _ b (e .if3 .left) _ (c .before .find4 .ensures) (c .if4 .left) in
+    omega (arith, h)
 
--- src/find.rt:141:13
 find-loop-again : (t : ℕ) → find-lts.Need-loop-again (given t) (find-at t) find.Post find-Inv-loop find-μ-loop
-find-loop-again t c account =
-    let g = seek-round-in (c .before .before .before .before .before .before .before .before .before .before .before .before .before .pre .1 .0) [] _ _ (omega (arith, c .before .before .before .before .before .before .before .before .before .before .before .before .before .pre)) _ (omega (arith, c .before .before .before .before .before .before .before .before .before .before .before .before .before .pre)) _ (c .before .before .before .before .before .before .before .before .node-at .ensures) (c .before .before .before .before .before .before .before .before .before .before .before .before .before .args .at) _ _ _ (c .before .before .before .before .loop .inv [] .ready) in
-    seek-turns-more _ _ (omega (arith, c .before .before .before .before .before .before .before .before .before .before .before .before .before .pre)) _ _ _ _ _ _ _ _ _ (c .before .before .before .before .loop .inv account) g (seek-round-is (c .before .before .before .before .before .before .before .before .before .before .before .before .before .pre .1 .0) account _ _ (omega (arith, c .before .before .before .before .before .before .before .before .before .before .before .before .before .pre)) _ (omega (arith, c .before .before .before .before .before .before .before .before .before .before .before .before .before .pre)) _ (c .before .before .before .before .before .before .before .before .node-at .ensures) (c .before .before .before .before .before .before .before .before .before .before .before .before .before .args .at) _ _ _ (c .before .before .before .before .loop .inv account .ready) _ (c .before .before .before .bit-at .ensures) (c .before .before .if3 .left)) _ (c .before .find4 .ensures account) (c .if4 .left)
+find-loop-again t c =
+    let e = c .before .before in
+    let d = e .before .before .before in
+    let f = fits t (d .before .before .before .before .before) in
+    let b = e .before .bit-at .ensures in
+    turns-more _ _ _ _ _ _ _ _ _ _ f _ _ _ (d .loop .inv) _ b (e .if3 .left) _ (c .before .find4 .ensures) (c .if4 .left)
 
--- src/find.rt:97:1
 find-returns-5 : (t : ℕ) → find-lts.Need-returns-5 (given t) (find-at t) find.Post find-Inv-loop find-μ-loop
-find-returns-5 t c account =
-    let h = seek-leaf-is (c .before .before .before .before .before .before .before .before .before .before .before .before .pre .1 .0) account _ _ (omega (arith, c .before .before .before .before .before .before .before .before .before .before .before .before .pre)) _ (omega (arith, c .before .before .before .before .before .before .before .before .before .before .before .before .pre)) _ (c .before .before .before .before .before .before .before .node-at .ensures) _ _ _ (c .before .before .before .before .before .before .before .before .before .before .before .before .pre .1 .1 .1 account) (c .before .before .before .before .before .part .given .1) (omega (arith, c .before .before .before .before .before .before .before .before .before .before .before .before .pre)) in
-    rw (c .not-found .ensures, c .before .before .before .step-of .ensures) (inside-found _ _ _ (h .1) _ _ _ _ (c .before .before .before .before .before .before .before .before .left-inside .ensures) (sym (c .before .before .before .before .before .before .before .before .before .before .is-here .ensures) ∙ c .before .before .before .before .before .before .before .before .before .if1 .left) _ (missed _ _ _ _ _ _ refl))
+find-returns-5 t c =
+    let e = c .before .before .before in
+    let d = e .before .before in
+    let b = d .before .before in
+    let s = b .before .before .before .before .before in
+    let x = d .part .given .0 .0 in
+    let p = b .before .left-inside .ensures in
+    leaf-missed _ _ (fits t b) (label t b) (tree-at t b) x (leaf-is t d) _ _ (omega (arith, s .pre)) (seeking t b) _ (e .step-of .ensures) _ _ _ p _
+    (c .not-found .ensures)
 
--- src/find.rt:97:1
 find-returns-6 : (t : ℕ) → find-lts.Need-returns-6 (given t) (find-at t) find.Post find-Inv-loop find-μ-loop
-find-returns-6 t c account = inside-found _ _ _ (seek-seq-is (c .before .before .before .before .before .before .before .before .before .before .before .pre .1 .0) account _ _ (omega (arith, c .before .before .before .before .before .before .before .before .before .before .before .pre)) _ (omega (arith, c .before .before .before .before .before .before .before .before .before .before .before .pre)) _ (c .before .before .before .before .before .before .node-at .ensures) _ _ _ (c .before .before .before .before .part2 .given .1) (omega (arith, c .before .before .before .before .before .before .before .before .before .before .before .pre))) _ _ _ _ (c .before .before .before .before .before .before .before .left-inside .ensures) (sym (c .before .before .before .before .before .before .before .before .before .is-here .ensures) ∙ c .before .before .before .before .before .before .before .before .if1 .left) _ (second-found _ _ _ (λ i y j h x. trace-grows _ _ (omega (arith, c .before .before .before .before .before .before .before .before .before .before .before .pre)) _ i y j h x) refl _ _ _ (inside-seeking _ _ _ (seek-seq-is (c .before .before .before .before .before .before .before .before .before .before .before .pre .1 .0) account _ _ (omega (arith, c .before .before .before .before .before .before .before .before .before .before .before .pre)) _ (omega (arith, c .before .before .before .before .before .before .before .before .before .before .before .pre)) _ (c .before .before .before .before .before .before .node-at .ensures) _ _ _ (c .before .before .before .before .part2 .given .1) (omega (arith, c .before .before .before .before .before .before .before .before .before .before .before .pre))) _ (c .before .before .before .before .before .before .before .before .before .before .before .pre .1 .1 .1 account)) _ (c .before .before .find .ensures account) (c .before .if2 .left) _ (c .find2 .ensures account))
+find-returns-6 t c =
+    let d = c .before .before .before .before in
+    let b = d .before .before in
+    pair-rest _ _ _ _ (pair-is t d) (trace-grows _ _ _) _ (seeking t b) _ _ _ (b .before .left-inside .ensures) _ (c .before .before .find .ensures)
+    (c .before .if2 .left) _ (c .find2 .ensures)
 
--- src/find.rt:97:1
 find-returns-7 : (t : ℕ) → find-lts.Need-returns-7 (given t) (find-at t) find.Post find-Inv-loop find-μ-loop
-find-returns-7 t c account =
-    let g = seek-alt-in (c .before .before .before .before .before .before .before .before .before .before .pre .1 .0) [] _ _ (omega (arith, c .before .before .before .before .before .before .before .before .before .before .pre)) _ (omega (arith, c .before .before .before .before .before .before .before .before .before .before .pre)) _ (c .before .before .before .before .before .node-at .ensures) _ _ _ _ (c .before .before .before .before .before .before .before .before .before .before .pre .1 .1 .1 []) (c .before .before .before .part3 .given .1) in
-    inside-found _ _ _ (seek-side-is (c .before .before .before .before .before .before .before .before .before .before .pre .1 .0) account _ _ (omega (arith, c .before .before .before .before .before .before .before .before .before .before .pre)) _ (omega (arith, c .before .before .before .before .before .before .before .before .before .before .pre)) _ (c .before .before .before .before .before .node-at .ensures) _ _ _ _ (c .before .before .before .part3 .given .1) g (c .before .side-at .ensures)) _ _ _ _ (c .before .before .before .before .before .before .left-inside .ensures) (sym (c .before .before .before .before .before .before .before .before .is-here .ensures) ∙ c .before .before .before .before .before .before .before .if1 .left) _ (c .find3 .ensures account)
+find-returns-7 t c =
+    let b = c .before .before .before .before .before in
+    inside-found _ _ _ (choice-is t (c .before)) _ _ _ _ (b .before .left-inside .ensures) _ (c .find3 .ensures)
 
 pub +find-spec : {M : Type 1} → statement M
 +find-spec = close μ-find λ t. find-lts.spec (given t)
@@ -270,13 +410,13 @@ pub +find-spec : {M : Type 1} → statement M
     (find-add-find t)
     (find-find-requires-3 t)
     (find-enum-known-part-4 t)
-    (find-loop-holds t)
-    (find-bit-at-requires t)
-    (find-add-not-found-3 t)
     (find-not-found-requires-2 t)
+    (find-loop-holds t)
+    (find-add-next t)
+    (find-bit-at-requires t)
+    (find-not-found-requires-3 t)
     (find-returns-3 t)
     (find-cast-find-4 t)
-    (find-add-find-2 t)
     (find-find-requires-4 t)
     (find-returns-4 t)
     (find-loop-less t)

@@ -1,30 +1,23 @@
+-- `spans::find::step_of` meets its contract.
 use borrow.Author.Needs.{needs}
 use Rattle.spans.proofs.find.step_of.Statement.{statement}
 use Rattle.spans.proofs.find.step_of.Tie as tie
-use Rattle.spans.proofs.find.step_of.Reads as reads
-use Rattle.spans.proofs.find.step_of.Lts as lts
 
--- src/find.rt:38:26
 enum-told : tie.Need-enum-told
 enum-told c = search needs
 
--- src/find.rt:42:28
 enum-told-2 : tie.Need-enum-told-2
 enum-told-2 c = search needs
 
--- src/find.rt:46:30
 enum-told-3 : tie.Need-enum-told-3
 enum-told-3 c = search needs
 
--- src/find.rt:34:1
 returns : tie.Need-returns
 returns c = rw (c .enum-told .given .1)
 
--- src/find.rt:34:1
 returns-2 : tie.Need-returns-2
 returns-2 c = rw (c .enum-told2 .given .1)
 
--- src/find.rt:34:1
 returns-3 : tie.Need-returns-3
 returns-3 c = rw (c .enum-told3 .given .1)
 
