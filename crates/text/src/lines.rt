@@ -6,9 +6,9 @@ ghost use Rattle.text.specs.Text.{Puts, parted, pair, entry, line, refus
 use crate::digits::put_decimal;
 use crate::put::put_byte;
 use crate::put::put_bytes;
+use refusals::Refusal;
 use refusals::number_of;
 use refusals::value_of;
-use refusals::Refusal;
 
 // A number behind the byte that parts it from what stands before it.
 pub fn put_parted(out: &mut [u8], at: usize, by: u8, n: u64) -> usize
