@@ -166,17 +166,17 @@ module _ {code : List ℕ} {o at size n : ℕ} (x : Leaf) (a b : ℕ) (e : x ≡
       go false q = absurd (there-is s (same ∙ entries-outside code o at a b c range-in ec q))
 
 -- ── at a line: its node is n, it is handed o and hands down w ──
-pub record Line (table : List ℕ) (l o w : ℕ) (n : Node) : Type 0 where
+pub record At-line (table : List ℕ) (l o w : ℕ) (n : Node) : Type 0 where
   pub good : Good table
   pub below : l < 64
   pub node : n ≡ node-in table l
   pub owner : w ≡ handed-down (account-in table l) o
 
 pub line-known : {table : List ℕ} {l o own w : ℕ} {n : Node} → Good table → l < 64 → n ≡ node-in table l → own ≡ account-in table l → w ≡ handed-down own o
-    → Line table l o w n
+    → At-line table l o w n
 line-known {o = o} g s en eo ew = record { good = g; below = s; node = en; owner = ew ∙ ap (λ a. handed-down a o) eo }
 
-module _ {table : List ℕ} {l o w : ℕ} {n : Node} (k : Line table l o w n) where
+module _ {table : List ℕ} {l o w : ℕ} {n : Node} (k : At-line table l o w n) where
   abbrev T : ℕ → Tree
   T = tree-in table
 

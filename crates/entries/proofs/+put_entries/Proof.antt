@@ -2,7 +2,7 @@
 use Rattle.bits.specs.Bits.{bit-at}
 use Rattle.semantics.specs.Code.{code-limit}
 use Rattle.table.specs.Cells.{tree-in}
-use Rattle.entries.specs.Entering.{Line, line-known, first-below, second-below, side-below, star-below}
+use Rattle.entries.specs.Entering.{At-line, line-known, first-below, second-below, side-below, star-below}
 use Rattle.entries.specs.Entering.{leaf-is, seq-is, side-is, stop-is, round-is, alt-in, star-in}
 use Rattle.entries.specs.Entering.{entering-stays, first-entering, second-entering, same-entering}
 use Rattle.entries.specs.Entering.{enters-stays, both-entered, same-entered, none-entered, Turns, turns-start, turns-more}
@@ -70,7 +70,7 @@ start t d = d .before .before .before .before .before .before
 
 -- what is known of the line there, and what is to be entered
 line : (t : ℕ) (d : Read t)
-    → Line (start t d .args .table .now) (start t d .args .l) (start t d .args .above) (d .before .handed-down .result) (d .node-at .result)
+    → At-line (start t d .args .table .now) (start t d .args .l) (start t d .args .above) (d .before .handed-down .result) (d .node-at .result)
 line t d =
     let (good, small) = start t d .pre .1 .0 in
     line-known good small (d .node-at .ensures) (d .before .before .account-at .ensures) (d .before .handed-down .ensures)
