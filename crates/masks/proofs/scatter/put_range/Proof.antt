@@ -41,12 +41,12 @@ loop-again : tie.Need-loop-again Inv-loop μ-loop
 loop-again c =
     let s = c .before .before .before .before in
     range-next (s .args .low) (s .args .high) _ _ _ (c .before .before .before .single .ensures) _ _ _ (omega (arith, s .pre .1, s .pre .2))
-    (c .before .loop-test .taken) refl (c .before .before .loop .inv)
+    (omega (arith, c .before .loop-test .taken)) refl (c .before .before .loop .inv)
 
 returns : tie.Need-returns Inv-loop μ-loop
 returns c =
     let s = c .before .before .before in
-    range-end (s .args .low) (s .args .high) _ _ _ (c .before .before .single .ensures) _ _ (c .loop-test .left) (c .before .loop .inv)
+    range-end (s .args .low) (s .args .high) _ _ _ (c .before .before .single .ensures) _ _ (omega (arith, c .loop-test .left)) (c .before .loop .inv)
 
 pub put-range-spec : {M : Type 1} → statement M
 put-range-spec =
