@@ -15,10 +15,11 @@ use Rattle.syntax.specs.Table.{obeys}
 use Rattle.refusals.specs.Refusals.{number, refused}
 use Rattle.semantics.specs.Visits.{Visit}
 use Rattle.semantics.specs.VisitLaws.{visit-shows}
+use Rattle.codes.specs.Spells.{code-of-tape}
 use Rattle.spans.specs.declared.Spanned.{Spanned}
 use Rattle.codes.specs.Flatten.{bad-table, no-code, too-long}
 use Rattle.walks.specs.Measures.{whole-handed, whole-value, spells}
-use Rattle.spans.specs.Spans.{code-of-tape, visit-by, span-visit, visit-answer, span-answer, start-of, size-of, span-shown, piece-of, Spans}
+use Rattle.spans.specs.Spans.{visit-by, span-visit, visit-answer, span-answer, start-of, size-of, span-shown, piece-of, Spans}
 use Rattle.spans.specs.SpanLaws.{tape-whole, tape-letters}
 
 -- a visit is shown only where no cause refuses it

@@ -22,7 +22,7 @@ use Rattle.spans.specs.declared.SpanOutcome.{SpanOutcome}
 use Rattle.spans.specs.declared.SpanOutcome.the-variants.{Shown, Refused}
 use Rattle.spans.specs.declared.Spanned.{Spanned}
 use Rattle.codes.specs.Flatten.{bad-table, no-code, too-long}
-pub use Rattle.codes.specs.Spells.{code-of-tape}
+use Rattle.codes.specs.Spells.{code-of-tape}
 
 abbrev pub visit-by : (t : Tree) → (node k : ℕ) → Option (Value t) → Option Visit
 visit-by t l k none = none

@@ -23,9 +23,10 @@ use Rattle.codes.specs.declared.Flattened.{Flattened}
 use Rattle.codes.specs.declared.Totalled.{Totalled}
 use Rattle.codes.specs.Flatten.{bad-table, no-code, too-long, flattened-answer, Flattens}
 use Rattle.codes.specs.Totals.{totals-outcome, Totals}
+use Rattle.codes.specs.Spells.{code-of-tape}
 use Rattle.spans.specs.declared.Spanned.{Spanned}
 use Rattle.spans.specs.declared.SpanOutcome.the-variants.{Shown, Refused}
-use Rattle.spans.specs.Spans.{code-of-tape, span-visit, visit-answer, span-answer, start-of, size-of, span-shown, span-outcome, Spans}
+use Rattle.spans.specs.Spans.{span-visit, visit-answer, span-answer, start-of, size-of, span-shown, span-outcome, Spans}
 use Rattle.spans.specs.Pieces.{part}
 use Rattle.parser.specs.declared.Parsed.{Parsed}
 use Rattle.parser.specs.Parse.{parsed-answer, Parses}

@@ -16,9 +16,10 @@ use Rattle.syntax.specs.Table.{obeys}
 use Rattle.syntax.specs.Trees.{root}
 use Rattle.semantics.specs.Visits.{Visit}
 use Rattle.codes.specs.Flatten.{bad-table, no-code, too-long}
+use Rattle.codes.specs.Spells.{code-of-tape}
 use Rattle.spans.specs.declared.Spanned.{Spanned}
 use Rattle.spans.specs.declared.SpanOutcome.the-variants.{Shown}
-use Rattle.spans.specs.Spans.{code-of-tape, span-visit, visit-answer, span-answer, start-of, size-of, span-shown, Spans}
+use Rattle.spans.specs.Spans.{span-visit, visit-answer, span-answer, start-of, size-of, span-shown, Spans}
 use Rattle.spans.specs.Pieces.{part}
 
 -- a visit is shown only where the answer is 0 and the tape is not too long

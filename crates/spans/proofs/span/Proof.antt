@@ -47,7 +47,7 @@ returns-3 c =
 table-of-requires : tie.Need-table-of-requires
 table-of-requires c κs =
     let a = c .before .before .before in
-    obeys-iff _ .0 (sym (a .before .obeys-rules .ensures) ∙ not-false _ (a .if1 .left)) .few
+    obeys-iff _ .0 (sym (a .before .obeys-rules .ensures) ∙ not-false _ (a .if1 .left))
 
 sub-root : tie.Need-sub-root
 sub-root c =
