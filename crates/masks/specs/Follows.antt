@@ -24,7 +24,7 @@ use Rattle.masks.specs.declared.firsts.First.{First}
 use Rattle.masks.specs.declared.follows.Follow.{Follow}
 use Rattle.masks.specs.Closure.{passes, nowhere, reach-none}
 use Rattle.masks.specs.Unions.{pick}
-use Rattle.masks.specs.Firsts.{first-at, First-of, Firsts, nothing-bit, behind-bit, nowhere-through}
+use Rattle.masks.specs.Firsts.{first-at, Firsts, nothing-bit, behind-bit, nowhere-through}
 
 -- what follows the root: the end
 abbrev pub end-follow : Follow

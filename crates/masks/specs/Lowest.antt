@@ -94,9 +94,6 @@ module _ (rest x : ℕ) (one : 1 ≤ rest) (h : rest < 2 ^ 64) (e : x ≡ traili
   rest-is : rest ≡ word-of 64 (λ l. test-bit rest l && not (eqb x l)) + 2 ^ x
   rest-is = word-self 64 rest h ∙ cleared x 64 (test-bit rest) lowest-lt lowest-on
 
-  pub lowest-le : 2 ^ x ≤ rest
-  lowest-le = omega (arith, rest-is)
-
   pub lowest-less : rest - 2 ^ x < rest
   lowest-less = omega (arith, rest-is, pow-pos x)
 

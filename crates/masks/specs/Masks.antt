@@ -1,15 +1,13 @@
 -- THE MASKS as they are stored.
 use mathlib.Core.Path.{_≡_, refl, sym, ap, ap₂, _∙_}
-use mathlib.Core.Bool.{Bool, true, false, _&&_, _||_}
+use mathlib.Core.Bool.{Bool, true, false, _&&_}
 use mathlib.Core.List.{List}
 use Prim.Native.Nat.{ℕ, suc, _+_, _-_, _*_, _^_, _≤_, _<_}
 use native.Mathlib.Omega.{arith}
-use native.Mathlib.Decide.{decLt}
 use lib.Dec.{eqb}
 use lib.Bits.{bitOr}
 use lib.Pow.{pow-mono}
-use lib.ListN.{length, getD, set, length-set}
-use lib.Seq.{getD-set-same, getD-set-other}
+use lib.ListN.{length, getD}
 use Rattle.syntax.specs.declared.Leaf.{Leaf}
 use Rattle.syntax.specs.declared.Leaf.the-variants.{Nothing, Letter, Range}
 use Rattle.syntax.specs.declared.Node.{Node}
@@ -30,21 +28,10 @@ use Rattle.masks.specs.Leaves.{takes, takers, entry}
 use Rattle.masks.specs.Firsts.{first-at, Firsts, behind-bit, nowhere-through}
 use Rattle.masks.specs.Follows.{follow-at, Follow-of, Down, follow-given}
 
--- ---- arrays that are filled from the front
+-- ---- arrays whose cells below i are told by a function
 pub record Filled {A : Type 0} (d : A) (f : ℕ → A) (size i : ℕ) (xs : List A) : Type 0 where
   pub long : length xs ≡ size
   pub cells : (l : ℕ) → l < i → getD xs l d ≡ f l
-
-module _ {A : Type 0} (d : A) (f : ℕ → A) (size : ℕ) where
-  pub filled-start : (xs : List A) → length xs ≡ size → Filled d f size 0 xs
-  filled-start xs h = record { long = h; cells = λ l k. absurd (omega arith) }
-
-  pub filled-next : (i : ℕ) (xs : List A) (v : A) → i < size → Filled d f size i xs → v ≡ f i → Filled d f size (i + 1) (set xs i v)
-  filled-next i xs v h g e = record { long = simp length-set (g .long); cells = λ l k. go l k (decLt l i) }
-    where
-      go : (l : ℕ) → l < i + 1 → Dec (l < i) → getD (set xs i v) l d ≡ f l
-      go l k (yes y) = getD-set-other xs i l v d (λ x. omega arith) ∙ g .cells l y
-      go l k (no y) = let q : i ≡ l = omega arith in ap (λ x. getD (set xs i v) x d) (sym q) ∙ getD-set-same xs i v d (omega (arith, g .long)) ∙ e ∙ ap f q
 
 -- a word that is filled from bit 0 on
 pub word-next : (i : ℕ) (f : ℕ → Bool) (x v : ℕ) → x ≡ word-of i f → v ≡ bit (f i) * 2 ^ i → v + x ≡ word-of (i + 1) f

@@ -1,11 +1,10 @@
 // Follow, Glushkov's set of a node: the leaves that are come to behind it by empty steps. It goes down: a line hands on to its parts.
 ghost use mathlib.Core.Path.{_≡_};
 ghost use Prim.Native.Nat.{_<_};
-ghost use lib.ListN.{length};
 ghost use Rattle.syntax.specs.TreeLaws.{Below};
-ghost use Rattle.table.specs.Cells.{line-in, node-in};
-ghost use Rattle.table.specs.HandDown.{second-part, Rooted};
-ghost use Rattle.masks.specs.Firsts.{first-at, Firsts};
+ghost use Rattle.table.specs.Cells.{line-in};
+ghost use Rattle.table.specs.HandDown.{Rooted};
+ghost use Rattle.masks.specs.Firsts.{Firsts};
 ghost use Rattle.masks.specs.Follows.{follow-at, before-second, before-round, to-first, Sized, Stored, Handed, Down};
 use super::firsts::First;
 use super::firsts::first_at;

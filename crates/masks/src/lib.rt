@@ -2,7 +2,6 @@
 // zero[x], one[x]  nodes that reach leaf x by empty steps, entered with flag 0 / flag 1
 // takers[c]        leaves that accept letter c
 // They are made once a pattern, by loops over the lines of its table.
-ghost use mathlib.Core.Path.{_≡_};
 ghost use Prim.Native.Nat.{_-_};
 ghost use Rattle.syntax.specs.Trees.{tree-of};
 ghost use Rattle.table.specs.Cells.{line-in};

@@ -1,7 +1,7 @@
 // Small functions on words and truth values.
 ghost use mathlib.Core.Path.{_≡_};
 ghost use mathlib.Core.Bool.{_&&_, _||_};
-ghost use Prim.Native.Nat.{_*_, _^_, _≤_, _<_};
+ghost use Prim.Native.Nat.{_*_, _^_, _<_};
 ghost use lib.Bits.{bitOr};
 ghost use Rattle.bits.specs.Bits.{bit};
 ghost use Rattle.masks.specs.Unions.{pick};

@@ -1,5 +1,4 @@
 use Rattle.first_sweep.specs.Memo.{kept-other, kept-same}
-use borrow.Author.Needs.{needs}
 use Rattle.first_sweep.proofs.is_kept.Statement.{statement}
 use Rattle.first_sweep.proofs.is_kept.Tie as tie
 

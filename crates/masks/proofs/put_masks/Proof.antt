@@ -2,7 +2,6 @@
 use mathlib.Core.Path.{refl}
 use native.Mathlib.Omega.{arith}
 use Rattle.masks.specs.Making.{masks-made}
-use borrow.Author.Needs.{needs}
 use Rattle.masks.proofs.put_masks.Statement.{statement}
 use Rattle.masks.proofs.put_masks.Tie as tie
 

@@ -2,7 +2,6 @@
 use mathlib.Core.Path.{refl}
 use native.Mathlib.Omega.{arith}
 use Rattle.table.specs.Cells.{cell-behind}
-use borrow.Author.Needs.{needs}
 use Rattle.table.proofs.behind.Statement.{statement}
 use Rattle.table.proofs.behind.Tie as tie
 

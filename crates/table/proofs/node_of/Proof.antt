@@ -1,7 +1,6 @@
 -- `table::node_of` meets its contract.
 use native.Mathlib.Omega.{arith}
 use Rattle.table.specs.CellLaws.{kind-is, star-from}
-use borrow.Author.Needs.{needs}
 use Rattle.table.proofs.node_of.Statement.{statement}
 use Rattle.table.proofs.node_of.Tie as tie
 

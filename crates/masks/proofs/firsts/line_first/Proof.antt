@@ -1,5 +1,5 @@
 -- `masks::firsts::line_first` meets its contract.
-use mathlib.Core.Path.{_≡_, sym, subst}
+use mathlib.Core.Path.{sym, subst}
 use native.Mathlib.Omega.{arith}
 use Rattle.syntax.specs.TreeLaws.{Below}
 use Rattle.table.specs.Cells.{line-in}

@@ -1,5 +1,4 @@
 -- `masks::firsts::put_firsts` meets its contract.
-use mathlib.Core.Path.{_≡_, subst}
 use native.Mathlib.Omega.{arith}
 use Prim.Native.Nat.{_≤_, _-_}
 use Rattle.table.specs.Cells.{line-in}

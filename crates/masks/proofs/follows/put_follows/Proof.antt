@@ -1,7 +1,7 @@
 -- `masks::follows::put_follows` meets its contract.
-use mathlib.Core.Path.{sym, subst, _∙_, ap, ap₂}
+use mathlib.Core.Path.{sym, subst}
 use native.Mathlib.Omega.{arith}
-use Prim.Native.Nat.{_≤_, _-_, _<_}
+use Prim.Native.Nat.{_-_, _<_}
 use Rattle.syntax.specs.TreeLaws.{Below}
 use Rattle.table.specs.Cells.{line-in}
 use Rattle.table.specs.HandDown.{Rooted, Parts-inside, parts-inside}
