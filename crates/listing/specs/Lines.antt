@@ -11,14 +11,17 @@ use lib.ListN.{length, drop, getD, length-append}
 use lib.Seq.{sets}
 use Rattle.bits.specs.Bits.{bit, test-bit, count-below}
 use Rattle.text.specs.Text.{Puts, hex, entry, line}
-use Rattle.text.specs.Putting.{drop-next, drop-done}
+use Rattle.text.specs.Putting.{puts-as, puts-then, drop-next, drop-done}
 use Rattle.text.specs.Lengths.{Short, entry-length, line-length, hex-length}
 use Rattle.listing.specs.Listing.{tape-word, tape-line, account-word, open-word, account-line, account-lines, open-lines}
 
 -- ── the first line ──
-pub tape-is : (n m : ℕ) (code : List ℕ) → entry tape-word n m ++ ((9 ∷ []) ++ (hex code ++ (10 ∷ []))) ≡ tape-line n m code
+pub tape-done : (out : List ℕ) (at n m : ℕ) (code : List ℕ) (a b : ℕ) (mid : List ℕ) (r : ℕ) (after : List ℕ) (s : ℕ)
+    → Puts out at (entry tape-word a b) mid r → a ≡ n → b ≡ m → Puts mid r ((9 ∷ []) ++ (hex code ++ (10 ∷ []))) after s
+    → Puts out at (tape-line n m code) after s
 unfolding tape-line
-tape-is n m code = refl
+tape-done out at n m code a b mid r after s p ea eb q =
+    puts-then out at _ mid r _ after s (puts-as out at _ _ mid r (ap₂ (entry tape-word) ea eb) p) q
 
 pub tape-length : (n m : ℕ) (code : List ℕ) → Short n → Short m → length (tape-line n m code) ≤ 28 + 2 * length code
 unfolding tape-line

@@ -1,6 +1,7 @@
 -- `listing::lines::put_tape` meets its contract: four puts are one of the joined bytes.
-use Rattle.text.specs.Putting.{puts-as, puts-then}
-use Rattle.listing.specs.Lines.{tape-is}
+use mathlib.Core.Path.{refl}
+use Rattle.text.specs.Putting.{puts-then}
+use Rattle.listing.specs.Lines.{tape-done}
 use borrow.Author.Needs.{needs}
 use Rattle.listing.proofs.lines.put_tape.Statement.{statement}
 use Rattle.listing.proofs.lines.put_tape.Tie as tie
@@ -30,10 +31,9 @@ returns c =
     let second = third .before .before .before .before in
     let first = second .before .before .before .before in
     let given = first .before .before .before .before .before .args in
-    puts-as _ _ _ _ _ _ (tape-is (given .letters) (given .bits) (given .code .now))
-    (puts-then _ _ _ _ _ _ _ _ (first .put-entry .ensures)
+    tape-done _ _ (given .letters) (given .bits) (given .code .now) _ _ _ _ _ _ (first .put-entry .ensures) refl refl
     (puts-then _ _ _ _ _ _ _ _ (second .put-byte .ensures)
-    (puts-then _ _ _ _ _ _ _ _ (third .put-hex .ensures) (fourth .put-byte2 .ensures))))
+    (puts-then _ _ _ _ _ _ _ _ (third .put-hex .ensures) (fourth .put-byte2 .ensures)))
 
 pub put-tape-spec : {M : Type 1} → statement M
 put-tape-spec =
