@@ -12,9 +12,11 @@ use lib.ListN.{length, take, drop, getD, take-append-drop, drop-of-length-le}
 use lib.Pow.{pow-pos, split, mod-pow-add}
 use lib.Seq.{drop-nil, length-take-le}
 use Rattle.syntax.specs.Bools.{and-fst, and-snd, and-intro}
-use Rattle.bits.specs.Bits.{bit, test-bit, bits-of, cell, cell-count, fill, pack, unpack, Small, high-bits, held, all-zero, exact, byte-limit, handed-good}
+use Rattle.bits.specs.Bits.{bit, test-bit, bits-of, cell, cell-count, fill, pack, unpack, Small, high-bits, held, all-zero, exact, byte-limit}
+use Rattle.bits.specs.Bits.{handed-good}
 use Rattle.bits.specs.Numbers.{bit-parity, drop-bits, cell-nil}
-use Rattle.bits.specs.Packing.{cells-whole, cells-begun, cells-enough, length-fill, length-pack, length-unpack, pad, unpack-fill, unpack-pack, fill-unpack}
+use Rattle.bits.specs.Packing.{cells-whole, cells-begun, cells-enough, length-fill, length-pack, length-unpack, pad, unpack-fill, unpack-pack}
+use Rattle.bits.specs.Packing.{fill-unpack}
 use Rattle.bits.specs.Reading.{from-cell}
 
 -- ---- bits that are 0 pack to nothing
@@ -78,7 +80,8 @@ module _ (w : ℕ) (h : 0 < w) (xs : List ℕ) (n : ℕ) where
   unfolding held pack
   exact-cells s t =
       let bs = take n (unpack w xs) in
-      sym (fill-unpack w xs s) ∙ ap (fill w (length xs)) (sym (take-append-drop n (unpack w xs))) ∙ fill-zeros w (length xs) bs (drop n (unpack w xs)) (exact-zeros t)
+      sym (fill-unpack w xs s) ∙ ap (fill w (length xs)) (sym (take-append-drop n (unpack w xs)))
+      ∙ fill-zeros w (length xs) bs (drop n (unpack w xs)) (exact-zeros t)
       ∙ ap (λ i. fill w i bs) (exact-length t ∙ ap (cell-count w) (sym (exact-count t)))
 
   pub exact-iff : Small w xs → (exact w xs n ≡ true) ↔ ((xs ≡ pack w (held w xs n)) × (length (held w xs n) ≡ n))
@@ -180,7 +183,8 @@ module _ (w : ℕ) (xs : List ℕ) (n : ℕ) where
       let c : length xs ≡ suc q = e ∙ ap (cell-count w) (sym m) ∙ cells-begun w q r (omega arith) (omega arith) in
       let t : drop n (unpack w xs) ≡ drop r (bits-of w (getD xs q 0)) =
       ap (λ i. drop i (unpack w xs)) (sym m) ∙ from-cell w xs q r (omega arith) (omega arith)
-      ∙ ap (λ l. drop r (bits-of w (getD xs q 0)) ++ unpack w l) (drop-of-length-le xs {i = suc q} (omega arith)) ∙ append-nil (drop r (bits-of w (getD xs q 0))) in
+      ∙ ap (λ l. drop r (bits-of w (getD xs q 0)) ++ unpack w l) (drop-of-length-le xs {i = suc q} (omega arith))
+      ∙ append-nil (drop r (bits-of w (getD xs q 0))) in
       rw (eq-eqb (length xs) (cell-count w n) e) (ap all-zero t ∙ unused-zero w r (getD xs q 0) (omega arith))
 
 -- bytes over the limit

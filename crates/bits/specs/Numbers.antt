@@ -3,7 +3,8 @@ use mathlib.Core.Path.{_≡_, refl, sym, ap, ap₂, _∙_}
 use mathlib.Core.Bool.{Bool, true, false, cond}
 use mathlib.Core.List.{List, [], _∷_, _++_, append-nil}
 use Prim.Native.Nat.{ℕ, zero, suc, _+_, _-_, _*_, _/_, _%_, _^_, _≤_, _<_}
-use native.Mathlib.Nat.{zero-add, suc-add, add-comm, mul-assoc, add-mul, add-assoc, mod-lt, mod-eq-of-lt, div-eq-of-lt, mul-add-div-right, zero-lt-suc, sub-zero, suc-sub-suc}
+use native.Mathlib.Nat.{zero-add, suc-add, add-comm, mul-assoc, add-mul, add-assoc, mod-lt, mod-eq-of-lt, div-eq-of-lt, mul-add-div-right}
+use native.Mathlib.Nat.{zero-lt-suc, sub-zero, suc-sub-suc}
 use native.Mathlib.Omega.{arith}
 use lib.Dec.{eqb, leb}
 use borrow.Author.Tests.{leb-true, leb-false}

@@ -117,7 +117,8 @@ drop-cell w x r = drop-at (bits-of w x) r w (length-bits-of w x)
 pub fill-unpack : (w : ℕ) (xs : List ℕ) → Small w xs → fill w (length xs) (unpack w xs) ≡ xs
 fill-unpack w [] s = refl
 fill-unpack w (x ∷ xs) s =
-    ap₂ (λ a l. a ∷ l) (cell-bits w x (unpack w xs) ∙ mod-eq-of-lt (s 0)) (ap (fill w (length xs)) (drop-cell w x (unpack w xs)) ∙ fill-unpack w xs (small-tail w x xs s))
+    ap₂ (λ a l. a ∷ l) (cell-bits w x (unpack w xs) ∙ mod-eq-of-lt (s 0))
+    (ap (fill w (length xs)) (drop-cell w x (unpack w xs)) ∙ fill-unpack w xs (small-tail w x xs s))
 
 -- UNPACK THEN PACK: the cells come back
 pub pack-unpack : (w : ℕ) → 0 < w → (xs : List ℕ) → Small w xs → pack w (unpack w xs) ≡ xs

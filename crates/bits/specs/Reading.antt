@@ -87,7 +87,8 @@ module _ (w : ℕ) (xs : List ℕ) (s : Small w xs) (i : ℕ) (h : 0 < w) where
           let d : drop r (bits-of (w + w) both) ≡ bits-of (w + (w - r)) both = ap (λ i. drop r (bits-of i both)) (sym e) ∙ drop-bits r (w + (w - r)) both in
           let bits : take w (drop (q * w + r) (unpack w xs)) ≡ bits-of w (both / 2 ^ (w - r)) =
           ap (take w)
-          (sym (drop-drop r (q * w) (unpack w xs)) ∙ ap (drop r) side ∙ drop-append-le r (bits-of (w + w) both) later (omega (arith, length-bits-of (w + w) both))
+          (sym (drop-drop r (q * w) (unpack w xs)) ∙ ap (drop r) side
+          ∙ drop-append-le r (bits-of (w + w) both) later (omega (arith, length-bits-of (w + w) both))
           ∙ ap (λ l. l ++ later) d)
           ∙ take-append-le w (bits-of (w + (w - r)) both) later (omega (arith, length-bits-of (w + (w - r)) both)) ∙ take-bits w (w - r) both in
           ap number-of bits ∙ number-bits w (both / 2 ^ (w - r))

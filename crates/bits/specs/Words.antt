@@ -102,7 +102,8 @@ digit-wise : (op : ℕ → ℕ → ℕ) (on : ℕ → ℕ → ℕ) (join : Bool 
     → ((a b k : ℕ) → op a b / 2 ^ k ≡ op (a / 2 ^ k) (b / 2 ^ k)) → ((a b : ℕ) → op a b ≡ op (a / 2) (b / 2) * 2 + on (a % 2) (b % 2))
     → ((p q : Bool) → on (bit p) (bit q) ≡ bit (join p q)) → (x y l : ℕ) → test-bit (op x y) l ≡ join (test-bit x l) (test-bit y l)
 digit-wise op on join shr step table x y l =
-    ap (λ z. eqb (z % 2) 1) (shr x y l ∙ step a b ∙ ap (λ z. op (a / 2) (b / 2) * 2 + z) last) ∙ parity (op (a / 2) (b / 2)) (join (test-bit x l) (test-bit y l))
+    ap (λ z. eqb (z % 2) 1) (shr x y l ∙ step a b ∙ ap (λ z. op (a / 2) (b / 2) * 2 + z) last)
+    ∙ parity (op (a / 2) (b / 2)) (join (test-bit x l) (test-bit y l))
   where
     a : ℕ
     a = x / 2 ^ l

@@ -3,16 +3,19 @@ use mathlib.Core.Path.{_≡_, refl, sym, ap, ap₂, _∙_}
 use mathlib.Core.Bool.{Bool, false}
 use mathlib.Core.List.{List, [], _∷_, _++_, append-assoc, append-nil}
 use Prim.Native.Nat.{ℕ, zero, suc, _+_, _-_, _*_, _/_, _%_, _^_, _≤_, _<_}
-use native.Mathlib.Nat.{suc-mul, mul-le-mul-right, div-add-mod', div-lt-iff-lt-mul, zero-add, suc-add, add-zero, mod-lt, mod-eq-of-lt, div-eq-of-lt, sub-zero, suc-sub-suc}
+use native.Mathlib.Nat.{suc-mul, mul-le-mul-right, div-add-mod', div-lt-iff-lt-mul, zero-add, suc-add, add-zero, mod-lt, mod-eq-of-lt, div-eq-of-lt}
+use native.Mathlib.Nat.{sub-zero, suc-sub-suc}
 use native.Mathlib.Numerals.{add-one}
 use native.Mathlib.Omega.{arith}
 use lib.ListN.{length, take, drop, getD, set, length-append, length-drop, List·getD-append, List·getD-eq-default}
 use lib.Pow.{pow-pos, pow-mono, split, shr-lt, shl-shr, low, mod-pow-add}
 use lib.Bits.{bitOr, or-shifted}
-use lib.Seq.{drop-cons, drop-drop, drop-at, take-add, getD-append-add, getD-take, getD-drop, take-append-le, take-append-add, drop-append-le, drop-append-add, length-take-le, sets, sets-eq, take-append-seam, drop-append-seam}
+use lib.Seq.{drop-cons, drop-drop, drop-at, take-add, getD-append-add, getD-take, getD-drop, take-append-le, take-append-add, drop-append-le}
+use lib.Seq.{drop-append-add, length-take-le, sets, sets-eq, take-append-seam, drop-append-seam}
 use Rattle.bits.specs.Bits.{bit, bits-of, cell, cell-count, fill, pack, unpack, bit-at, Small, in-front, write, high-bits}
 use Rattle.bits.specs.Numbers.{length-bits-of, take-bits, split-bits, cell-lt, cell-nil, cell-bits, cell-join, cell-first, cell-short}
-use Rattle.bits.specs.Packing.{cells-begun, cells-enough, cells-least, length-fill, length-pack, length-unpack, getD-pad, unpack-fill, unpack-pack, small-tail, fill-unpack, pack-small, unpack-append, drop-unpack}
+use Rattle.bits.specs.Packing.{cells-begun, cells-enough, cells-least, length-fill, length-pack, length-unpack, getD-pad, unpack-fill}
+use Rattle.bits.specs.Packing.{unpack-pack, small-tail, fill-unpack, pack-small, unpack-append, drop-unpack}
 use Rattle.bits.specs.Reading.{bit-at-unpack}
 
 -- ---- in front of a buffer
@@ -276,7 +279,8 @@ pub write-bit : (w : ℕ) (xs : List ℕ) → Small w xs → (i : ℕ) → 0 < w
 write-bit w xs s i h l b =
     ap (λ j. write w xs j (b ∷ [])) (sym (div-add-mod' i w)) ∙ go (i / w) (i % w) (div-lt-iff-lt-mul h .1 l) (mod-lt i h)
   where
-    go : (q r : ℕ) → q < length xs → r < w → write w xs (q * w + r) (b ∷ []) ≡ set xs q (bitOr (high-bits w r (getD xs q 0)) ((bit b * 2 ^ (w - 1 - r)) % 2 ^ w))
+    go : (q r : ℕ) → q < length xs → r < w → write w xs (q * w + r) (b ∷ []) ≡ set xs q
+        (bitOr (high-bits w r (getD xs q 0)) ((bit b * 2 ^ (w - 1 - r)) % 2 ^ w))
     go q r k g =
         let x = getD xs q 0 in
         let a : w - r ≡ suc (w - 1 - r) = omega arith in
@@ -290,7 +294,8 @@ write-bit w xs s i h l b =
         ∙ ap (set xs q) (sym (high-or w r x (cell (w - r) (b ∷ [])) p) ∙ ap (bitOr (high-bits w r x)) (c ∙ sym m))
 
 -- A NUMBER OF w BITS at the start of a cell: the cell
-pub write-whole : (w : ℕ) (xs : List ℕ) → Small w xs → (i : ℕ) → 0 < w → i / w < length xs → i % w ≡ 0 → (c : ℕ) → c < 2 ^ w → write w xs i (bits-of w c) ≡ set xs (i / w) c
+pub write-whole : (w : ℕ) (xs : List ℕ) → Small w xs → (i : ℕ) → 0 < w → i / w < length xs → i % w ≡ 0 → (c : ℕ) → c < 2 ^ w
+    → write w xs i (bits-of w c) ≡ set xs (i / w) c
 unfolding high-bits
 write-whole w xs s i h l z c k =
     let q = i / w in
@@ -317,7 +322,8 @@ pub write-parts : (w : ℕ) (xs : List ℕ) → Small w xs → (i : ℕ) → 0 <
     ≡ set (set xs (i / w) (bitOr (high-bits w (i % w) (getD xs (i / w) 0)) (c / 2 ^ (i % w)))) (i / w + 1) ((c * 2 ^ (w - i % w)) % 2 ^ w)
 write-parts w xs s i g l z c k =
     ap (λ j. write w xs j (bits-of w c)) (sym (div-add-mod' i w)) ∙ go (i / w) (i % w) (omega arith) (mod-lt i g) (omega arith)
-    ∙ ap (λ j. set (set xs (i / w) (bitOr (high-bits w (i % w) (getD xs (i / w) 0)) (c / 2 ^ (i % w)))) j ((c * 2 ^ (w - i % w)) % 2 ^ w)) (sym (add-one (i / w)))
+    ∙ ap (λ j. set (set xs (i / w) (bitOr (high-bits w (i % w) (getD xs (i / w) 0)) (c / 2 ^ (i % w)))) j ((c * 2 ^ (w - i % w)) % 2 ^ w))
+    (sym (add-one (i / w)))
   where
     go : (q r : ℕ) → 0 < r → r < w → suc q < length xs
         → write w xs (q * w + r) (bits-of w c) ≡ set (set xs q (bitOr (high-bits w r (getD xs q 0)) (c / 2 ^ r))) (suc q) ((c * 2 ^ (w - r)) % 2 ^ w)
@@ -336,6 +342,7 @@ write-parts w xs s i g l z c k =
         ap₂ (λ j l. cell j l) (sym b) t ∙ cell-short (w - r) r (bits-of r c) (omega (arith, length-bits-of r c))
         ∙ ap (λ x. x * 2 ^ (w - r)) (ap (cell r) (sym (append-nil (bits-of r c))) ∙ cell-bits r c []) ∙ sym (shift-cut r (w - r) c)
         ∙ ap (λ j. (c * 2 ^ (w - r)) % 2 ^ j) b in
-        write-cells w xs s q r (omega arith) h 1 (bits-of w c) (omega arith) (ap (cell-count w) m ∙ cells-begun w (suc q) r p (omega arith) ∙ sym o) (omega arith)
+        write-cells w xs s q r (omega arith) h 1 (bits-of w c) (omega arith) (ap (cell-count w) m ∙ cells-begun w (suc q) r p (omega arith) ∙ sym o)
+        (omega arith)
         ∙ ap₂ (λ y z. set (set xs q y) (suc q) z)
         (ap (λ y. high-bits w r (getD xs q 0) + y) hi ∙ sym (high-or w r (getD xs q 0) (c / 2 ^ r) small)) lo

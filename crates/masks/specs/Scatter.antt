@@ -17,6 +17,7 @@ use Rattle.syntax.specs.declared.Leaf.the-variants.{Nothing, Letter, Range}
 use Rattle.syntax.specs.declared.Node.{Node}
 use Rattle.syntax.specs.declared.Node.the-variants.{Leaf as Leaf-node}
 use Rattle.syntax.specs.declared.Line.{Line}
+use Rattle.syntax.specs.LetterLaws.{between-letters}
 use Rattle.syntax.specs.Letter.{is-letter, in-range}
 use Rattle.syntax.specs.Table.{leaf-good, node-good}
 use Rattle.bits.specs.Bits.{bit, test-bit, word-of}
@@ -221,31 +222,24 @@ letter-between a c = go (decLt c a) (equal a c)
     go (no u) (no v) = rw (le-leb a c (omega arith), lt-leb c a (omega arith), ne-eqb a c v) refl
 
 pub range-between : (a b c : ℕ) → leaf-good (Range a b) ≡ true → between a b c ≡ leaf-takes (Range a b) c
-unfolding in-range is-letter
+unfolding in-range
 range-between a b c g = go (leb a c) refl (leb c b) refl
   where
-    letters : (is-letter a && is-letter b) ≡ true
-    letters = and-fst (is-letter a && is-letter b) (leb a b) g
+    ends : (is-letter a && is-letter b) ≡ true
+    ends = and-fst (is-letter a && is-letter b) (leb a b) g
 
-    low : 33 ≤ a
-    low = leb-true 33 a (and-fst (leb 33 a) (leb a 126) (and-fst (is-letter a) (is-letter b) letters))
+    inside : leb a c ≡ true → leb c b ≡ true → is-letter c ≡ true
+    inside e f =
+        between-letters a b c (and-fst (is-letter a) (is-letter b) ends) (and-snd (is-letter a) (is-letter b) ends) (leb-true a c e) (leb-true c b f)
 
-    high : b ≤ 126
-    high = leb-true b 126 (and-snd (leb 33 b) (leb b 126) (and-snd (is-letter a) (is-letter b) letters))
+    none : (v : Bool) → false ≡ (v && false)
+    none true = refl
+    none false = refl
 
-    go : (x : Bool) → leb a c ≡ x → (y : Bool) → leb c b ≡ y → (x && y) ≡ ((leb 33 c && leb c 126) && (x && y))
-    go true e true f =
-        sym (ap₂ (λ u v. (u && v) && true) (le-leb 33 c (omega (arith, low, leb-true a c e))) (le-leb c 126 (omega (arith, high, leb-true c b f))))
-    go true e false f = none (leb 33 c && leb c 126)
-      where
-        none : (v : Bool) → false ≡ (v && false)
-        none true = refl
-        none false = refl
-    go false e y f = none (leb 33 c && leb c 126)
-      where
-        none : (v : Bool) → false ≡ (v && false)
-        none true = refl
-        none false = refl
+    go : (x : Bool) → leb a c ≡ x → (y : Bool) → leb c b ≡ y → (x && y) ≡ (is-letter c && (x && y))
+    go true e true f = sym (ap (λ v. v && true) (inside e f))
+    go true e false f = none (is-letter c)
+    go false e y f = none (is-letter c)
 
 pub leaf-nothing : (leaf : Leaf) (i : ℕ) (cells : List ℕ) → leaf ≡ Nothing → Marked (leaf-takes leaf) i cells cells
 leaf-nothing leaf i cells e = rw e (marked-none i cells)

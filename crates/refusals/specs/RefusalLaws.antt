@@ -3,7 +3,8 @@ use mathlib.Core.Path.{_≡_, refl, sym, ap, _∙_}
 use Prim.Native.Nat.{ℕ, zero, suc, _≤_}
 use native.Mathlib.Omega.{arith}
 use Rattle.refusals.specs.declared.Refusal.{Refusal}
-use Rattle.refusals.specs.declared.Refusal.the-variants.{LineForm, Tree, TapeTooLong, TapeByte, Unreadable, WordsTooShort, CodeTooShort, NotACode, TapeTooShort, NoSuchVisit}
+use Rattle.refusals.specs.declared.Refusal.the-variants.{LineForm, Tree, TapeTooLong, TapeByte, Unreadable, WordsTooShort, CodeTooShort}
+use Rattle.refusals.specs.declared.Refusal.the-variants.{NotACode, TapeTooShort, NoSuchVisit}
 use Rattle.refusals.specs.Refusals.{number, refused}
 
 abbrev refusal-of : (number value : ℕ) → Refusal

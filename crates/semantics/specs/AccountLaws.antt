@@ -17,7 +17,8 @@ use Rattle.semantics.specs.VisitLaws.{All, all-append}
 abbrev pub letters : List (ℕ × ℕ) → List ℕ
 letters es = map (λ e. e .0) es
 
-join-letters : {A : Type 0} (f : A → List ℕ) (g : A → List (ℕ × ℕ)) → ((v : A) → letters (g v) ≡ f v) → (vs : List A) → letters (join-rounds g vs) ≡ flat-rounds f vs
+join-letters : {A : Type 0} (f : A → List ℕ) (g : A → List (ℕ × ℕ)) → ((v : A) → letters (g v) ≡ f v) → (vs : List A)
+    → letters (join-rounds g vs) ≡ flat-rounds f vs
 join-letters f g one [] = refl
 join-letters f g one (v ∷ vs) = map-append (λ e. e .0) (g v) (join-rounds g vs) ∙ ap₂ (λ a b. a ++ b) (one v) (join-letters f g one vs)
 
@@ -27,7 +28,8 @@ entries-flat (nothing m) o v = refl
 entries-flat (letter m c) o v = refl
 entries-flat (range m low high) o v = refl
 entries-flat (seq m t u) o v =
-    map-append (λ e. e .0) (entries t (owner m o) (v .0)) (entries u (owner m o) (v .1)) ∙ ap₂ (λ a b. a ++ b) (entries-flat t (owner m o) (v .0)) (entries-flat u (owner m o) (v .1))
+    map-append (λ e. e .0) (entries t (owner m o) (v .0)) (entries u (owner m o) (v .1))
+    ∙ ap₂ (λ a b. a ++ b) (entries-flat t (owner m o) (v .0)) (entries-flat u (owner m o) (v .1))
 entries-flat (alt m t u) o (inl v) = entries-flat t (owner m o) v
 entries-flat (alt m t u) o (inr v) = entries-flat u (owner m o) v
 entries-flat (star m again t) o vs = join-letters (flat t) (entries t (owner m o)) (entries-flat t (owner m o)) vs
@@ -76,10 +78,12 @@ entries-below n (letter m c) o v h k = (owner-lt n m o h k, tt)
 entries-below n (range m low high) o v h k = (owner-lt n m o h k, tt)
 entries-below n (seq m t u) o v h k =
     let q = owner-lt n m o (h .0) k in
-    all-append (λ e. e .1 < n) (entries t (owner m o) (v .0)) (entries u (owner m o) (v .1)) (entries-below n t (owner m o) (v .0) (h .1) q) (entries-below n u (owner m o) (v .1) (h .2) q)
+    all-append (λ e. e .1 < n) (entries t (owner m o) (v .0)) (entries u (owner m o) (v .1)) (entries-below n t (owner m o) (v .0) (h .1) q)
+    (entries-below n u (owner m o) (v .1) (h .2) q)
 entries-below n (alt m t u) o (inl v) h k = entries-below n t (owner m o) v (h .1) (owner-lt n m o (h .0) k)
 entries-below n (alt m t u) o (inr v) h k = entries-below n u (owner m o) v (h .2) (owner-lt n m o (h .0) k)
-entries-below n (star m again t) o vs h k = join-all (λ e. e .1 < n) (entries t (owner m o)) (λ v. entries-below n t (owner m o) v (h .1) (owner-lt n m o (h .0) k)) vs
+entries-below n (star m again t) o vs h k = join-all (λ e. e .1 < n) (entries t (owner m o))
+    (λ v. entries-below n t (owner m o) v (h .1) (owner-lt n m o (h .0) k)) vs
 
 -- ── totals ──
 -- the sum of f 0 to f (n - 1)
@@ -117,7 +121,8 @@ pub totals-add : (n : ℕ) (es : List (ℕ × ℕ)) → All (λ e. e .1 < n) es 
 unfolding total digits
 totals-add n [] h = sum-zero n
 totals-add n (e ∷ es) h =
-    sum-add n (λ a. cond (eqb (e .1) a) (litres (e .0)) 0) (λ a. total a es) ∙ ap₂ (λ x y. x + y) (pick-one n (e .1) (litres (e .0)) (h .0)) (totals-add n es (h .1))
+    sum-add n (λ a. cond (eqb (e .1) a) (litres (e .0)) 0) (λ a. total a es)
+    ∙ ap₂ (λ x y. x + y) (pick-one n (e .1) (litres (e .0)) (h .0)) (totals-add n es (h .1))
 
 -- 01: the ten totals "add up to the tape's digits"
 pub totals-digits : (n : ℕ) (t : Tree) (v : Value t) → Accounts n t → 0 < n → sum-below n (λ a. total a (accounts t v)) ≡ digits (flat t v)

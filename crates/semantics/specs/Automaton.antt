@@ -23,7 +23,8 @@ pub data State (root : Tree) : Type 0 where
   at : (t : Tree) → Location root t → State root
 
 module _ {root : Tree} where
-  -- 01: "A node's follower is: for the root, the end; for the first of `S`, the second; for the child of `K`, that `K`; otherwise its parent's follower." 001: succ(l).
+  -- 01: "A node's follower is: for the root, the end; for the first of `S`, the second; for the child of `K`, that `K`; otherwise its
+  -- parent's follower." 001: succ(l).
   abbrev pub follower : {t : Tree} → Location root t → State root
   follower top = end
   follower (fst {u = u} s) = at u (snd s)
@@ -48,7 +49,8 @@ Guarded s b = Above (follower s) s → b ≡ true
 -- 01: "A letter leaf steps to its follower with flag 1." So by letter c from the first state to the second; the flag is in `reads` below.
 pub data Reads (root : Tree) : State root → ℕ → State root → Type 0 where
   letter-leaf : {l : Label} {c : ℕ} {s : Location root (letter l c)} → Reads root (at (letter l c) s) c (follower s)
-  range-leaf : {l : Label} {low high c : ℕ} {s : Location root (range l low high)} → in-range low high c ≡ true → Reads root (at (range l low high) s) c (follower s)
+  range-leaf : {l : Label} {low high c : ℕ} {s : Location root (range l low high)} → in-range low high c ≡ true
+      → Reads root (at (range l low high) s) c (follower s)
 
 -- the steps that read nothing, from a state with a flag to a state with a flag
 -- 01: "`S` passes its flag to its first part, and `A` to either side. `K` enters its child with flag 0.
@@ -59,7 +61,8 @@ pub data Moves (root : Tree) : State root → Bool → State root → Bool → T
   to-right : {l : Label} {t u : Tree} {s : Location root (alt l t u)} {b : Bool} → Moves root (at (alt l t u) s) b (at u (rgt s)) b
   to-round : {l : Label} {again : Bool} {t : Tree} {s : Location root (star l again t)} {b : Bool} → Moves root (at (star l again t) s) b (at t (rnd s)) false
   skip : {l : Label} {s : Location root (nothing l)} {b : Bool} → Guarded s b → Moves root (at (nothing l) s) b (follower s) b
-  leave : {l : Label} {again : Bool} {t : Tree} {s : Location root (star l again t)} {b : Bool} → Guarded s b → Moves root (at (star l again t) s) b (follower s) b
+  leave : {l : Label} {again : Bool} {t : Tree} {s : Location root (star l again t)} {b : Bool} → Guarded s b
+      → Moves root (at (star l again t) s) b (follower s) b
 
 -- 001: the language of a state with a flag, the letters by which the end is reached with flag 1. 01: "The end accepts with flag 1."
 pub data Accepts (root : Tree) : State root → (flag : Bool) → (letters : List ℕ) → Type 0 where

@@ -9,7 +9,8 @@ use Rattle.syntax.specs.Tree.{Label, Tree, nothing, letter, range, seq, alt, st
 use Rattle.semantics.specs.Value.{Value, nonempty, flat-rounds, flat, nonproblematic}
 use Rattle.semantics.specs.Order.{less}
 use Rattle.semantics.specs.Code.{code}
-use Rattle.semantics.specs.Automaton.{Location, top, fst, snd, lft, rgt, rnd, State, end, at, follower, Above, Guarded, Reads, letter-leaf, range-leaf, Moves, to-first, to-left, to-right, to-round, skip, leave, Accepts, done, reads, moves}
+use Rattle.semantics.specs.Automaton.{Location, top, fst, snd, lft, rgt, rnd, State, end, at, follower, Above, Guarded, Reads, letter-leaf}
+use Rattle.semantics.specs.Automaton.{range-leaf, Moves, to-first, to-left, to-right, to-round, skip, leave, Accepts, done, reads, moves}
 use Rattle.semantics.specs.Sweeps.{After, after-round, can, Bits-after, write, at-end, readable}
 use Rattle.semantics.specs.Basics.{and-fst, and-snd, and-intro, or-left, or-right, eqb-self, nonempty-append, flag-join}
 use Rattle.semantics.specs.OrderLaws.{less-iff-before-along}
@@ -138,7 +139,8 @@ module _ {root : Tree} where
 
   -- a value without an empty iteration is a path through its node to the follower
   rounds-accept : (l : Label) (again : Bool) (t : Tree) (s : Location root (star l again t))
-      → ((v : Value t) (b : Bool) (w : List ℕ) → nonproblematic t v ≡ true → Passes (rnd s) (b || nonempty (flat t v)) → Accepts root (at (star l again t) s) (b || nonempty (flat t v)) w → Accepts root (at t (rnd s)) b (flat t v ++ w))
+      → ((v : Value t) (b : Bool) (w : List ℕ) → nonproblematic t v ≡ true → Passes (rnd s) (b || nonempty (flat t v))
+      → Accepts root (at (star l again t) s) (b || nonempty (flat t v)) w → Accepts root (at t (rnd s)) b (flat t v ++ w))
       → (vs : List (Value t)) (b : Bool) (w : List ℕ) → nonproblematic (star l again t) vs ≡ true → Passes s (b || nonempty (flat (star l again t) vs))
       → Accepts root (follower s) (b || nonempty (flat (star l again t) vs)) w → Accepts root (at (star l again t) s) b (flat (star l again t) vs ++ w)
   rounds-accept l again t s one [] b w ok f r = moves (leave ((guarded-iff s b) .1 (rw or-false at f))) (rw or-false at r)
@@ -154,7 +156,8 @@ module _ {root : Tree} where
   value-accept (letter l c) s v b w ok f r = reads letter-leaf (rw or-true at r)
   value-accept (range l low high) s v b w ok f r = reads (range-leaf (v .1)) (rw or-true at r)
   value-accept (seq l t u) s v b w ok f r =
-      rw append-assoc (moves to-first (value-accept t (fst s) (v .0) b (flat u (v .1) ++ w) (and-fst (nonproblematic t (v .0)) (nonproblematic u (v .1)) ok) (λ e. absurd (false≢true e))
+      rw append-assoc (moves to-first
+      (value-accept t (fst s) (v .0) b (flat u (v .1) ++ w) (and-fst (nonproblematic t (v .0)) (nonproblematic u (v .1)) ok) (λ e. absurd (false≢true e))
       (value-accept u (snd s) (v .1) (b || nonempty (flat t (v .0))) w (and-snd (nonproblematic t (v .0)) (nonproblematic u (v .1)) ok)
       (rw (flag-join b (flat t (v .0)) (flat u (v .1))) at f) (rw (flag-join b (flat t (v .0)) (flat u (v .1))) at r))))
   value-accept (alt l t u) s (inl v) b w ok f r = moves to-left (value-accept t (lft s) v b w ok f r)
@@ -166,7 +169,8 @@ module _ {root : Tree} where
   end-accept false [] h = absurd (false≢true h)
   end-accept g (x ∷ w) h = absurd (false≢true h)
 
-  fits-accept : (t : Tree) (s : Location root t) (b : Bool) (w : List ℕ) → ((g : Bool) (x : List ℕ) → after s g x ≡ true → Accepts root (follower s) g x × Passes s g)
+  fits-accept : (t : Tree) (s : Location root t) (b : Bool) (w : List ℕ)
+      → ((g : Bool) (x : List ℕ) → after s g x ≡ true → Accepts root (follower s) g x × Passes s g)
       → can t (after s) b w ≡ true → Accepts root (at t s) b w
   fits-accept t s b w k h =
       let p = (can-iff t (after s) b w) .0 h in
@@ -226,7 +230,8 @@ module _ {root : Tree} where
         let p = (can-iff t (after s) b w) .0 (accepts-can r) in
         let (g, f) = after-accept s (b || nonempty (flat t (p .it))) (p .rest) (p .goes) in
         record { it = p .it; rest = p .rest; solid = p .solid; spells = p .spells; guarded = (guarded-iff s (b || nonempty (flat t (p .it)))) .1 f; goes = g },
-    λ p. subst (Accepts root (at t s) b) (sym (p .spells)) (value-accept t s (p .it) b (p .rest) (p .solid) ((guarded-iff s (b || nonempty (flat t (p .it)))) .0 (p .guarded)) (p .goes)),
+    λ p. subst (Accepts root (at t s) b) (sym (p .spells))
+        (value-accept t s (p .it) b (p .rest) (p .solid) ((guarded-iff s (b || nonempty (flat t (p .it)))) .0 (p .guarded)) (p .goes)),
   )
 
   -- 001, proposition 4: where the letters are in the language of a node with a flag, the second sweep writes there the code of the greatest of the values
@@ -238,7 +243,14 @@ module _ {root : Tree} where
 
   pub write-greatest : (t : Tree) (s : Location root t) (b : Bool) (w : List ℕ) → Accepts root (at t s) b w → Greatest t s b w
   write-greatest t s b w a = record {
-    best = record { it = p .it; rest = p .rest; solid = p .solid; spells = p .spells; guarded = (guarded-iff s (b || nonempty (flat t (p .it)))) .1 (g .1); goes = g .0 };
+    best = record {
+      it = p .it;
+      rest = p .rest;
+      solid = p .solid;
+      spells = p .spells;
+      guarded = (guarded-iff s (b || nonempty (flat t (p .it)))) .1 (g .1);
+      goes = g .0;
+    };
     greatest = λ x. ⊎-elim (λ e. inl (sym e)) (λ l. inr ((less-iff-before-along t (p .it) (x .it) (p .rest) (x .rest) (sym (p .spells) ∙ x .spells)) .1 l))
         (p .top (x .it) (x .rest) (x .solid) (x .spells) (follows s (b || nonempty (flat t (x .it))) (x .rest) (x .guarded) (accepts-can (x .goes))));
     bits = (wrote t (after s) b w (accepts-can a)) .1;

@@ -1,5 +1,6 @@
 -- LAWS of length: how many bits a code without empty rounds can have.
--- 01: "With a the number of `A` and `K` nodes and n letters, a code without empty rounds has at most a bits if n = 0, and at most 2 × a × n + 8 × n bits otherwise."
+-- 01: "With a the number of `A` and `K` nodes and n letters, a code without empty rounds has at most a bits if n = 0, and at most 2 × a × n
+-- + 8 × n bits otherwise."
 use mathlib.Core.Path.{_≡_, ap, refl}
 use mathlib.Core.Bool.{Bool, true}
 use mathlib.Core.Logic.{_⊎_, inl, inr}
@@ -39,8 +40,10 @@ within-star : (a n l : ℕ) → l ≤ 1 + n + 2 * (a * n) + 8 * n → Within (su
 within-star a zero l h = inl (refl, omega arith)
 within-star a (suc n) l h = inr (omega arith, omega arith)
 
-module _ {A : Type 0} (again : Bool) (f : A → List ℕ) (s : A → Bool) (c : A → List Bool) (a : ℕ) (one : (v : A) → s v ≡ true → Within a (length (f v)) (length (c v))) where
-  rounds-within : (vs : List A) → nonproblematic-rounds f s vs ≡ true → length (code-rounds again c vs) ≤ 1 + length (flat-rounds f vs) + 2 * (a * length (flat-rounds f vs)) + 8 * length (flat-rounds f vs)
+module _ {A : Type 0} (again : Bool) (f : A → List ℕ) (s : A → Bool) (c : A → List Bool) (a : ℕ)
+    (one : (v : A) → s v ≡ true → Within a (length (f v)) (length (c v))) where
+  rounds-within : (vs : List A) → nonproblematic-rounds f s vs ≡ true
+      → length (code-rounds again c vs) ≤ 1 + length (flat-rounds f vs) + 2 * (a * length (flat-rounds f vs)) + 8 * length (flat-rounds f vs)
   rounds-within [] ok = omega arith
   rounds-within (v ∷ vs) ok =
       let o = full-round f s v vs ok in
@@ -51,11 +54,14 @@ pub code-within : (t : Tree) (v : Value t) → nonproblematic t v ≡ true → W
 code-within (nothing m) v ok = inl (refl, omega arith)
 code-within (letter m c) v ok = inr (omega arith, omega arith)
 code-within (range m low high) v ok = inr (omega arith, omega (arith, length-bits-of 8 (v .0)))
-code-within (seq m t u) v ok = simp length-append (within-add (choices t) (choices u) (length (flat t (v .0))) (length (flat u (v .1))) (length (code t (v .0))) (length (code u (v .1)))
-    (code-within t (v .0) (and-fst (nonproblematic t (v .0)) (nonproblematic u (v .1)) ok)) (code-within u (v .1) (and-snd (nonproblematic t (v .0)) (nonproblematic u (v .1)) ok)))
+code-within (seq m t u) v ok = simp length-append
+    (within-add (choices t) (choices u) (length (flat t (v .0))) (length (flat u (v .1))) (length (code t (v .0))) (length (code u (v .1)))
+    (code-within t (v .0) (and-fst (nonproblematic t (v .0)) (nonproblematic u (v .1)) ok))
+    (code-within u (v .1) (and-snd (nonproblematic t (v .0)) (nonproblematic u (v .1)) ok)))
 code-within (alt m t u) (inl v) ok = within-more (choices t) (choices t + choices u) (length (flat t v)) (length (code t v)) (omega arith) (code-within t v ok)
 code-within (alt m t u) (inr v) ok = within-more (choices u) (choices t + choices u) (length (flat u v)) (length (code u v)) (omega arith) (code-within u v ok)
-code-within (star m again t) vs ok = within-star (choices t) (length (flat-rounds (flat t) vs)) (length (code-rounds again (code t) vs)) (rounds-within again (flat t) (nonproblematic t) (code t) (choices t) (code-within t) vs ok)
+code-within (star m again t) vs ok = within-star (choices t) (length (flat-rounds (flat t) vs)) (length (code-rounds again (code t) vs))
+    (rounds-within again (flat t) (nonproblematic t) (code t) (choices t) (code-within t) vs ok)
 
 pub few-bits-none : (t : Tree) (v : Value t) → nonproblematic t v ≡ true → flat t v ≡ [] → length (code t v) ≤ choices t
 few-bits-none t v ok e = go (code-within t v ok)
@@ -64,14 +70,16 @@ few-bits-none t v ok e = go (code-within t v ok)
     go (inl p) = p .1
     go (inr p) = absurd (omega (arith, ap length e))
 
-pub few-bits-some : (t : Tree) (v : Value t) → nonproblematic t v ≡ true → 1 ≤ length (flat t v) → length (code t v) ≤ 2 * choices t * length (flat t v) + 8 * length (flat t v)
+pub few-bits-some : (t : Tree) (v : Value t) → nonproblematic t v ≡ true → 1 ≤ length (flat t v)
+    → length (code t v) ≤ 2 * choices t * length (flat t v) + 8 * length (flat t v)
 few-bits-some t v ok h = go (code-within t v ok)
   where
     go : Within (choices t) (length (flat t v)) (length (code t v)) → length (code t v) ≤ 2 * choices t * length (flat t v) + 8 * length (flat t v)
     go (inl p) = absurd (omega arith)
     go (inr p) = omega arith
 
--- 01's limits: a pattern has at most 64 nodes, so at most 64 of them are choices; a tape has at most 3,600 letters. So no code without empty rounds passes the limit of codes.
+-- 01's limits: a pattern has at most 64 nodes, so at most 64 of them are choices; a tape has at most 3,600 letters. So no code without
+-- empty rounds passes the limit of codes.
 pub code-fits : (t : Tree) (v : Value t) → choices t ≤ 64 → nonproblematic t v ≡ true → length (flat t v) ≤ letter-limit → length (code t v) ≤ code-limit
 code-fits t v few ok h = go (code-within t v ok)
   where

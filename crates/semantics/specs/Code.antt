@@ -15,7 +15,8 @@ abbrev pub code-rounds : {A : Type 0} → (again : Bool) → (A → List Bool) �
 code-rounds again c [] = not again ∷ []
 code-rounds again c (v ∷ vs) = again ∷ (c v ++ code-rounds again c vs)
 
--- 01: "Code bits: `A` writes 0 for left, 1 for right, then that side. [..] `R` writes its letter in 8 bits, highest first. `S` writes its parts in order. `E` and `L` write none."
+-- 01: "Code bits: `A` writes 0 for left, 1 for right, then that side. [..] `R` writes its letter in 8 bits, highest first. `S` writes its
+-- parts in order. `E` and `L` write none."
 abbrev pub code : (t : Tree) → Value t → List Bool
 code (nothing m) v = []
 code (letter m c) v = []

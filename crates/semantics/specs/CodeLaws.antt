@@ -1,4 +1,5 @@
--- LAWS of codes as bits: the computed forms say what 01 says of a code; of two codes of a tree neither begins the other, and the first bit that differs puts one before the other.
+-- LAWS of codes as bits: the computed forms say what 01 says of a code; of two codes of a tree neither begins the other, and the first bit
+-- that differs puts one before the other.
 use mathlib.Core.Path.{_∙_, _≡_, ap, refl, subst, sym}
 use mathlib.Core.Bool.{_&&_, Bool, false, false≢true, not, true, true≢false}
 use mathlib.Core.Logic.{_↔_}
@@ -140,4 +141,8 @@ parts-of (true ∷ xs) (false ∷ ys) h = absurd (false≢true h)
 parts-of (true ∷ xs) (true ∷ ys) h = parts-cons true xs ys (parts-of xs ys h)
 
 pub before-iff : (xs ys : List Bool) → (before xs ys ≡ true) ↔ Parts xs ys
-before-iff xs ys = (parts-of xs ys, λ p. ap (λ z. before z ys) (p .zero-here) ∙ ap (before (p .shared ++ (false ∷ p .left))) (p .one-here) ∙ before-prefix (p .shared) (false ∷ p .left) (true ∷ p .right))
+before-iff xs ys = (
+  parts-of xs ys,
+  λ p. ap (λ z. before z ys) (p .zero-here) ∙ ap (before (p .shared ++ (false ∷ p .left))) (p .one-here)
+      ∙ before-prefix (p .shared) (false ∷ p .left) (true ∷ p .right),
+)

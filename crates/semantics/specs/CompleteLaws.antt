@@ -20,7 +20,11 @@ pub record Full {A : Type 0} (f : A → List ℕ) (s : A → Bool) (v : A) (vs :
 pub full-round : {A : Type 0} (f : A → List ℕ) (s : A → Bool) (v : A) (vs : List A) → nonproblematic-rounds f s (v ∷ vs) ≡ true → Full f s v vs
 full-round f s v vs ok =
     let p : (nonempty (f v) && s v) ≡ true = and-fst (nonempty (f v) && s v) (nonproblematic-rounds f s vs) ok in
-    record { full = and-fst (nonempty (f v)) (s v) p; solid = and-snd (nonempty (f v)) (s v) p; others = and-snd (nonempty (f v) && s v) (nonproblematic-rounds f s vs) ok }
+    record {
+      full = and-fst (nonempty (f v)) (s v) p;
+      solid = and-snd (nonempty (f v)) (s v) p;
+      others = and-snd (nonempty (f v) && s v) (nonproblematic-rounds f s vs) ok;
+    }
 
 -- behind a round: it has taken a letter, and the star goes on with flag 1
 pub after-round-full : (k : After) (b : Bool) (w : List ℕ) → after-round k b w ≡ true → b ≡ true
@@ -48,7 +52,8 @@ module _ {A : Type 0} (f : A → List ℕ) (s : A → Bool) (c : After → After
       let p : nonempty (f v) ≡ true = o .full in
       rw append-assoc (or-left _ (one v (after-round (can-rounds c n k)) false (flat-rounds f vs ++ w) (o .solid)
       (after-round-yes (can-rounds c n k) (nonempty (f v)) (flat-rounds f vs ++ w) p
-      (rounds-complete n vs k true w (simp length-append (omega (arith, nonempty-pos (f v) p, simp length-append at le))) (o .others) (simp (nonempty-append, p, or-true) at h)))))
+      (rounds-complete n vs k true w (simp length-append (omega (arith, nonempty-pos (f v) p, simp length-append at le))) (o .others)
+      (simp (nonempty-append, p, or-true) at h)))))
 
 pub complete : (t : Tree) → Complete (flat t) (nonproblematic t) (can t)
 complete (nothing m) v k b w ok h = rw or-false at h
@@ -59,4 +64,5 @@ complete (seq m t u) v k b w ok h =
     (complete u (v .1) k (b || nonempty (flat t (v .0))) w (and-snd (nonproblematic t (v .0)) _ ok) (simp (nonempty-append, ← or-assoc) at h)))
 complete (alt m t u) (inl v) k b w ok h = or-left _ (complete t v k b w ok h)
 complete (alt m t u) (inr v) k b w ok h = or-right (can t k b (flat u v ++ w)) (complete u v k b w ok h)
-complete (star m again t) vs k b w ok h = rounds-complete (flat t) (nonproblematic t) (can t) (complete t) (suc (length (flat-rounds (flat t) vs ++ w))) vs k b w (omega arith) ok h
+complete (star m again t) vs k b w ok h = rounds-complete (flat t) (nonproblematic t) (can t) (complete t)
+    (suc (length (flat-rounds (flat t) vs ++ w))) vs k b w (omega arith) ok h

@@ -22,7 +22,8 @@ module _ {X : Type 0} where
   get-bits (suc n) k (true ∷ bs) = get-bits n (λ c. k (2 ^ n + c)) bs
 
   -- only a letter of the range is a value
-  abbrev pub checked : (low high c : ℕ) → ((c : ℕ) × (in-range low high c ≡ true) → List Bool → Option X) → List Bool → (b : Bool) → in-range low high c ≡ b → Option X
+  abbrev pub checked : (low high c : ℕ) → ((c : ℕ) × (in-range low high c ≡ true) → List Bool → Option X) → List Bool → (b : Bool)
+      → in-range low high c ≡ b → Option X
   checked low high c k bs true p = k (c, p) bs
   checked low high c k bs false p = none
 
@@ -35,7 +36,8 @@ module _ {X : Type 0} where
   by-bit true x y (false ∷ bs) = y bs
 
   -- rounds; each writes a bit, so that as many as there are bits are enough
-  abbrev pub decode-rounds : {A : Type 0} → (again : Bool) → ((A → List Bool → Option X) → List Bool → Option X) → (most : ℕ) → (List A → List Bool → Option X) → List Bool → Option X
+  abbrev pub decode-rounds : {A : Type 0} → (again : Bool) → ((A → List Bool → Option X) → List Bool → Option X) → (most : ℕ)
+      → (List A → List Bool → Option X) → List Bool → Option X
   decode-rounds again d zero k bs = none
   decode-rounds again d (suc n) k bs = by-bit again (d (λ v r. decode-rounds again d n (λ vs. k (v ∷ vs)) r)) (k []) bs
 

@@ -36,7 +36,8 @@ module _ {X : Type 0} where
           ih (c - 2 ^ n) (omega arith) (λ x. k (2 ^ n + x)) r ∙ ap (λ x. k x r) (omega arith)
       go ih false e = ih c (nleb-lt (2 ^ n) c e) k r
 
-  checked-yes : (low high c : ℕ) (p : in-range low high c ≡ true) (k : (c : ℕ) × (in-range low high c ≡ true) → List Bool → Option X) (r : List Bool) (b : Bool) (q : in-range low high c ≡ b)
+  checked-yes : (low high c : ℕ) (p : in-range low high c ≡ true) (k : (c : ℕ) × (in-range low high c ≡ true) → List Bool → Option X) (r : List Bool)
+      (b : Bool) (q : in-range low high c ≡ b)
       → checked low high c k r b q ≡ k (c, p) r
   checked-yes low high c p k r true q = ap (λ z. k (c, z) r) (Bool-set _ _ q p)
   checked-yes low high c p k r false q = absurd (not-both p q)
@@ -51,7 +52,8 @@ module _ {X : Type 0} where
 
   decode-rounds-code : {A : Type 0} (again : Bool) (c : A → List Bool) (d : (A → List Bool → Option X) → List Bool → Option X)
       → ((v : A) (k : A → List Bool → Option X) (r : List Bool) → d k (c v ++ r) ≡ k v r)
-      → (n : ℕ) (vs : List A) (k : List A → List Bool → Option X) (r : List Bool) → length (code-rounds again c vs ++ r) ≤ n → decode-rounds again d n k (code-rounds again c vs ++ r) ≡ k vs r
+      → (n : ℕ) (vs : List A) (k : List A → List Bool → Option X) (r : List Bool) → length (code-rounds again c vs ++ r) ≤ n
+      → decode-rounds again d n k (code-rounds again c vs ++ r) ≡ k vs r
   decode-rounds-code again c d one zero [] k r le = absurd (omega arith)
   decode-rounds-code again c d one zero (v ∷ vs) k r le = absurd (omega arith)
   decode-rounds-code again c d one (suc n) [] k r le = by-bit-that again (d (λ v r. decode-rounds again d n (λ vs. k (v ∷ vs)) r)) (k []) r
@@ -65,12 +67,14 @@ module _ {X : Type 0} where
   decode-code (nothing m) v k r = refl
   decode-code (letter m c) v k r = refl
   decode-code (range m low high) v k r =
-      get-bits-bits 8 (v .0) (in-range-small low high (v .0) (v .1)) (λ c x. checked low high c k x (in-range low high c) refl) r ∙ checked-yes low high (v .0) (v .1) k r (in-range low high (v .0)) refl
+      get-bits-bits 8 (v .0) (in-range-small low high (v .0) (v .1)) (λ c x. checked low high c k x (in-range low high c) refl) r
+      ∙ checked-yes low high (v .0) (v .1) k r (in-range low high (v .0)) refl
   decode-code (seq m t u) v k r =
       rw append-assoc (decode-code t (v .0) (λ x. decode u (λ y. k (x, y))) (code u (v .1) ++ r) ∙ decode-code u (v .1) (λ y. k (v .0, y)) r)
   decode-code (alt m t u) (inl v) k r = decode-code t v (λ x. k (inl x)) r
   decode-code (alt m t u) (inr v) k r = decode-code u v (λ x. k (inr x)) r
-  decode-code (star m again t) vs k r = decode-rounds-code again (code t) (decode t) (decode-code t) (length (code-rounds again (code t) vs ++ r)) vs k r (le-refl _)
+  decode-code (star m again t) vs k r = decode-rounds-code again (code t) (decode t) (decode-code t)
+      (length (code-rounds again (code t) vs ++ r)) vs k r (le-refl _)
 
 -- two codes of one tree, with anything behind them
 pub code-split : (t : Tree) (v x : Value t) (r s : List Bool) → code t v ++ r ≡ code t x ++ s → (v ≡ x) × (r ≡ s)
@@ -103,10 +107,12 @@ module _ {X : Type 0} where
   get-bits-sound (suc n) k (true ∷ bs) x h =
       let (c, r, l, e, g) = get-bits-sound n (λ y. k (2 ^ n + y)) bs x h in
       let q : 2 ^ n + c - 2 ^ n ≡ c = omega arith in
-      let f : bits-of (suc n) (2 ^ n + c) ≡ true ∷ bits-of n c = bits-of-compare n (2 ^ n + c) (omega arith) ∙ rw (le-leb (2 ^ n) (2 ^ n + c) (omega arith), q) in
+      let f : bits-of (suc n) (2 ^ n + c) ≡ true ∷ bits-of n c = bits-of-compare n (2 ^ n + c) (omega arith)
+      ∙ rw (le-leb (2 ^ n) (2 ^ n + c) (omega arith), q) in
       (2 ^ n + c, r, omega arith, ap (λ z. true ∷ z) e ∙ sym (ap (λ z. z ++ r) f), g)
 
-  checked-sound : (low high c : ℕ) (k : (c : ℕ) × (in-range low high c ≡ true) → List Bool → Option X) (r : List Bool) (x : X) (b : Bool) (q : in-range low high c ≡ b)
+  checked-sound : (low high c : ℕ) (k : (c : ℕ) × (in-range low high c ≡ true) → List Bool → Option X) (r : List Bool) (x : X) (b : Bool)
+      (q : in-range low high c ≡ b)
       → checked low high c k r b q ≡ some x → (p : in-range low high c ≡ true) × (k (c, p) r ≡ some x)
   checked-sound low high c k r x true q h = (q, h)
   checked-sound low high c k r x false q h = absurd (Option·none-ne-some x h)
@@ -187,7 +193,8 @@ decode-read {X} t k bs = opt-ext (decode t k bs) (bind (read t bs) (λ p. k (p .
 
 pub read-seq : (m : Label) (t u : Tree) (bs : List Bool) → read (seq m t u) bs ≡ bind (read t bs) (λ p. bind (read u (p .1)) (λ q. some ((p .0, q .0), q .1)))
 unfolding read bind
-read-seq m t u bs = decode-read t (λ v. decode u (λ x r. some ((v, x), r))) bs ∙ ap (bind (read t bs)) (λ i p. decode-read u (λ x r. some ((p .0, x), r)) (p .1) i)
+read-seq m t u bs = decode-read t (λ v. decode u (λ x r. some ((v, x), r))) bs
+    ∙ ap (bind (read t bs)) (λ i p. decode-read u (λ x r. some ((p .0, x), r)) (p .1) i)
 
 pub read-left : (m : Label) (t u : Tree) (bs : List Bool) → read (alt m t u) (false ∷ bs) ≡ bind (read t bs) (λ p. some (inl (p .0), p .1))
 unfolding read bind
@@ -200,9 +207,11 @@ read-right m t u bs = decode-read u (λ v r. some (inr v, r)) bs
 pub read-stop : (m : Label) (again : Bool) (t : Tree) (bs : List Bool) → read (star m again t) (not again ∷ bs) ≡ some ([], bs)
 read-stop m again t bs = read-code (star m again t) [] bs
 
-pub read-round : (m : Label) (again : Bool) (t : Tree) (bs : List Bool) → read (star m again t) (again ∷ bs) ≡ bind (read t bs) (λ p. bind (read (star m again t) (p .1)) (λ q. some (p .0 ∷ q .0, q .1)))
+pub read-round : (m : Label) (again : Bool) (t : Tree) (bs : List Bool)
+    → read (star m again t) (again ∷ bs) ≡ bind (read t bs) (λ p. bind (read (star m again t) (p .1)) (λ q. some (p .0 ∷ q .0, q .1)))
 unfolding bind
-read-round m again t bs = opt-ext (read (star m again t) (again ∷ bs)) (rhs bs) (λ a h. to (a .0) (a .1) (read-sound (star m again t) (again ∷ bs) a h)) (λ a h. from a h)
+read-round m again t bs = opt-ext (read (star m again t) (again ∷ bs)) (rhs bs)
+    (λ a h. to (a .0) (a .1) (read-sound (star m again t) (again ∷ bs) a h)) (λ a h. from a h)
   where
     rhs : List Bool → Read (star m again t)
     rhs l = bind (read t l) (λ p. bind (read (star m again t) (p .1)) (λ q. some (p .0 ∷ q .0, q .1)))
@@ -213,12 +222,15 @@ read-round m again t bs = opt-ext (read (star m again t) (again ∷ bs)) (rhs bs
         ∙ ap (λ o. bind o (λ p. bind (read (star m again t) (p .1)) (λ q. some (p .0 ∷ q .0, q .1)))) (read-code t v (code-rounds again (code t) vs ++ r))
         ∙ ap (λ o. bind o (λ q. some (v ∷ q .0, q .1))) (read-code (star m again t) vs r)
 
-    last : (v : Value t) (l : List Bool) → bs ≡ code t v ++ l → (o : Read (star m again t)) → read (star m again t) l ≡ o → (a : Value (star m again t) × List Bool) → bind o (λ q. some (v ∷ q .0, q .1)) ≡ some a → read (star m again t) (again ∷ bs) ≡ some a
+    last : (v : Value t) (l : List Bool) → bs ≡ code t v ++ l → (o : Read (star m again t)) → read (star m again t) l ≡ o
+        → (a : Value (star m again t) × List Bool) → bind o (λ q. some (v ∷ q .0, q .1)) ≡ some a → read (star m again t) (again ∷ bs) ≡ some a
     last v l e none f a h = absurd (Option·none-ne-some a h)
-    last v l e (some q) f a h = ap (λ z. read (star m again t) (again ∷ z)) (e ∙ ap (λ z. code t v ++ z) (read-sound (star m again t) l q f) ∙ sym (append-assoc (code t v) (code-rounds again (code t) (q .0)) (q .1)))
+    last v l e (some q) f a h = ap (λ z. read (star m again t) (again ∷ z))
+        (e ∙ ap (λ z. code t v ++ z) (read-sound (star m again t) l q f) ∙ sym (append-assoc (code t v) (code-rounds again (code t) (q .0)) (q .1)))
         ∙ read-code (star m again t) (v ∷ q .0) (q .1) ∙ h
 
-    first : (o : Read t) → read t bs ≡ o → (a : Value (star m again t) × List Bool) → bind o (λ p. bind (read (star m again t) (p .1)) (λ q. some (p .0 ∷ q .0, q .1))) ≡ some a → read (star m again t) (again ∷ bs) ≡ some a
+    first : (o : Read t) → read t bs ≡ o → (a : Value (star m again t) × List Bool)
+        → bind o (λ p. bind (read (star m again t) (p .1)) (λ q. some (p .0 ∷ q .0, q .1))) ≡ some a → read (star m again t) (again ∷ bs) ≡ some a
     first none e a h = absurd (Option·none-ne-some a h)
     first (some p) e a h = last (p .0) (p .1) (read-sound t bs p e) (read (star m again t) (p .1)) refl a h
 

@@ -130,7 +130,8 @@ table =
     ∷ []
 
 -- ── the theorem ──
-rows-say : (rows : List (Tree × Asked × Option (List Bool))) → map (λ r. answer (r .0) (r .1)) rows ≡ map (λ r. r .2) rows → All (λ r. Says (r .0) (r .1) (r .2)) rows
+rows-say : (rows : List (Tree × Asked × Option (List Bool))) → map (λ r. answer (r .0) (r .1)) rows ≡ map (λ r. r .2) rows
+    → All (λ r. Says (r .0) (r .1) (r .2)) rows
 rows-say [] h = tt
 rows-say (r ∷ rows) h = (subst (Says (r .0) (r .1)) (head-eq-of-cons-eq h) (answer-right (r .0) (r .1)), rows-say rows (tail-eq-of-cons-eq h))
 

@@ -1,4 +1,5 @@
--- LAWS of the first sweep: it says yes exactly if a value without an empty iteration spells a front of the letters and what follows accepts the rest (001, lemma 2);
+-- LAWS of the first sweep: it says yes exactly if a value without an empty iteration spells a front of the letters and what follows accepts
+-- the rest (001, lemma 2);
 -- and its equation at a star, with no count of rounds in it.
 use mathlib.Core.Path.{_∙_, _≡_, ap, refl, sym}
 use mathlib.Core.Bool.{_||_, Bool, false, or-false, or-true, true}
@@ -34,7 +35,8 @@ can-iff t k b w = (
 )
 
 -- of what may follow, only what it says of letters no more than these counts
-pub can-mono : (t : Tree) (k j : After) (b : Bool) (w : List ℕ) → ((g : Bool) (x : List ℕ) → length x ≤ length w → k g x ≡ true → j g x ≡ true) → can t k b w ≡ true → can t j b w ≡ true
+pub can-mono : (t : Tree) (k j : After) (b : Bool) (w : List ℕ) → ((g : Bool) (x : List ℕ) → length x ≤ length w → k g x ≡ true → j g x ≡ true)
+    → can t k b w ≡ true → can t j b w ≡ true
 can-mono t k j b w m h =
     let p = (can-iff t k b w) .0 h in
     (can-iff t j b w) .1 (record {
@@ -53,29 +55,40 @@ can-cong t k j b w m = bool-ext (can t k b w) (can t j b w)
 pub can-flag : (t : Tree) (k : After) → ((w : List ℕ) → k false w ≡ true → k true w ≡ true) → (w : List ℕ) → can t k false w ≡ true → can t k true w ≡ true
 can-flag t k m w h =
     let p = (can-iff t k false w) .0 h in
-    (can-iff t k true w) .1 (record { it = p .it; rest = p .rest; solid = p .solid; spells = p .spells; goes = go (nonempty (flat t (p .it))) (p .rest) (p .goes) })
+    (can-iff t k true w) .1 (record {
+      it = p .it;
+      rest = p .rest;
+      solid = p .solid;
+      spells = p .spells;
+      goes = go (nonempty (flat t (p .it))) (p .rest) (p .goes);
+    })
   where
     go : (b : Bool) (z : List ℕ) → k b z ≡ true → k true z ≡ true
     go true z e = e
     go false z e = m z e
 
 -- at a star: another round, behind which the star goes on if the round has taken a letter, or the stop
-pub can-star : (l : Label) (again : Bool) (t : Tree) (k : After) (b : Bool) (w : List ℕ) → can (star l again t) k b w ≡ (can t (after-round (can (star l again t) k)) false w || k b w)
-can-star l again t k b w = bool-ext (can (star l again t) k b w) (can t (after-round (can (star l again t) k)) false w || k b w) (λ h. to ((can-iff (star l again t) k b w) .0 h)) (λ h. from (or-cases (can t (after-round (can (star l again t) k)) false w) (k b w) h))
+pub can-star : (l : Label) (again : Bool) (t : Tree) (k : After) (b : Bool) (w : List ℕ)
+    → can (star l again t) k b w ≡ (can t (after-round (can (star l again t) k)) false w || k b w)
+can-star l again t k b w = bool-ext (can (star l again t) k b w) (can t (after-round (can (star l again t) k)) false w || k b w)
+    (λ h. to ((can-iff (star l again t) k b w) .0 h)) (λ h. from (or-cases (can t (after-round (can (star l again t) k)) false w) (k b w) h))
   where
-    from-fit : (vs : List (Value t)) (r : List ℕ) → nonproblematic (star l again t) vs ≡ true → w ≡ flat (star l again t) vs ++ r → k (b || nonempty (flat (star l again t) vs)) r ≡ true → (can t (after-round (can (star l again t) k)) false w || k b w) ≡ true
+    from-fit : (vs : List (Value t)) (r : List ℕ) → nonproblematic (star l again t) vs ≡ true → w ≡ flat (star l again t) vs ++ r
+        → k (b || nonempty (flat (star l again t) vs)) r ≡ true → (can t (after-round (can (star l again t) k)) false w || k b w) ≡ true
     from-fit [] r ok e h = or-right (can t (after-round (can (star l again t) k)) false w) (ap (k b) e ∙ (rw or-false at h))
     from-fit (v ∷ vs) r ok e h =
         let o = full-round (flat t) (nonproblematic t) v vs ok in
         let m : nonempty (flat t v) ≡ true = o .full in
         or-left (k b w) (ap (can t (after-round (can (star l again t) k)) false) (e ∙ append-assoc (flat t v) (flat-rounds (flat t) vs) r)
         ∙ complete t v (after-round (can (star l again t) k)) false (flat-rounds (flat t) vs ++ r) (o .solid)
-        (after-round-yes (can (star l again t) k) (nonempty (flat t v)) (flat-rounds (flat t) vs ++ r) m (complete (star l again t) vs k true r (o .others) (simp (nonempty-append, m, or-true) at h))))
+        (after-round-yes (can (star l again t) k) (nonempty (flat t v)) (flat-rounds (flat t) vs ++ r) m
+        (complete (star l again t) vs k true r (o .others) (simp (nonempty-append, m, or-true) at h))))
 
     to : Fits (star l again t) k b w → (can t (after-round (can (star l again t) k)) false w || k b w) ≡ true
     to p = from-fit (p .it) (p .rest) (p .solid) (p .spells) (p .goes)
 
-    from : (can t (after-round (can (star l again t) k)) false w ≡ true) ⊎ ((can t (after-round (can (star l again t) k)) false w ≡ false) × (k b w ≡ true)) → can (star l again t) k b w ≡ true
+    from : (can t (after-round (can (star l again t) k)) false w ≡ true) ⊎
+        ((can t (after-round (can (star l again t) k)) false w ≡ false) × (k b w ≡ true)) → can (star l again t) k b w ≡ true
     from (inl h) =
         let p = (can-iff t (after-round (can (star l again t) k)) false w) .0 h in
         let m : nonempty (flat t (p .it)) ≡ true = after-round-full (can (star l again t) k) (nonempty (flat t (p .it))) (p .rest) (p .goes) in

@@ -1,4 +1,5 @@
--- LAWS of the greedy value: every readable tape has one, the second sweep's bits are its code, and two values spell the same exactly if their greedy codes are equal.
+-- LAWS of the greedy value: every readable tape has one, the second sweep's bits are its code, and two values spell the same exactly if
+-- their greedy codes are equal.
 use mathlib.Core.Path.{_∙_, _≡_, ap, refl, sym}
 use mathlib.Core.Bool.{Bool, false, false≢true, not, true}
 use mathlib.Core.Logic.{_↔_, _⊎_, inl, inr, ⊎-elim}
@@ -71,7 +72,11 @@ pub readable-iff : (t : Tree) (w : List ℕ) → (readable t w ≡ true) ↔ ((v
 readable-iff t w = (λ h. let c = greedy-canonical t w h in (c .value, c .greedy .spells), λ p. ap (readable t) (sym (p .1)) ∙ readable-flat t (p .0))
 
 pub readable-solid-iff : (t : Tree) (w : List ℕ) → (readable t w ≡ true) ↔ ((v : Value t) × (flat t v ≡ w) × (nonproblematic t v ≡ true))
-readable-solid-iff t w = (λ h. let c = greedy-canonical t w h in (c .value, c .greedy .spells, c .greedy .solid), λ p. ap (readable t) (sym (p .1)) ∙ readable-flat t (p .0))
+readable-solid-iff t w = (
+  λ h. let c = greedy-canonical t w h in (c .value, c .greedy .spells, c .greedy .solid),
+  λ p. ap (readable t) (sym (p .1))
+      ∙ readable-flat t (p .0),
+)
 
 -- two values are of one tape exactly if their greedy codes are equal
 pub same-tape-iff : (t : Tree) (v x : Value t) → (flat t v ≡ flat t x) ↔ (greedy t (flat t v) ≡ greedy t (flat t x))

@@ -27,7 +27,8 @@ unfolding in-range
 flat-letters (nothing m) h v = tt
 flat-letters (letter m c) h v = (h, tt)
 flat-letters (range m low high) h v = (and-fst (is-letter (v .0)) _ (v .1), tt)
-flat-letters (seq m t u) h v = all-append (λ c. is-letter c ≡ true) (flat t (v .0)) (flat u (v .1)) (flat-letters t (h .0) (v .0)) (flat-letters u (h .1) (v .1))
+flat-letters (seq m t u) h v = all-append (λ c. is-letter c ≡ true) (flat t (v .0)) (flat u (v .1)) (flat-letters t (h .0) (v .0))
+    (flat-letters u (h .1) (v .1))
 flat-letters (alt m t u) h (inl v) = flat-letters t (h .0) v
 flat-letters (alt m t u) h (inr v) = flat-letters u (h .1) v
 flat-letters (star m again t) h vs = rounds-letters (λ c. is-letter c ≡ true) (flat t) (flat-letters t h) vs

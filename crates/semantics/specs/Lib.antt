@@ -1,5 +1,6 @@
 -- Parse trees, codes and the greedy order, over the labelled tree of a pattern.
--- Layer 1, what must be believed: definitions in the order of document 01, each beside the words that it renders. Contracts cite these, or are equations over layer 2, which the laws tie to these.
+-- Layer 1, what must be believed: definitions in the order of document 01, each beside the words that it renders. Contracts cite these, or
+-- are equations over layer 2, which the laws tie to these.
 pub mod Value
 pub mod Order
 pub mod Code

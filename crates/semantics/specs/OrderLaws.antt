@@ -24,11 +24,14 @@ Sound {A} f c l = (v x : A) (r z : List ℕ) → f v ++ r ≡ f x ++ z → l x v
 pair-sound : {A B : Type 0} (f : A → List ℕ) (g : B → List ℕ) (c : A → List Bool) (d : B → List Bool) (l : A → A → Type 0) (m : B → B → Type 0)
     → Sound f c l → (v x : A) (u y : B) → ((r z : List ℕ) → g u ++ r ≡ g y ++ z → m y u → before (d u) (d y) ≡ true)
     → (r z : List ℕ) → (f v ++ g u) ++ r ≡ (f x ++ g y) ++ z → (l x v ⊎ ((x ≡ v) × m y u)) → before (c v ++ d u) (c x ++ d y) ≡ true
-pair-sound f g c d l m one v x u y two r z e (inl h) = before-append (c v) (c x) (d u) (d y) (one v x (g u ++ r) (g y ++ z) (regroup (f v) (g u) (f x) (g y) r z e) h)
+pair-sound f g c d l m one v x u y two r z e (inl h) =
+    before-append (c v) (c x) (d u) (d y) (one v x (g u ++ r) (g y ++ z) (regroup (f v) (g u) (f x) (g y) r z e) h)
 pair-sound f g c d l m one v x u y two r z e (inr h) =
-    rw (h .0) (before-prefix (c v) (d u) (d y) ∙ two r z (same-rest f v x (f v ++ (g u ++ r)) (g u ++ r) (g y ++ z) refl (regroup (f v) (g u) (f x) (g y) r z e) (sym (h .0))) (h .1))
+    rw (h .0) (before-prefix (c v) (d u) (d y) ∙ two r z
+    (same-rest f v x (f v ++ (g u ++ r)) (g u ++ r) (g y ++ z) refl (regroup (f v) (g u) (f x) (g y) r z e) (sym (h .0))) (h .1))
 
-less-rounds-sound : {A : Type 0} (again : Bool) (f : A → List ℕ) (c : A → List Bool) (l : A → A → Type 0) → Sound f c l → Sound (flat-rounds f) (code-rounds again c) (less-rounds again l)
+less-rounds-sound : {A : Type 0} (again : Bool) (f : A → List ℕ) (c : A → List Bool) (l : A → A → Type 0) → Sound f c l
+    → Sound (flat-rounds f) (code-rounds again c) (less-rounds again l)
 less-rounds-sound again f c l one [] [] r z e h = absurd h
 less-rounds-sound again f c l one [] (x ∷ xs) r z e h = stop-before again [] (c x ++ code-rounds again c xs) (λ e. rw e at h)
 less-rounds-sound again f c l one (v ∷ vs) [] r z e h = round-before again (c v ++ code-rounds again c vs) [] (λ e. rw e at h)
@@ -57,7 +60,8 @@ pub data Compared (P Q R : Type 0) : Type 0 where
 abbrev pub Total : {A : Type 0} → (A → List ℕ) → (A → A → Type 0) → Type 0
 Total {A} f l = (v x : A) (r z : List ℕ) → f v ++ r ≡ f x ++ z → Compared (v ≡ x) (l x v) (l v x)
 
-pair-compared : {A B : Type 0} (l : A → A → Type 0) (m : B → B → Type 0) (v x : A) (u y : B) → Compared (v ≡ x) (l x v) (l v x) → (v ≡ x → Compared (u ≡ y) (m y u) (m u y))
+pair-compared : {A B : Type 0} (l : A → A → Type 0) (m : B → B → Type 0) (v x : A) (u y : B) → Compared (v ≡ x) (l x v) (l v x)
+    → (v ≡ x → Compared (u ≡ y) (m y u) (m u y))
     → Compared ((v ≡ x) × (u ≡ y)) (l x v ⊎ ((x ≡ v) × m y u)) (l v x ⊎ ((v ≡ x) × m u y))
 pair-compared l m v x u y (above h) two = above (inl h)
 pair-compared l m v x u y (beneath h) two = beneath (inl h)
@@ -100,7 +104,8 @@ less-total (nothing m) v x r z e = same refl
 less-total (letter m c) v x r z e = same refl
 less-total (range m low high) v x r z e = same (Σ-prop-path (λ y. Bool-set (in-range low high y) true) (head-eq-of-cons-eq e))
 less-total (seq m t u) v x r z e =
-    compared-map (λ p. λ i. (p .0 i, p .1 i)) (pair-total (flat t) (flat u) (less t) (less u) (less-total t) (v .0) (x .0) (v .1) (x .1) (less-total u (v .1) (x .1)) r z e)
+    compared-map (λ p. λ i. (p .0 i, p .1 i))
+    (pair-total (flat t) (flat u) (less t) (less u) (less-total t) (v .0) (x .0) (v .1) (x .1) (less-total u (v .1) (x .1)) r z e)
 less-total (alt m t u) (inl v) (inl x) r z e = compared-map (λ p. ap inl p) (less-total t v x r z e)
 less-total (alt m t u) (inl v) (inr x) r z e = above tt
 less-total (alt m t u) (inr v) (inl x) r z e = beneath tt
@@ -126,4 +131,5 @@ less-asym t v x e l m = before-asym (code t v) (code t x) ((less-iff-before t v 
 
 pub less-trans : (t : Tree) (v x y : Value t) → flat t v ≡ flat t x → flat t x ≡ flat t y → less t v x → less t x y → less t v y
 less-trans t v x y e f l m =
-    (less-iff-before t y v (sym (e ∙ f))) .1 (before-trans (code t y) (code t x) (code t v) ((less-iff-before t y x (sym f)) .0 m) ((less-iff-before t x v (sym e)) .0 l))
+    (less-iff-before t y v (sym (e ∙ f))) .1
+    (before-trans (code t y) (code t x) (code t v) ((less-iff-before t y x (sym f)) .0 m) ((less-iff-before t x v (sym e)) .0 l))

@@ -10,10 +10,12 @@ use Rattle.semantics.specs.Sweeps.{After, after-round, can, another}
 use Rattle.semantics.specs.Basics.{and-fst, and-snd, same-rest}
 use Rattle.semantics.specs.CompleteLaws.{complete}
 use Rattle.semantics.specs.FirstSweepLaws.{can-star}
-use Rattle.semantics.specs.SecondSweepLaws.{Best, BestOf, best, best-unique, seq-best, left-best, right-best, star-round, star-stop, round-best, no-round, stop-best, Choice, choice}
+use Rattle.semantics.specs.SecondSweepLaws.{Best, BestOf, best, best-unique, seq-best, left-best, right-best, star-round, star-stop, round-best}
+use Rattle.semantics.specs.SecondSweepLaws.{no-round, stop-best, Choice, choice}
 
 -- all bests leave the same letters
-pub best-rest : {A : Type 0} {f : A → List ℕ} {s : A → Bool} {c : A → List Bool} {k : After} {b : Bool} {w : List ℕ} (p q : Best f s c k b w) → p .rest ≡ q .rest
+pub best-rest : {A : Type 0} {f : A → List ℕ} {s : A → Bool} {c : A → List Bool} {k : After} {b : Bool} {w : List ℕ} (p q : Best f s c k b w)
+    → p .rest ≡ q .rest
 best-rest {f = f} {w = w} p q = same-rest f (p .it) (q .it) w (p .rest) (q .rest) (p .spells) (q .spells) (best-unique p q)
 
 pub best-can : (t : Tree) (k : After) (b : Bool) (w : List ℕ) → BestOf t k b w → can t k b w ≡ true
@@ -31,7 +33,12 @@ module _ (m : Label) (t u : Tree) (k : After) (b : Bool) (w : List ℕ) where
   seq-parts P =
       let p = best t (can u k) b w (best-can (seq m t u) k b w P) in
       let q = best u k (b || nonempty (flat t (p .it))) (p .rest) (p .goes) in
-      record { one = p; two = q; it = unfold seq-best in best-unique P (seq-best m t u k b w p q); rest = unfold seq-best in best-rest P (seq-best m t u k b w p q) }
+      record {
+        one = p;
+        two = q;
+        it = unfold seq-best in best-unique P (seq-best m t u k b w p q);
+        rest = unfold seq-best in best-rest P (seq-best m t u k b w p q);
+      }
 
   -- `A`: the left side where it can be read
   pub left-part : (P : BestOf (alt m t u) k b w) → can t k b w ≡ true → (p : BestOf t k b w) × (P .it ≡ inl (p .it)) × (P .rest ≡ p .rest)
@@ -65,7 +72,13 @@ module _ (m : Label) (again : Bool) (t : Tree) (k : After) (b : Bool) (w : List 
       let p = best t (after-round (can (star m again t) k)) false w (chosen P .round h) in
       let q = best (star m again t) k true (p .rest) (and-snd (nonempty (flat t (p .it))) (can (star m again t) k true (p .rest)) (p .goes)) in
       let r = star-round m again t k b w (chosen P .late h) p q in
-      record { one = p; full = and-fst (nonempty (flat t (p .it))) (can (star m again t) k true (p .rest)) (p .goes); more = q; it = best-unique P r; rest = best-rest P r }
+      record {
+        one = p;
+        full = and-fst (nonempty (flat t (p .it))) (can (star m again t) k true (p .rest)) (p .goes);
+        more = q;
+        it = best-unique P r;
+        rest = best-rest P r;
+      }
 
   pub stop-part : (P : BestOf (star m again t) k b w) → goes-on ≡ false → (P .it ≡ []) × (P .rest ≡ w)
   unfolding star-stop no-round stop-best

@@ -34,11 +34,13 @@ get-bits-short (suc n) k [] h = refl
 get-bits-short (suc n) k (false ∷ bs) h = get-bits-short n k bs (omega arith)
 get-bits-short (suc n) k (true ∷ bs) h = get-bits-short n (λ c. k (2 ^ n + c)) bs (omega arith)
 
-get-bits-at : {X : Type 0} (bs : List Bool) (n i : ℕ) (k : ℕ → List Bool → Option X) → i + n ≤ length bs → get-bits n k (drop i bs) ≡ k (number-at bs i n) (drop (i + n) bs)
+get-bits-at : {X : Type 0} (bs : List Bool) (n i : ℕ) (k : ℕ → List Bool → Option X) → i + n ≤ length bs
+    → get-bits n k (drop i bs) ≡ k (number-at bs i n) (drop (i + n) bs)
 get-bits-at bs zero i k h =
     let e : i ≡ i + 0 = omega arith in
     ap (λ z. k 0 (drop z bs)) e
-get-bits-at {X} bs (suc n) i k h = ap (get-bits (suc n) k) (drop-cons bs i false (omega arith)) ∙ go (λ k. get-bits-at bs n (suc i) k (omega arith)) (getD bs i false)
+get-bits-at {X} bs (suc n) i k h = ap (get-bits (suc n) k) (drop-cons bs i false (omega arith))
+    ∙ go (λ k. get-bits-at bs n (suc i) k (omega arith)) (getD bs i false)
   where
     go : ((k : ℕ → List Bool → Option X) → get-bits n k (drop (suc i) bs) ≡ k (number-at bs (suc i) n) (drop (suc i + n) bs))
         → (b : Bool) → get-bits (suc n) k (b ∷ drop (suc i) bs) ≡ k (cond b (2 ^ n) 0 + number-at bs (suc i) n) (drop (i + suc n) bs)
@@ -63,7 +65,8 @@ module _ (bs : List Bool) where
     rest-bits =
         let l = lengths in
         let f : i + length (code t (p .0)) ≡ length bs - length (p .1) = omega arith in
-        sym (drop-at (code t (p .0)) (p .1) (length (code t (p .0))) refl) ∙ ap (drop (length (code t (p .0)))) (sym (read-sound t (drop i bs) p e)) ∙ drop-drop (length (code t (p .0))) i bs ∙ ap (λ z. drop z bs) f
+        sym (drop-at (code t (p .0)) (p .1) (length (code t (p .0))) refl) ∙ ap (drop (length (code t (p .0)))) (sym (read-sound t (drop i bs) p e))
+        ∙ drop-drop (length (code t (p .0))) i bs ∙ ap (λ z. drop z bs) f
 
   -- a walk goes forward and stays inside the bits
   pub see-stays : {X : Type 0} (t : Tree) (f : Value t → X) (i : ℕ) → i ≤ length bs → (x : X) (j : ℕ) → see bs t f i ≡ some (x, j) → (i ≤ j) × (j ≤ length bs)
@@ -111,11 +114,13 @@ module _ (bs : List Bool) where
     unfolding see read
     looked h = ap (seen (length bs) (range m low high) f) (get-bits-at bs 8 i look h)
 
-    pub see-range : i + 8 ≤ length bs → (q : in-range low high (number-at bs i 8) ≡ true) → see bs (range m low high) f i ≡ some (f (number-at bs i 8, q), i + 8)
+    pub see-range : i + 8 ≤ length bs → (q : in-range low high (number-at bs i 8) ≡ true)
+        → see bs (range m low high) f i ≡ some (f (number-at bs i 8, q), i + 8)
     see-range h q = looked h ∙ go (in-range low high (number-at bs i 8)) refl
       where
         go : (b : Bool) (p : in-range low high (number-at bs i 8) ≡ b)
-            → seen (length bs) (range m low high) f (checked low high (number-at bs i 8) (λ v s. some (v, s)) (drop (i + 8) bs) b p) ≡ some (f (number-at bs i 8, q), i + 8)
+            → seen (length bs) (range m low high) f (checked low high (number-at bs i 8) (λ v s. some (v, s)) (drop (i + 8) bs) b p) ≡ some
+            (f (number-at bs i 8, q), i + 8)
         go true p = ap₂ (λ y z. some (f (number-at bs i 8, y), z)) (Bool-set _ _ p q) (here (i + 8) h)
         go false p = absurd (not-both q p)
 
@@ -130,7 +135,8 @@ module _ (bs : List Bool) where
   -- what a pair and a round share: a first part from i on, then a second from where it stopped
   after-first : {X Y Z : Type 0} (op : X → Y → Z) (t u w : Tree) (pair : Value t → Value u → Value w) (f : Value w → Z) (g : Value t → X) (h : Value u → Y)
       → ((v : Value t) (x : Value u) → f (pair v x) ≡ op (g v) (h x)) → (i : ℕ) → i ≤ length bs
-      → seen (length bs) w f (bind (read t (drop i bs)) (λ p. bind (read u (p .1)) (λ q. some (pair (p .0) (q .0), q .1)))) ≡ and-then op (see bs t g i) (see bs u h)
+      → seen (length bs) w f (bind (read t (drop i bs)) (λ p. bind (read u (p .1)) (λ q. some (pair (p .0) (q .0), q .1)))) ≡ and-then op
+      (see bs t g i) (see bs u h)
   unfolding see bind
   after-first op t u w pair f g h s i le = go (read t (drop i bs)) refl
     where
@@ -150,12 +156,14 @@ module _ (bs : List Bool) where
       ap (seen (length bs) (seq m t u) f) (read-seq m t u (drop i bs)) ∙ after-first op t u (seq m t u) (λ v x. (v, x)) f g h s i le
 
   -- the next bit, where a choice looks at it
-  at-bit : {X : Type 0} (t : Tree) (f : Value t → X) (i : ℕ) (b : Bool) → i < length bs → getD bs i false ≡ b → see bs t f i ≡ seen (length bs) t f (read t (b ∷ drop (i + 1) bs))
+  at-bit : {X : Type 0} (t : Tree) (f : Value t → X) (i : ℕ) (b : Bool) → i < length bs → getD bs i false ≡ b
+      → see bs t f i ≡ seen (length bs) t f (read t (b ∷ drop (i + 1) bs))
   unfolding see
   at-bit t f i b h z = ap (λ l. seen (length bs) t f (read t l)) (drop-next bs i h ∙ ap (λ n. n ∷ drop (i + 1) bs) z)
 
   -- one side: what f makes of the side's value
-  one-side : {X : Type 0} (t w : Tree) (side : Value t → Value w) (f : Value w → X) (o : Read t) → seen (length bs) w f (bind o (λ p. some (side (p .0), p .1))) ≡ seen (length bs) t (λ v. f (side v)) o
+  one-side : {X : Type 0} (t w : Tree) (side : Value t → Value w) (f : Value w → X) (o : Read t)
+      → seen (length bs) w f (bind o (λ p. some (side (p .0), p .1))) ≡ seen (length bs) t (λ v. f (side v)) o
   unfolding bind
   one-side t w side f none = refl
   one-side t w side f (some p) = refl
@@ -168,12 +176,14 @@ module _ (bs : List Bool) where
     pub see-left : i < length bs → getD bs i false ≡ false → see bs (alt m t u) f i ≡ see bs t (λ v. f (inl v)) (i + 1)
     unfolding see
     see-left h z =
-        at-bit (alt m t u) f i false h z ∙ ap (seen (length bs) (alt m t u) f) (read-left m t u (drop (i + 1) bs)) ∙ one-side t (alt m t u) inl f (read t (drop (i + 1) bs))
+        at-bit (alt m t u) f i false h z ∙ ap (seen (length bs) (alt m t u) f) (read-left m t u (drop (i + 1) bs))
+        ∙ one-side t (alt m t u) inl f (read t (drop (i + 1) bs))
 
     pub see-right : i < length bs → getD bs i false ≡ true → see bs (alt m t u) f i ≡ see bs u (λ v. f (inr v)) (i + 1)
     unfolding see
     see-right h z =
-        at-bit (alt m t u) f i true h z ∙ ap (seen (length bs) (alt m t u) f) (read-right m t u (drop (i + 1) bs)) ∙ one-side u (alt m t u) inr f (read u (drop (i + 1) bs))
+        at-bit (alt m t u) f i true h z ∙ ap (seen (length bs) (alt m t u) f) (read-right m t u (drop (i + 1) bs))
+        ∙ one-side u (alt m t u) inr f (read u (drop (i + 1) bs))
 
   module _ {Z : Type 0} (m : Label) (again : Bool) (t : Tree) (f : Value (star m again t) → Z) (i : ℕ) where
     pub see-star-none : length bs ≤ i → see bs (star m again t) f i ≡ none
@@ -182,9 +192,11 @@ module _ (bs : List Bool) where
 
     pub see-stop : i < length bs → getD bs i false ≡ not again → see bs (star m again t) f i ≡ some (f [], i + 1)
     see-stop h z =
-        at-bit (star m again t) f i (not again) h z ∙ ap (seen (length bs) (star m again t) f) (read-stop m again t (drop (i + 1) bs)) ∙ ap (λ n. some (f [], n)) (here (i + 1) (omega arith))
+        at-bit (star m again t) f i (not again) h z ∙ ap (seen (length bs) (star m again t) f) (read-stop m again t (drop (i + 1) bs))
+        ∙ ap (λ n. some (f [], n)) (here (i + 1) (omega arith))
 
-    pub see-round : {X Y : Type 0} (op : X → Y → Z) (g : Value t → X) (h : Value (star m again t) → Y) → ((v : Value t) (vs : Value (star m again t)) → f (v ∷ vs) ≡ op (g v) (h vs))
+    pub see-round : {X Y : Type 0} (op : X → Y → Z) (g : Value t → X) (h : Value (star m again t) → Y)
+        → ((v : Value t) (vs : Value (star m again t)) → f (v ∷ vs) ≡ op (g v) (h vs))
         → i < length bs → getD bs i false ≡ again → see bs (star m again t) f i ≡ and-then op (see bs t g (i + 1)) (see bs (star m again t) h)
     see-round op g h s lt z =
         at-bit (star m again t) f i again lt z ∙ ap (seen (length bs) (star m again t) f) (read-round m again t (drop (i + 1) bs))
@@ -195,21 +207,24 @@ pub see-whole : {X : Type 0} (t : Tree) (f : Value t → X) (v : Value t) → se
 unfolding see
 see-whole t f v =
     let e : length (code t v) - 0 ≡ length (code t v) = omega arith in
-    ap (λ l. seen (length (code t v)) t f (read t l)) (sym (append-nil (code t v))) ∙ ap (seen (length (code t v)) t f) (read-code t v []) ∙ ap (λ n. some (f v, n)) e
+    ap (λ l. seen (length (code t v)) t f (read t l)) (sym (append-nil (code t v))) ∙ ap (seen (length (code t v)) t f) (read-code t v [])
+    ∙ ap (λ n. some (f v, n)) e
 
 no-length : {A : Type 0} (l : List A) → length l ≡ 0 → l ≡ []
 no-length [] e = refl
 no-length (a ∷ l) e = absurd (omega arith)
 
 -- and conversely: bits that a walk from the start reads to their end are a whole code, and what it makes is f of its value
-pub see-whole-sound : {X : Type 0} (t : Tree) (f : Value t → X) (bs : List Bool) (x : X) → see bs t f 0 ≡ some (x, length bs) → (v : Value t) × (code t v ≡ bs) × (f v ≡ x)
+pub see-whole-sound : {X : Type 0} (t : Tree) (f : Value t → X) (bs : List Bool) (x : X) → see bs t f 0 ≡ some (x, length bs)
+    → (v : Value t) × (code t v ≡ bs) × (f v ≡ x)
 unfolding see
 see-whole-sound {X} t f bs x = go (read t bs) refl
   where
     go : (o : Read t) → read t bs ≡ o → seen (length bs) t f o ≡ some (x, length bs) → (v : Value t) × (code t v ≡ bs) × (f v ≡ x)
     go none e h = absurd (Option·none-ne-some (x, length bs) h)
     go (some p) e h =
-        let q : _≡_ {A = X × ℕ} (f (p .0), length bs - length (p .1)) (x, length bs) = Option·some-injective (f (p .0), length bs - length (p .1)) (x, length bs) h in
+        let q : _≡_ {A = X × ℕ} (f (p .0), length bs - length (p .1)) (x, length bs) = Option·some-injective (f (p .0), length bs - length (p .1))
+        (x, length bs) h in
         let g : length bs - length (p .1) ≡ length bs = ap (λ z. z .1) q in
         let s : bs ≡ code t (p .0) ++ p .1 = read-sound t bs p e in
         let r : p .1 ≡ [] = no-length (p .1) (omega (arith, simp length-append at (ap length s))) in

@@ -24,7 +24,8 @@ node-limit = 64
 
 -- the third demand: of any code that spells a tape within the limit there is a settled (canonical) one
 unfoldable pub Settles : Type 0
-Settles = (t : Tree) (bs : List Bool) → choices t ≤ node-limit → is-code t bs ≡ true → length (spelled t bs) ≤ letter-limit → (gs : List Bool) × GreedyCode t (spelled t bs) gs
+Settles = (t : Tree) (bs : List Bool) → choices t ≤ node-limit → is-code t bs ≡ true → length (spelled t bs) ≤ letter-limit
+    → (gs : List Bool) × GreedyCode t (spelled t bs) gs
 
 -- two settled codes are equal exactly if the codes handed in spell the same tape
 unfoldable pub Settled-equal : Type 0

@@ -32,7 +32,8 @@ BestOf t k b w = Best (flat t) (nonproblematic t) (code t) k b w
 
 -- there is one best
 pub best-unique : {A : Type 0} {f : A → List ℕ} {s : A → Bool} {c : A → List Bool} {k : After} {b : Bool} {w : List ℕ} (p q : Best f s c k b w) → p .it ≡ q .it
-best-unique {A} {f} {s} {c} {k} {b} {w} p q = go (p .top (q .it) (q .rest) (q .solid) (q .spells) (q .goes)) (q .top (p .it) (p .rest) (p .solid) (p .spells) (p .goes))
+best-unique {A} {f} {s} {c} {k} {b} {w} p q = go (p .top (q .it) (q .rest) (q .solid) (q .spells) (q .goes))
+    (q .top (p .it) (p .rest) (p .solid) (p .spells) (p .goes))
   where
     go : Top c (p .it) (q .it) → Top c (q .it) (p .it) → p .it ≡ q .it
     go (inl e) n = e
@@ -96,7 +97,8 @@ letter-best m c k b x w h = record {
   top = λ y z ok ex hx. inl refl;
 }
 
-unfoldable pub range-best : (m : Label) (low high : ℕ) (k : After) (b : Bool) (x : ℕ) (w : List ℕ) → (in-range low high x && k true w) ≡ true → BestOf (range m low high) k b (x ∷ w)
+unfoldable pub range-best : (m : Label) (low high : ℕ) (k : After) (b : Bool) (x : ℕ) (w : List ℕ) → (in-range low high x && k true w) ≡ true
+    → BestOf (range m low high) k b (x ∷ w)
 range-best m low high k b x w h = record {
   it = (x, and-fst (in-range low high x) (k true w) h);
   rest = w;
@@ -113,7 +115,8 @@ module _ {A : Type 0} (again : Bool) (f : A → List ℕ) (s : A → Bool) (d : 
 
   -- the stop, where 0 means another round only if none fits
   unfoldable pub stop-best : (k : After) (b : Bool) (w : List ℕ) → k b w ≡ true
-      → (again ≡ false → (x : A) (xs : List A) (z : List ℕ) → nonproblematic-rounds f s (x ∷ xs) ≡ true → w ≡ (f x ++ flat-rounds f xs) ++ z → k (b || nonempty (f x ++ flat-rounds f xs)) z ≡ true → ⊥)
+      → (again ≡ false → (x : A) (xs : List A) (z : List ℕ) → nonproblematic-rounds f s (x ∷ xs) ≡ true → w ≡ (f x ++ flat-rounds f xs) ++ z
+      → k (b || nonempty (f x ++ flat-rounds f xs)) z ≡ true → ⊥)
       → Rounds k b w
   stop-best k b w h no-fit = record {
     it = [];
@@ -121,11 +124,16 @@ module _ {A : Type 0} (again : Bool) (f : A → List ℕ) (s : A → Bool) (d : 
     solid = refl;
     spells = refl;
     goes = rw or-false h;
-    top = elim [ [] ↦ λ z ok ex hx. inl refl | x ∷ xs ↦ λ z ok ex hx. inr (stop-before again [] (d x ++ code-rounds again d xs) (λ e. no-fit e x xs z ok ex hx)) ];
+    top = elim [
+      | [] ↦ λ z ok ex hx. inl refl
+      | x ∷ xs ↦ λ z ok ex hx. inr
+          (stop-before again [] (d x ++ code-rounds again d xs) (λ e. no-fit e x xs z ok ex hx))
+    ];
   }
 
   module _ (k : After) (b : Bool) (w : List ℕ) (j : After)
-      (more : (xs : List A) (z : List ℕ) → length (flat-rounds f xs ++ z) < length w → nonproblematic-rounds f s xs ≡ true → k true z ≡ true → j true (flat-rounds f xs ++ z) ≡ true) where
+      (more : (xs : List A) (z : List ℕ) → length (flat-rounds f xs ++ z) < length w → nonproblematic-rounds f s xs ≡ true → k true z ≡ true
+      → j true (flat-rounds f xs ++ z) ≡ true) where
     -- what is known of the first round x and the others xs of a list that fits, with z behind it
     pub record Entered (x : A) (xs : List A) (z : List ℕ) : Type 0 where
       pub solid : s x ≡ true
@@ -134,7 +142,8 @@ module _ {A : Type 0} (again : Bool) (f : A → List ℕ) (s : A → Bool) (d : 
       pub ends : k true z ≡ true
       pub behind : after-round j (nonempty (f x)) (flat-rounds f xs ++ z) ≡ true
 
-    pub enter : (x : A) (xs : List A) (z : List ℕ) → nonproblematic-rounds f s (x ∷ xs) ≡ true → w ≡ (f x ++ flat-rounds f xs) ++ z → k (b || nonempty (f x ++ flat-rounds f xs)) z ≡ true → Entered x xs z
+    pub enter : (x : A) (xs : List A) (z : List ℕ) → nonproblematic-rounds f s (x ∷ xs) ≡ true → w ≡ (f x ++ flat-rounds f xs) ++ z
+        → k (b || nonempty (f x ++ flat-rounds f xs)) z ≡ true → Entered x xs z
     enter x xs z ok ex hx =
         let o = full-round f s x xs ok in
         let p : nonempty (f x) ≡ true = o .full in
@@ -144,7 +153,8 @@ module _ {A : Type 0} (again : Bool) (f : A → List ℕ) (s : A → Bool) (d : 
           others = o .others;
           spells = ex ∙ append-assoc (f x) (flat-rounds f xs) z;
           ends = hy;
-          behind = after-round-yes j (nonempty (f x)) (flat-rounds f xs ++ z) p (more xs z (simp length-append (omega (arith, nonempty-pos (f x) p, simp length-append at (ap length ex)))) (o .others) hy);
+          behind = after-round-yes j (nonempty (f x)) (flat-rounds f xs ++ z) p
+              (more xs z (simp length-append (omega (arith, nonempty-pos (f x) p, simp length-append at (ap length ex)))) (o .others) hy);
         }
 
     unfoldable pub no-round : (again ≡ false → c (after-round j) false w ≡ false) → k b w ≡ true → Rounds k b w
@@ -164,7 +174,8 @@ module _ {A : Type 0} (again : Bool) (f : A → List ℕ) (s : A → Bool) (d : 
         | [] ↦ λ z ok ex hx. inr (round-before again (d (p .it) ++ code-rounds again d (q .it)) [] (λ e. not-both (ap (k b) ex ∙ (rw or-false at hx)) (o e)))
         | x ∷ xs ↦ λ z ok ex hx.
             let m = enter x xs z ok ex hx in
-            ⊎-elim (λ o. inl (λ i. o .0 i ∷ o .1 i)) (λ l. inr (before-same again (d (p .it) ++ code-rounds again d (q .it)) (d x ++ code-rounds again d xs) ∙ l))
+            ⊎-elim (λ o. inl (λ i. o .0 i ∷ o .1 i))
+            (λ l. inr (before-same again (d (p .it) ++ code-rounds again d (q .it)) (d x ++ code-rounds again d xs) ∙ l))
             (two-top d (code-rounds again d) (p .it) x (q .it) xs (p .top x (flat-rounds f xs ++ z) (m .solid) (m .spells) (m .behind))
             (λ o. q .top xs z (m .others) (same-rest f (p .it) x w (p .rest) (flat-rounds f xs ++ z) (p .spells) (m .spells) o) (m .ends)))
       ];
@@ -188,20 +199,33 @@ pub record Choice (again more stop onto : Bool) : Type 0 where
 pub choice : (again more stop : Bool) → (more || stop) ≡ true → Choice again more stop (another again more stop)
 choice false true stop h = record { round = λ e. refl; halt = λ e. absurd (true≢false e); late = λ e o. absurd (false≢true o); no-more = λ e o. e }
 choice false false stop h = record { round = λ e. e; halt = λ e. h; late = λ e o. absurd (false≢true o); no-more = λ e o. refl }
-choice true more true h = record { round = λ e. absurd (false≢true e); halt = λ e. refl; late = λ e o. absurd (false≢true e); no-more = λ e o. absurd (true≢false o) }
-choice true more false h = record { round = λ e. (rw or-false at h); halt = λ e. absurd (true≢false e); late = λ e o. refl; no-more = λ e o. absurd (true≢false o) }
+choice true more true h = record {
+  round = λ e. absurd (false≢true e);
+  halt = λ e. refl;
+  late = λ e o. absurd (false≢true e);
+  no-more = λ e o. absurd (true≢false o);
+}
+choice true more false h = record {
+  round = λ e. (rw or-false at h);
+  halt = λ e. absurd (true≢false e);
+  late = λ e o. refl;
+  no-more = λ e o. absurd (true≢false o);
+}
 
 -- what is written, whatever r writes behind it, is the code of the best
 abbrev pub Wrote : {A : Type 0} (f : A → List ℕ) (s : A → Bool) (c : A → List Bool) (e : After → Bits-after → Bits-after) → After → Bool → List ℕ → Type 0
 Wrote f s c e k b w = (p : Best f s c k b w) × ((r : Bits-after) → e k r b w ≡ c (p .it) ++ r (b || nonempty (f (p .it))) (p .rest))
 
-module _ {A : Type 0} (again : Bool) (f : A → List ℕ) (s : A → Bool) (d : A → List Bool) (c : After → After) (e : After → Bits-after → Bits-after) (one : Complete f s c) where
-  behind : (n : ℕ) (k : After) (w : List ℕ) → length w ≤ suc n → (xs : List A) (z : List ℕ) → length (flat-rounds f xs ++ z) < length w → nonproblematic-rounds f s xs ≡ true → k true z ≡ true
+module _ {A : Type 0} (again : Bool) (f : A → List ℕ) (s : A → Bool) (d : A → List Bool) (c : After → After) (e : After → Bits-after → Bits-after)
+    (one : Complete f s c) where
+  behind : (n : ℕ) (k : After) (w : List ℕ) → length w ≤ suc n → (xs : List A) (z : List ℕ) → length (flat-rounds f xs ++ z) < length w
+      → nonproblematic-rounds f s xs ≡ true → k true z ≡ true
       → can-rounds c n k true (flat-rounds f xs ++ z) ≡ true
   behind n k w le xs z lt ok h = rounds-complete f s c one n xs k true z (omega arith) ok h
 
   rounds-wrote : ((k : After) (b : Bool) (w : List ℕ) → c k b w ≡ true → Wrote f s d e k b w)
-      → (n : ℕ) (k : After) (b : Bool) (w : List ℕ) → length w ≤ n → can-rounds c n k b w ≡ true → Wrote (flat-rounds f) (nonproblematic-rounds f s) (code-rounds again d) (write-rounds again c e n) k b w
+      → (n : ℕ) (k : After) (b : Bool) (w : List ℕ) → length w ≤ n → can-rounds c n k b w ≡ true
+      → Wrote (flat-rounds f) (nonproblematic-rounds f s) (code-rounds again d) (write-rounds again c e n) k b w
   unfolding stop-best no-round round-best
   rounds-wrote best zero k b w le h = (
     stop-best again f s d c one k b w h (λ g x xs z ok ex hx.
@@ -209,19 +233,24 @@ module _ {A : Type 0} (again : Bool) (f : A → List ℕ) (s : A → Bool) (d : 
     λ r. rw or-false refl,
   )
   rounds-wrote best (suc n) k b w le h =
-      go (rounds-wrote best n) (another again (c (after-round (can-rounds c n k)) false w) (k b w)) (choice again (c (after-round (can-rounds c n k)) false w) (k b w) h)
+      go (rounds-wrote best n) (another again (c (after-round (can-rounds c n k)) false w) (k b w))
+      (choice again (c (after-round (can-rounds c n k)) false w) (k b w) h)
     where
-      go : ((k : After) (b : Bool) (w : List ℕ) → length w ≤ n → can-rounds c n k b w ≡ true → Wrote (flat-rounds f) (nonproblematic-rounds f s) (code-rounds again d) (write-rounds again c e n) k b w)
+      go : ((k : After) (b : Bool) (w : List ℕ) → length w ≤ n → can-rounds c n k b w ≡ true
+          → Wrote (flat-rounds f) (nonproblematic-rounds f s) (code-rounds again d) (write-rounds again c e n) k b w)
           → (a : Bool) → Choice again (c (after-round (can-rounds c n k)) false w) (k b w) a
           → (p : Best (flat-rounds f) (nonproblematic-rounds f s) (code-rounds again d) k b w) × ((r : Bits-after) →
-          cond a (again ∷ e (after-round (can-rounds c n k)) (λ g x. write-rounds again c e n k r true x) false w) (not again ∷ r b w) ≡ code-rounds again d (p .it) ++ r (b || nonempty (flat-rounds f (p .it))) (p .rest))
+          cond a (again ∷ e (after-round (can-rounds c n k)) (λ g x. write-rounds again c e n k r true x) false w)
+          (not again ∷ r b w) ≡ code-rounds again d (p .it) ++ r (b || nonempty (flat-rounds f (p .it))) (p .rest))
       go ih true o =
           let (p, pb) = best (after-round (can-rounds c n k)) false w (o .round refl) in
           let full : nonempty (f (p .it)) ≡ true = after-round-full (can-rounds c n k) (nonempty (f (p .it))) (p .rest) (p .goes) in
-          let (q, qb) = ih k true (p .rest) (omega (arith, nonempty-pos (f (p .it)) full, simp length-append at (ap length (p .spells)))) (after-round-on (can-rounds c n k) (nonempty (f (p .it))) (p .rest) (p .goes)) in
+          let (q, qb) = ih k true (p .rest) (omega (arith, nonempty-pos (f (p .it)) full, simp length-append at (ap length (p .spells))))
+          (after-round-on (can-rounds c n k) (nonempty (f (p .it))) (p .rest) (p .goes)) in
           let flag : (b || nonempty (f (p .it) ++ flat-rounds f (q .it))) ≡ true = simp (nonempty-append, full, or-true) in (
             round-best again f s d c one k b w (can-rounds c n k) (behind n k w le) (o .late refl) p q,
-            λ r. ap (λ l. again ∷ l) (rw flag (glue (d (p .it)) (code-rounds again d (q .it)) (r true (q .rest)) (pb (λ g x. write-rounds again c e n k r true x)) (qb r))),
+            λ r. ap (λ l. again ∷ l) (rw flag
+                (glue (d (p .it)) (code-rounds again d (q .it)) (r true (q .rest)) (pb (λ g x. write-rounds again c e n k r true x)) (qb r))),
           )
       go ih false o = (no-round again f s d c one k b w (can-rounds c n k) (behind n k w le) (o .no-more refl) (o .halt refl), λ r. rw or-false refl)
 
@@ -241,20 +270,26 @@ wrote (seq m t u) k b w h =
     )
 wrote (alt l t u) k b w h = go (wrote t k b w) (wrote u k b w) (can t k b w) refl h
   where
-    go : (can t k b w ≡ true → Wrote (flat t) (nonproblematic t) (code t) (write t) k b w) → (can u k b w ≡ true → Wrote (flat u) (nonproblematic u) (code u) (write u) k b w)
+    go : (can t k b w ≡ true → Wrote (flat t) (nonproblematic t) (code t) (write t) k b w)
+        → (can u k b w ≡ true → Wrote (flat u) (nonproblematic u) (code u) (write u) k b w)
         → (a : Bool) → can t k b w ≡ a → (a || can u k b w) ≡ true
-        → (p : BestOf (alt l t u) k b w) × ((r : Bits-after) → cond a (false ∷ write t k r b w) (true ∷ write u k r b w) ≡ code (alt l t u) (p .it) ++ r (b || nonempty (flat (alt l t u) (p .it))) (p .rest))
+        → (p : BestOf (alt l t u) k b w) × ((r : Bits-after)
+        → cond a (false ∷ write t k r b w) (true ∷ write u k r b w) ≡ code (alt l t u) (p .it) ++ r (b || nonempty (flat (alt l t u) (p .it))) (p .rest))
     go m n true e h = let (p, pb) = m e in (left-best l t u k b w p, λ r. ap (λ z. false ∷ z) (pb r))
     go m n false e h = let (p, pb) = n h in (right-best l t u k b w e p, λ r. ap (λ z. true ∷ z) (pb r))
-wrote (star m again t) k b w h = rounds-wrote again (flat t) (nonproblematic t) (code t) (can t) (write t) (complete t) (wrote t) (suc (length w)) k b w (omega arith) h
+wrote (star m again t) k b w h = rounds-wrote again (flat t) (nonproblematic t) (code t) (can t) (write t) (complete t) (wrote t)
+    (suc (length w)) k b w (omega arith) h
 
 pub best : (t : Tree) (k : After) (b : Bool) (w : List ℕ) → can t k b w ≡ true → BestOf t k b w
 best t k b w h = (wrote t k b w h) .0
 
 -- ── a round and the stop with no fuel in them ──
 module _ (m : Label) (again : Bool) (t : Tree) (k : After) (b : Bool) (w : List ℕ) where
-  unfoldable pub star-round : (again ≡ true → k b w ≡ false) → (p : BestOf t (after-round (can (star m again t) k)) false w) → BestOf (star m again t) k true (p .rest) → BestOf (star m again t) k b w
-  star-round o p q = round-best again (flat t) (nonproblematic t) (code t) (can t) (complete t) k b w (can (star m again t) k) (λ xs z lt ok h. complete (star m again t) xs k true z ok h) o p q
+  unfoldable pub star-round : (again ≡ true → k b w ≡ false) → (p : BestOf t (after-round (can (star m again t) k)) false w)
+      → BestOf (star m again t) k true (p .rest) → BestOf (star m again t) k b w
+  star-round o p q = round-best again (flat t) (nonproblematic t) (code t) (can t) (complete t) k b w (can (star m again t) k)
+      (λ xs z lt ok h. complete (star m again t) xs k true z ok h) o p q
 
   unfoldable pub star-stop : (again ≡ false → can t (after-round (can (star m again t) k)) false w ≡ false) → k b w ≡ true → BestOf (star m again t) k b w
-  star-stop o h = no-round again (flat t) (nonproblematic t) (code t) (can t) (complete t) k b w (can (star m again t) k) (λ xs z lt ok h. complete (star m again t) xs k true z ok h) o h
+  star-stop o h = no-round again (flat t) (nonproblematic t) (code t) (can t) (complete t) k b w (can (star m again t) k)
+      (λ xs z lt ok h. complete (star m again t) xs k true z ok h) o h

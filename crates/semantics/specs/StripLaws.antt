@@ -19,7 +19,8 @@ empty [] e = refl
 empty (x ∷ s) e = absurd (true≢false e)
 
 module _ {A : Type 0} (f : A → List ℕ) (g : A → A) (keeps : (v : A) → f (g v) ≡ f v) where
-  keep-flat : (v : A) (xs vs : List A) → flat-rounds f xs ≡ flat-rounds f vs → (b : Bool) → nonempty (f v) ≡ b → flat-rounds f (keep b (g v) xs) ≡ f v ++ flat-rounds f vs
+  keep-flat : (v : A) (xs vs : List A) → flat-rounds f xs ≡ flat-rounds f vs → (b : Bool) → nonempty (f v) ≡ b
+      → flat-rounds f (keep b (g v) xs) ≡ f v ++ flat-rounds f vs
   keep-flat v xs vs h true e = ap₂ (λ a b. a ++ b) (keeps v) h
   keep-flat v xs vs h false e = rw (empty (f v) e) h
 
@@ -28,7 +29,8 @@ module _ {A : Type 0} (f : A → List ℕ) (g : A → A) (keeps : (v : A) → f 
   strip-rounds-flat (v ∷ vs) = keep-flat v (strip-rounds f g vs) vs (strip-rounds-flat vs) (nonempty (f v)) refl
 
   module _ (s : A → Bool) (solid : (v : A) → s (g v) ≡ true) where
-    keep-nonproblematic : (v : A) (xs : List A) → nonproblematic-rounds f s xs ≡ true → (b : Bool) → nonempty (f v) ≡ b → nonproblematic-rounds f s (keep b (g v) xs) ≡ true
+    keep-nonproblematic : (v : A) (xs : List A) → nonproblematic-rounds f s xs ≡ true → (b : Bool) → nonempty (f v) ≡ b
+        → nonproblematic-rounds f s (keep b (g v) xs) ≡ true
     keep-nonproblematic v xs h true e = and-intro (and-intro (ap nonempty (keeps v) ∙ e) (solid v)) h
     keep-nonproblematic v xs h false e = h
 
@@ -37,7 +39,8 @@ module _ {A : Type 0} (f : A → List ℕ) (g : A → A) (keeps : (v : A) → f 
     strip-rounds-nonproblematic (v ∷ vs) = keep-nonproblematic v (strip-rounds f g vs) (strip-rounds-nonproblematic vs) (nonempty (f v)) refl
 
   module _ (again : Bool) (c : A → List Bool) (short : (v : A) → length (c (g v)) ≤ length (c v)) where
-    keep-short : (v : A) (xs vs : List A) → length (code-rounds again c xs) ≤ length (code-rounds again c vs) → (b : Bool) → length (code-rounds again c (keep b (g v) xs)) ≤ length (code-rounds again c (v ∷ vs))
+    keep-short : (v : A) (xs vs : List A) → length (code-rounds again c xs) ≤ length (code-rounds again c vs) → (b : Bool)
+        → length (code-rounds again c (keep b (g v) xs)) ≤ length (code-rounds again c (v ∷ vs))
     keep-short v xs vs h true = simp length-append (omega (arith, short v))
     keep-short v xs vs h false = simp length-append (omega arith)
 
@@ -73,16 +76,20 @@ strip-short (alt m t u) (inr v) = omega (arith, strip-short u v)
 strip-short (star m again t) vs = strip-rounds-short (flat t) (strip t) (strip-flat t) again (code t) (strip-short t) vs
 
 -- what holds an empty iteration gets shorter
-module _ {A : Type 0} (again : Bool) (f : A → List ℕ) (g : A → A) (s : A → Bool) (c : A → List Bool) (keeps : (v : A) → f (g v) ≡ f v) (short : (v : A) → length (c (g v)) ≤ length (c v))
+module _ {A : Type 0} (again : Bool) (f : A → List ℕ) (g : A → A) (s : A → Bool) (c : A → List Bool) (keeps : (v : A) → f (g v) ≡ f v)
+    (short : (v : A) → length (c (g v)) ≤ length (c v))
     (shorter : (v : A) → s v ≡ false → length (c (g v)) < length (c v)) where
-  keep-shorter : (v : A) (vs : List A) → (nonproblematic-rounds f s vs ≡ false → length (code-rounds again c (strip-rounds f g vs)) < length (code-rounds again c vs))
-      → (b a d : Bool) → s v ≡ a → nonproblematic-rounds f s vs ≡ d → ((b && a) && d) ≡ false → length (code-rounds again c (keep b (g v) (strip-rounds f g vs))) < length (code-rounds again c (v ∷ vs))
+  keep-shorter : (v : A) (vs : List A)
+      → (nonproblematic-rounds f s vs ≡ false → length (code-rounds again c (strip-rounds f g vs)) < length (code-rounds again c vs))
+      → (b a d : Bool) → s v ≡ a → nonproblematic-rounds f s vs ≡ d → ((b && a) && d) ≡ false
+      → length (code-rounds again c (keep b (g v) (strip-rounds f g vs))) < length (code-rounds again c (v ∷ vs))
   keep-shorter v vs ih true true true p q h = absurd (true≢false h)
   keep-shorter v vs ih true true false p q h = simp length-append (omega (arith, short v, ih q))
   keep-shorter v vs ih true false d p q h = simp length-append (omega (arith, shorter v p, strip-rounds-short f g keeps again c short vs))
   keep-shorter v vs ih false a d p q h = simp length-append (omega (arith, strip-rounds-short f g keeps again c short vs))
 
-  strip-rounds-shorter : (vs : List A) → nonproblematic-rounds f s vs ≡ false → length (code-rounds again c (strip-rounds f g vs)) < length (code-rounds again c vs)
+  strip-rounds-shorter : (vs : List A) → nonproblematic-rounds f s vs ≡ false
+      → length (code-rounds again c (strip-rounds f g vs)) < length (code-rounds again c vs)
   strip-rounds-shorter [] h = absurd (true≢false h)
   strip-rounds-shorter (v ∷ vs) h = keep-shorter v vs (strip-rounds-shorter vs) (nonempty (f v)) (s v) (nonproblematic-rounds f s vs) refl refl h
 
@@ -99,10 +106,12 @@ strip-shorter (seq m t u) v h = simp length-append (⊎-elim
     (λ p. omega (arith, strip-short t (v .0), strip-shorter u (v .1) p)) (and-false (nonproblematic t (v .0)) (nonproblematic u (v .1)) h))
 strip-shorter (alt m t u) (inl v) h = omega (arith, strip-shorter t v h)
 strip-shorter (alt m t u) (inr v) h = omega (arith, strip-shorter u v h)
-strip-shorter (star m again t) vs h = strip-rounds-shorter again (flat t) (strip t) (nonproblematic t) (code t) (strip-flat t) (strip-short t) (strip-shorter t) vs h
+strip-shorter (star m again t) vs h = strip-rounds-shorter again (flat t) (strip t) (nonproblematic t) (code t) (strip-flat t) (strip-short t)
+    (strip-shorter t) vs h
 
 -- a value without an empty iteration stays as it is
-strip-rounds-self : {A : Type 0} (f : A → List ℕ) (g : A → A) (s : A → Bool) → ((v : A) → s v ≡ true → g v ≡ v) → (vs : List A) → nonproblematic-rounds f s vs ≡ true → strip-rounds f g vs ≡ vs
+strip-rounds-self : {A : Type 0} (f : A → List ℕ) (g : A → A) (s : A → Bool) → ((v : A) → s v ≡ true → g v ≡ v) → (vs : List A)
+    → nonproblematic-rounds f s vs ≡ true → strip-rounds f g vs ≡ vs
 strip-rounds-self f g s one [] h = refl
 strip-rounds-self f g s one (v ∷ vs) h =
     let o = full-round f s v vs h in
@@ -113,7 +122,8 @@ strip-self (nothing m) v h = refl
 strip-self (letter m c) v h = refl
 strip-self (range m low high) v h = refl
 strip-self (seq m t u) v h =
-    ap₂ (λ x y. (x, y)) (strip-self t (v .0) (and-fst (nonproblematic t (v .0)) (nonproblematic u (v .1)) h)) (strip-self u (v .1) (and-snd (nonproblematic t (v .0)) (nonproblematic u (v .1)) h))
+    ap₂ (λ x y. (x, y)) (strip-self t (v .0) (and-fst (nonproblematic t (v .0)) (nonproblematic u (v .1)) h))
+    (strip-self u (v .1) (and-snd (nonproblematic t (v .0)) (nonproblematic u (v .1)) h))
 strip-self (alt m t u) (inl v) h = ap inl (strip-self t v h)
 strip-self (alt m t u) (inr v) h = ap inr (strip-self u v h)
 strip-self (star m again t) vs h = strip-rounds-self (flat t) (strip t) (nonproblematic t) (strip-self t) vs h

@@ -54,7 +54,8 @@ another true more stop = not stop
 abbrev pub write-rounds : (again : Bool) → (After → After) → (After → Bits-after → Bits-after) → (most : ℕ) → After → Bits-after → Bits-after
 write-rounds again c e zero k r b w = not again ∷ r b w
 write-rounds again c e (suc n) k r b w =
-    cond (another again (c (after-round (can-rounds c n k)) false w) (k b w)) (again ∷ e (after-round (can-rounds c n k)) (λ g x. write-rounds again c e n k r true x) false w) (not again ∷ r b w)
+    cond (another again (c (after-round (can-rounds c n k)) false w) (k b w))
+    (again ∷ e (after-round (can-rounds c n k)) (λ g x. write-rounds again c e n k r true x) false w) (not again ∷ r b w)
 
 -- the second sweep: the bits of the node's value, then those that r gives for what follows
 abbrev pub write : Tree → After → Bits-after → Bits-after

@@ -8,7 +8,8 @@ use Prim.Native.Nat.{ℕ}
 use Rattle.syntax.specs.Letter.{in-range}
 use Rattle.syntax.specs.Tree.{Tree, nothing, letter, range, seq, alt, star}
 
--- 01: "A reading is a value of 001, section 2: `E` reads no letter, `L` its letter, `R` a letter of the range, `S` a pair, `A` a marked side, `K` a list of rounds."
+-- 01: "A reading is a value of 001, section 2: `E` reads no letter, `L` its letter, `R` a letter of the range, `S` a pair, `A` a marked
+-- side, `K` a list of rounds."
 -- The value of a letter is the letter, so that there is nothing to choose: one value.
 abbrev pub Value : Tree → Type 0
 Value (nothing m) = Unit {0}

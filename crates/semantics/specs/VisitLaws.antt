@@ -42,7 +42,8 @@ pub record Sits {A : Type 0} (w s : List A) (i : ℕ) : Type 0 where
 
 module _ {A : Type 0} where
   sits-cut : {w s : List A} {i : ℕ} → Sits w s i → take (length s) (drop i w) ≡ s
-  sits-cut {w} {s} {i} p = ap (λ x. take (length s) (drop i x)) (p .whole) ∙ ap (take (length s)) (drop-at (p .pre) (s ++ p .post) i (p .here)) ∙ take-append-seam s (p .post)
+  sits-cut {w} {s} {i} p = ap (λ x. take (length s) (drop i x)) (p .whole) ∙ ap (take (length s)) (drop-at (p .pre) (s ++ p .post) i (p .here))
+      ∙ take-append-seam s (p .post)
 
   sits-fits : {w s : List A} {i : ℕ} → Sits w s i → i + length s ≤ length w
   sits-fits {w} {s} {i} p = omega (arith, p .here, simp length-append at (ap length (p .whole)))
@@ -51,7 +52,12 @@ module _ {A : Type 0} where
   sits-left a b p = record { pre = p .pre; post = b ++ p .post; whole = p .whole ∙ ap (λ x. p .pre ++ x) (append-assoc a b (p .post)); here = p .here }
 
   sits-right : {w : List A} (a b : List A) {i : ℕ} → Sits w (a ++ b) i → Sits w b (i + length a)
-  sits-right a b {i} p = record { pre = p .pre ++ a; post = p .post; whole = p .whole ∙ simp append-assoc; here = rw length-append (ap (λ x. x + length a) (p .here)) }
+  sits-right a b {i} p = record {
+    pre = p .pre ++ a;
+    post = p .post;
+    whole = p .whole ∙ simp append-assoc;
+    here = rw length-append (ap (λ x. x + length a) (p .here));
+  }
 
 module _ (root : Tree) (w : List ℕ) where
   abbrev Shown : {A : Type 0} → (A → List ℕ) → (A → ℕ → List Visit) → A → Type 0
@@ -92,7 +98,8 @@ at-all : (P : Visit → Type 0) (l : ℕ) (xs : List Visit) → All P xs → All
 at-all P l [] h = tt
 at-all P l (x ∷ xs) h = go (at-all P l xs (h .1)) (eqb (x .index) l) refl
   where
-    go : All (λ x. P x × (x .index ≡ l)) (visits-at l xs) → (b : Bool) → eqb (x .index) l ≡ b → All (λ x. P x × (x .index ≡ l)) (cond b (x ∷ visits-at l xs) (visits-at l xs))
+    go : All (λ x. P x × (x .index ≡ l)) (visits-at l xs) → (b : Bool) → eqb (x .index) l ≡ b
+        → All (λ x. P x × (x .index ≡ l)) (cond b (x ∷ visits-at l xs) (visits-at l xs))
     go ih true e = ((h .0, eqb-eq (x .index) l e), ih)
     go ih false e = ih
 

@@ -5,36 +5,22 @@ use mathlib.Core.Option.{none, some, Option·none-ne-some, Option·some-injectiv
 use mathlib.Core.List.{List}
 use Prim.Native.Nat.{ℕ, _+_, _*_, _-_, _≤_, _<_}
 use native.Mathlib.Omega.{arith}
-use lib.ListN.{length, getD, drop}
+use lib.ListN.{length, drop}
 use Rattle.syntax.specs.declared.Leaf.{Leaf}
 use Rattle.syntax.specs.declared.Leaf.the-variants.{Nothing, Letter, Range}
 use Rattle.syntax.specs.declared.Node.the-variants.{Leaf as Leaf-node}
 use Rattle.syntax.specs.Letter.{in-range}
 use Rattle.syntax.specs.Tree.{Label, Tree, nothing, letter, range, seq, alt, star}
 use Rattle.syntax.specs.Trees.{made}
-use Rattle.bits.specs.Bits.{bit-at, held}
+use Rattle.bits.specs.Bits.{bit-at, number-at, held}
 use Rattle.semantics.specs.Value.{flat}
 use Rattle.semantics.specs.Visits.{visits}
 use Rattle.semantics.specs.Decode.{Read, read}
-use Rattle.semantics.specs.Positions.{Seen, see, seen, joined, and-then, number-at}
-use Rattle.semantics.specs.PositionLaws.{
-  see-stays,
-  see-as,
-  see-nothing,
-  see-letter,
-  see-short,
-  see-range,
-  see-outside,
-  see-seq,
-  see-alt-none,
-  see-left,
-  see-right,
-  see-star-none,
-  see-stop,
-  see-round,
-}
+use Rattle.semantics.specs.Positions.{Seen, see, seen, joined, and-then}
+use Rattle.semantics.specs.PositionLaws.{see-as}
 use Rattle.spans.specs.declared.find.Step.{Step}
-use Rattle.walks.specs.Handed.{held-length, held-bit}
+use Rattle.walks.specs.Looks.{look-stays, look-nothing, look-letter, look-short, look-range, look-outside, look-seq, look-alt-none, look-left}
+use Rattle.walks.specs.Looks.{look-right, look-star-none, look-stop, look-round}
 use Rattle.spans.specs.Traces.{Trace, letters-trace, trace-then, own, rounds-trace, rounds-visits, trace, trace-visits, trace-at, rounds-at, own-seen}
 
 -- what is seen is there
@@ -88,43 +74,37 @@ module _ (code : List ℕ) (count : ℕ) (fit : count ≤ length code * 8) where
   abbrev bs : List Bool
   bs = held 8 code count
 
-  many : length (held 8 code count) ≡ count
-  many = held-length code count fit
-
   pub trace-stays : (t : Tree) (at : ℕ) → at ≤ count → (f : Trace) (j : ℕ) → trace-at code count t at ≡ some (f, j) → (at ≤ j) × (j ≤ count)
   unfolding trace-at
-  trace-stays t at le f j e = let k = many in let h = see-stays bs t (trace t) at (omega arith) f j e in (h .0, omega arith)
+  trace-stays t at le f j e = look-stays code count fit t (trace t) at le f j e
 
   pub trace-seq : {t u v : Tree} {m : Label} → t ≡ seq m u v → (at : ℕ) → at ≤ count
       → trace-at code count t at ≡ own-seen (m .index) (and-then trace-then (trace-at code count u at) (trace-at code count v))
   unfolding trace-at
   trace-seq {t} {u} {v} {m} e at le =
-      let k = many in
       let l = m .index in
       ap (λ z. trace-at code count z at) e
-      ∙ see-seq bs (λ x y. own l (trace-then x y)) m u v (trace (seq m u v)) (trace u) (trace v) (λ x y. refl) at (omega arith)
+      ∙ look-seq code count fit (λ x y. own l (trace-then x y)) m u v (trace (seq m u v)) (trace u) (trace v) (λ x y. refl) at le
       ∙ own-then l (trace-at code count u at) (trace-at code count v)
 
   module _ {t u v : Tree} {m : Label} (e : t ≡ alt m u v) (at : ℕ) where
     pub trace-alt-none : count ≤ at → trace-at code count t at ≡ none
     unfolding trace-at
-    trace-alt-none h =
-        let k = many in
-        ap (λ z. trace-at code count z at) e ∙ see-alt-none bs m u v (trace (alt m u v)) at (omega arith)
+    trace-alt-none h = ap (λ z. trace-at code count z at) e ∙ look-alt-none code count fit m u v (trace (alt m u v)) at h
 
     pub trace-side : at < count → trace-at code count t at ≡ own-seen (m .index) (trace-at code count (cond (bit-at 8 code at) v u) (at + 1))
     unfolding trace-at
-    trace-side h = let k = many in ap (λ z. trace-at code count z at) e ∙ go (omega arith) (bit-at 8 code at) (held-bit code count fit at h)
+    trace-side h = ap (λ z. trace-at code count z at) e ∙ go (bit-at 8 code at) refl
       where
         one : (w : Tree) → see bs w (λ x. own (m .index) (trace w x)) (at + 1) ≡ own-seen (m .index) (see bs w (trace w) (at + 1))
         one w =
             see-as bs w (trace w) (λ x. own (m .index) (trace w x)) (own (m .index)) (λ x. refl) (at + 1)
             ∙ own-elim (m .index) (see bs w (trace w) (at + 1))
 
-        go : at < length bs → (b : Bool) → getD bs at false ≡ b
+        go : (b : Bool) → bit-at 8 code at ≡ b
             → see bs (alt m u v) (trace (alt m u v)) at ≡ own-seen (m .index) (see bs (cond b v u) (trace (cond b v u)) (at + 1))
-        go k true q = see-right bs m u v (trace (alt m u v)) at k q ∙ one v
-        go k false q = see-left bs m u v (trace (alt m u v)) at k q ∙ one u
+        go true q = look-right code count fit m u v (trace (alt m u v)) at h q ∙ one v
+        go false q = look-left code count fit m u v (trace (alt m u v)) at h q ∙ one u
 
   pub trace-star : {t u : Tree} {m : Label} {again : Bool} → t ≡ star m again u → (at : ℕ)
       → trace-at code count t at ≡ own-seen (m .index) (rounds-at code count m again u at)
@@ -139,21 +119,17 @@ module _ (code : List ℕ) (count : ℕ) (fit : count ≤ length code * 8) where
   module _ (m : Label) (again : Bool) (u : Tree) (at : ℕ) where
     pub rounds-none : count ≤ at → rounds-at code count m again u at ≡ none
     unfolding rounds-at
-    rounds-none h = let k = many in see-star-none bs m again u (rounds-trace (trace u)) at (omega arith)
+    rounds-none h = look-star-none code count fit m again u (rounds-trace (trace u)) at h
 
     pub rounds-stop : at < count → (b : Bool) → b ≡ bit-at 8 code at → b ≡ not again → rounds-at code count m again u at ≡ some (letters-trace 0, at + 1)
     unfolding rounds-at
-    rounds-stop h b eb z =
-        let k = many in
-        see-stop bs m again u (rounds-trace (trace u)) at (omega arith) (held-bit code count fit at h ∙ sym eb ∙ z)
+    rounds-stop h b eb z = look-stop code count fit m again u (rounds-trace (trace u)) at h (sym eb ∙ z)
 
     pub rounds-more : at < count → (b : Bool) → b ≡ bit-at 8 code at → b ≡ again
         → rounds-at code count m again u at ≡ and-then trace-then (trace-at code count u (at + 1)) (rounds-at code count m again u)
     unfolding rounds-at trace-at
     rounds-more h b eb z =
-        let k = many in
-        see-round bs m again u (rounds-trace (trace u)) at trace-then (trace u) (rounds-trace (trace u)) (λ v vs. refl)
-        (omega arith) (held-bit code count fit at h ∙ sym eb ∙ z)
+        look-round code count fit m again u (rounds-trace (trace u)) at trace-then (trace u) (rounds-trace (trace u)) (λ v vs. refl) h (sym eb ∙ z)
 
   -- a leaf that is there takes its bits and spells its letters
   module _ (m : Label) (g : ℕ → Tree) (at : ℕ) (le : at ≤ count) where
@@ -164,25 +140,22 @@ module _ (code : List ℕ) (count : ℕ) (fit : count ≤ length code * 8) where
     leaf-steps : (x : Leaf) → (trace-at code count (made m g (Leaf-node x)) at ≡ none → ⊥) → Steps x
     unfolding trace-at
     leaf-steps Nothing there =
-        let k = many in
         let z : at ≡ at + 0 = omega arith in
-        (omega arith, see-nothing bs m at (trace (nothing m)) (omega arith) ∙ ap (λ j. some (own (m .index) (letters-trace 0), j)) z)
+        (omega arith, look-nothing code count fit m at (trace (nothing m)) le ∙ ap (λ j. some (own (m .index) (letters-trace 0), j)) z)
     leaf-steps (Letter c) there =
-        let k = many in
         let z : at ≡ at + 0 = omega arith in
-        (omega arith, see-letter bs m at c (trace (letter m c)) (omega arith) ∙ ap (λ j. some (own (m .index) (letters-trace 1), j)) z)
-    leaf-steps (Range a b) there = (long, go (in-range a b (number-at bs at 8)) refl)
+        (omega arith, look-letter code count fit m at c (trace (letter m c)) le ∙ ap (λ j. some (own (m .index) (letters-trace 1), j)) z)
+    leaf-steps (Range a b) there = (long, go (in-range a b (number-at 8 code at 8)) refl)
       where
         long : at + 8 ≤ count
         long =
-            let k = many in
-            let h : count < at + 8 → ⊥ = λ h. there (see-short bs m a b (trace (range m a b)) at (omega arith)) in
+            let h : count < at + 8 → ⊥ = λ h. there (look-short code count fit m a b (trace (range m a b)) at h) in
             omega arith
 
-        go : (b' : Bool) → in-range a b (number-at bs at 8) ≡ b'
+        go : (b' : Bool) → in-range a b (number-at 8 code at 8) ≡ b'
             → see bs (range m a b) (trace (range m a b)) at ≡ some (own (m .index) (letters-trace 1), at + 8)
-        go true q = let k = many in see-range bs m a b (trace (range m a b)) at (omega (arith, long)) q
-        go false q = let k = many in absurd (there (see-outside bs m a b (trace (range m a b)) at (omega (arith, long)) q))
+        go true q = look-range code count fit m a b (trace (range m a b)) at (number-at 8 code at 8) long refl q
+        go false q = absurd (there (look-outside code count fit m a b (trace (range m a b)) at (number-at 8 code at 8) long refl q))
 
     pub trace-leaf : {t : Tree} (x : Leaf) → t ≡ made m g (Leaf-node x) → (f : Trace) (j : ℕ) → trace-at code count t at ≡ some (f, j)
         → (at + step-of x .bits ≤ count) × (trace-at code count t at ≡ own-seen (m .index) (some (letters-trace (step-of x .letters), at + step-of x .bits)))

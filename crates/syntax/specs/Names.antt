@@ -39,7 +39,8 @@ module _ (i : ℕ) (m : List Bool) (q : ℕ) where
   unfolding name-one
   one-all = go (ltb q i && not (getD m q false))
     where
-      go : (b : Bool) → cond b (naming true (set m q true)) (naming false m) ≡ name-next (λ n. naming true n) (cond b (naming true (set m q true)) (naming false m))
+      go : (b : Bool) → cond b (naming true (set m q true)) (naming false m) ≡ name-next (λ n. naming true n)
+          (cond b (naming true (set m q true)) (naming false m))
       go true = refl
       go false = refl
 
@@ -117,7 +118,8 @@ module _ (p : Pattern) (named : List Bool) (i : ℕ) (s : Named-so-far p named i
   module _ (l : i < p .count) (few : p .count ≤ 64) (r : Naming) (e : r ≡ name-all i named (parts (node-at p i))) where
     verdict : r .ok ≡ not (wrongly-names p i)
     unfolding wrongly-names
-    verdict = ap (λ x. x .ok) e ∙ told (parts (node-at p i)) i named (named-below p i) (omega arith) (s .flags) .ok-is ∙ sym (twice (rightly-named i (named-below p i) (parts (node-at p i))))
+    verdict = ap (λ x. x .ok) e ∙ told (parts (node-at p i)) i named (named-below p i) (omega arith) (s .flags) .ok-is
+        ∙ sym (twice (rightly-named i (named-below p i) (parts (node-at p i))))
       where
         twice : (b : Bool) → not (not b) ≡ b
         twice true = refl

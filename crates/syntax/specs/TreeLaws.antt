@@ -19,7 +19,8 @@ use Rattle.syntax.specs.declared.Line.{Line}
 use Rattle.syntax.specs.declared.Pattern.{Pattern}
 use Rattle.syntax.specs.Bools.{and-fst, and-snd, and-intro}
 use Rattle.syntax.specs.Tree.{Label, Tree, nothing, letter, range, seq, alt, star, index}
-use Rattle.syntax.specs.Table.{line-at, node-at, line-good, badly-formed, parts, named-below, member, rightly-named, wrongly-names, unnamed, lowest, or-else, tree-fault, is-none, obeys}
+use Rattle.syntax.specs.Table.{line-at, node-at, line-good, badly-formed, parts, named-below, member, rightly-named, wrongly-names, unnamed}
+use Rattle.syntax.specs.Table.{lowest, or-else, tree-fault, is-none, obeys}
 use Rattle.syntax.specs.Trees.{made, unplanted, plant, trees, tree-of, root}
 use Rattle.syntax.specs.Lowest.{lowest-none, none-lowest}
 
@@ -160,19 +161,23 @@ module _ (p : Pattern) where
   unfolding tree-fault unnamed
   faultless h = go (lowest (wrongly-names p) 0 (p .count)) refl (lowest (unnamed p) 0 (p .count - 1)) refl h
     where
-      go : (x : Option ℕ) → lowest (wrongly-names p) 0 (p .count) ≡ x → (y : Option ℕ) → lowest (unnamed p) 0 (p .count - 1) ≡ y → or-else x y ≡ none → Tree-rules
+      go : (x : Option ℕ) → lowest (wrongly-names p) 0 (p .count) ≡ x → (y : Option ℕ) → lowest (unnamed p) 0 (p .count - 1) ≡ y → or-else x y ≡ none
+          → Tree-rules
       go (some x) ex y ey h = absurd (Option·some-ne-none x h)
       go none ex (some y) ey h = absurd (Option·some-ne-none y h)
       go none ex none ey h =
           let w : (i : ℕ) → i < p .count → wrongly-names p i ≡ false = λ i l. lowest-none (wrongly-names p) (p .count) 0 ex i (omega arith) (omega arith) in
           record {
-            lower = λ i l. below-parts i (node-at p i) (rightly-sound (parts (node-at p i)) (named-below p i) i (not-wrong i (w i l)) (named-once w i (omega arith)) .0);
+            lower = λ i l. below-parts i (node-at p i)
+                (rightly-sound (parts (node-at p i)) (named-below p i) i (not-wrong i (w i l)) (named-once w i (omega arith)) .0);
             once = λ l k.
                 let u : not (member l (named-below p (p .count))) ≡ false = lowest-none (unnamed p) (p .count - 1) 0 ey l (omega arith) (omega arith) in
-                exactly l (times l (named-below p (p .count))) refl (not-false (member l (named-below p (p .count))) u) (named-once w (p .count) (omega arith) l);
+                exactly l (times l (named-below p (p .count))) refl (not-false (member l (named-below p (p .count))) u)
+                (named-once w (p .count) (omega arith) l);
           }
         where
-          exactly : (l n : ℕ) → times l (named-below p (p .count)) ≡ n → member l (named-below p (p .count)) ≡ true → times l (named-below p (p .count)) ≤ 1 → n ≡ 1
+          exactly : (l n : ℕ) → times l (named-below p (p .count)) ≡ n → member l (named-below p (p .count)) ≡ true
+              → times l (named-below p (p .count)) ≤ 1 → n ≡ 1
           exactly l zero e m k = absurd (true≢false (sym m ∙ times-member l (named-below p (p .count)) e))
           exactly l (suc n) e m k = omega arith
 
@@ -181,7 +186,8 @@ module _ (p : Pattern) where
   fault-free one r =
       ap₂ or-else
       (none-lowest (wrongly-names p) (p .count) 0
-      (λ i a b. right i (rightly-complete (parts (node-at p i)) (named-below p i) i (parts-below i (node-at p i) (r .lower i (omega arith))) (λ l. part i l (omega arith)))))
+      (λ i a b. right i (rightly-complete (parts (node-at p i)) (named-below p i) i (parts-below i (node-at p i) (r .lower i (omega arith)))
+      (λ l. part i l (omega arith)))))
       (none-lowest (unnamed p) (p .count - 1) 0 (λ l a b. ap not (named l (r .once l (omega arith)))))
     where
       most : (l : ℕ) → Dec (suc l < p .count) → times l (named-below p (p .count)) ≤ 1
@@ -242,9 +248,11 @@ module _ (f : ℕ → Line) where
   trees-at zero q h = absurd (omega arith)
   trees-at (suc n) q h = go (trees-at n q) (decLt q n)
     where
-      go : (q < n → getD (trees f n) q unplanted ≡ plant f (trees f q) q) → Dec (q < n) → getD (trees f n ++ (plant f (trees f n) n ∷ [])) q unplanted ≡ plant f (trees f q) q
+      go : (q < n → getD (trees f n) q unplanted ≡ plant f (trees f q) q) → Dec (q < n)
+          → getD (trees f n ++ (plant f (trees f n) n ∷ [])) q unplanted ≡ plant f (trees f q) q
       go ih (yes l) = List·getD-append (trees f n) (plant f (trees f n) n ∷ []) unplanted q (omega (arith, length-trees n)) ∙ ih l
-      go ih (no l) = let e : n ≡ q = omega arith in getD-at (trees f n) (plant f (trees f n) n) [] unplanted q (length-trees n ∙ e) ∙ ap (λ k. plant f (trees f k) k) e
+      go ih (no l) = let e : n ≡ q = omega arith in getD-at (trees f n) (plant f (trees f n) n) [] unplanted q (length-trees n ∙ e)
+          ∙ ap (λ k. plant f (trees f k) k) e
 
 made-same : (m : Label) (t u : ℕ → Tree) (l : ℕ) (k : Node) → Below l k → ((i : ℕ) → i < l → t i ≡ u i) → made m t k ≡ made m u k
 made-same m t u l (Leaf-node Nothing) h e = refl
@@ -266,13 +274,15 @@ made-index m f (Star p) = refl
 -- the tree of a line is its node over the trees of its parts
 pub tree-line : (f : ℕ → Line) (l : ℕ) → Below l (f l .node) → tree-of f l ≡ made (record { index = l; account = f l .account }) (tree-of f) (f l .node)
 unfolding tree-of
-tree-line f l h = made-same (record { index = l; account = f l .account }) (λ q. getD (trees f l) q unplanted) (tree-of f) l (f l .node) h (λ i k. trees-at f l i k)
+tree-line f l h = made-same (record { index = l; account = f l .account }) (λ q. getD (trees f l) q unplanted) (tree-of f) l (f l .node) h
+    (λ i k. trees-at f l i k)
 
 -- lines that are the same below n have the same trees there
 trees-same : (f g : ℕ → Line) (n : ℕ) → ((l : ℕ) → l < n → f l ≡ g l) → trees f n ≡ trees g n
 trees-same f g zero h = refl
 trees-same f g (suc n) h =
-    ap₂ (λ ts x. ts ++ (made (record { index = n; account = x .account }) (λ q. getD ts q unplanted) (x .node) ∷ [])) (trees-same f g n (λ l k. h l (omega arith))) (h n (omega arith))
+    ap₂ (λ ts x. ts ++ (made (record { index = n; account = x .account }) (λ q. getD ts q unplanted) (x .node) ∷ []))
+    (trees-same f g n (λ l k. h l (omega arith))) (h n (omega arith))
 
 pub tree-same : (f g : ℕ → Line) (n : ℕ) → ((l : ℕ) → l < n → f l ≡ g l) → (l : ℕ) → l < n → tree-of f l ≡ tree-of g l
 unfolding tree-of
@@ -318,7 +328,8 @@ pub sum-only : (n x : ℕ) (f : ℕ → ℕ) → sum-to n (λ i. bit (eqb x i) *
 sum-only zero x f = rw (le-ltb x 0 (omega arith)) (omega arith)
 sum-only (suc n) x f = go (sum-only n x f) (eqb x n) refl (decLt x n)
   where
-    go : sum-to n (λ i. bit (eqb x i) * f i) ≡ bit (ltb x n) * f x → (e : Bool) → eqb x n ≡ e → Dec (x < n) → bit e * f n + sum-to n (λ i. bit (eqb x i) * f i) ≡ bit (ltb x (suc n)) * f x
+    go : sum-to n (λ i. bit (eqb x i) * f i) ≡ bit (ltb x n) * f x → (e : Bool) → eqb x n ≡ e → Dec (x < n)
+        → bit e * f n + sum-to n (λ i. bit (eqb x i) * f i) ≡ bit (ltb x (suc n)) * f x
     go ih true e d =
         let q : x ≡ n = eqb-true x n e in
         rw (lt-ltb x (suc n) (omega arith), ih, le-ltb x n (omega arith), q) (omega arith)
@@ -337,7 +348,8 @@ sum-times n (x ∷ xs) f h =
     sym (sum-same n (λ i. (bit (eqb x i) + times i xs) * f i) (λ i. bit (eqb x i) * f i + times i xs * f i) (λ i l. add-mul (bit (eqb x i)) (times i xs) (f i))
     ∙ sum-add n (λ i. bit (eqb x i) * f i) (λ i. times i xs * f i) ∙ ap₂ (λ y z. y + z) (o ∙ one-mul (f x)) (sym (sum-times n xs f (h .1))))
 
-weight-made : (g : ℕ → ℕ) (i a : ℕ) (t : ℕ → Tree) (k : Node) → weight g (made (record { index = i; account = a }) t k) ≡ g i + sum-over (parts k) (λ q. weight g (t q))
+weight-made : (g : ℕ → ℕ) (i a : ℕ) (t : ℕ → Tree) (k : Node)
+    → weight g (made (record { index = i; account = a }) t k) ≡ g i + sum-over (parts k) (λ q. weight g (t q))
 weight-made g i a t (Leaf-node Nothing) = omega arith
 weight-made g i a t (Leaf-node (Letter c)) = omega arith
 weight-made g i a t (Leaf-node (Range x y)) = omega arith

@@ -14,6 +14,7 @@ use Rattle.syntax.specs.declared.Node.{Node}
 use Rattle.syntax.specs.declared.Node.the-variants.{Leaf as Leaf-node, Sequence, Alternative, Star}
 use Rattle.syntax.specs.Bools.{and-fst, and-snd}
 use Rattle.syntax.specs.Letter.{is-letter, in-range}
+use Rattle.syntax.specs.LetterLaws.{between-letters}
 use Rattle.syntax.specs.Table.{leaf-good, node-good}
 use Rattle.syntax.specs.Tree.{Label, Tree, star}
 use Rattle.syntax.specs.Trees.{made}
@@ -34,12 +35,11 @@ range-node a b = Range a b
 module _ (low high c : ℕ) (g : leaf-good (Range low high) ≡ true) where
   -- both ends are letters, so what is between them is one
   pub in-range-yes : low ≤ c → c ≤ high → in-range low high c ≡ true
-  unfolding in-range is-letter
+  unfolding in-range
   in-range-yes a b =
-      let h = and-fst (is-letter low && is-letter high) (leb low high) g in
-      let p = leb-true 33 low (and-fst (leb 33 low) (leb low 126) (and-fst (is-letter low) (is-letter high) h)) in
-      let q = leb-true high 126 (and-snd (leb 33 high) (leb high 126) (and-snd (is-letter low) (is-letter high) h)) in
-      rw (le-leb 33 c (omega arith), le-leb c 126 (omega arith), le-leb low c a, le-leb c high b)
+      let ends = and-fst (is-letter low && is-letter high) (leb low high) g in
+      let l = between-letters low high c (and-fst (is-letter low) (is-letter high) ends) (and-snd (is-letter low) (is-letter high) ends) a b in
+      rw (l, le-leb low c a, le-leb c high b)
 
   pub in-range-low : c < low → in-range low high c ≡ false
   unfolding in-range

@@ -39,7 +39,8 @@ same-length c = search needs
 returns : tie.Need-returns
 returns c =
     let s = c .before .before .before .before in
-    ap₂ (λ h v. set (s .args .code .now) (s .args .i / 8) (bitOr h ((v * 2 ^ (7 - s .args .i % 8)) % 256))) (c .before .high-bits .ensures) (c .bit-value .ensures)
+    ap₂ (λ h v. set (s .args .code .now) (s .args .i / 8) (bitOr h ((v * 2 ^ (7 - s .args .i % 8)) % 256))) (c .before .high-bits .ensures)
+    (c .bit-value .ensures)
     ∙ sym (write-bit 8 (s .args .code .now) (λ k. c .before .before .slice-known2 .given k .fits) (s .args .i) (omega arith) (omega arith) (s .args .value))
 
 pub set-bit-spec : {M : Type 1} → statement M

@@ -21,7 +21,8 @@ same-length c = search needs
 returns : tie.Need-returns
 returns c =
     let s = c .before .before in
-    sym (write-whole 8 (s .args .code .now) (λ k. c .before .slice-known .given k .fits) (s .args .i) (omega arith) (omega arith) (omega arith) (s .args .value) (s .fits .value .fits))
+    sym (write-whole 8 (s .args .code .now) (λ k. c .before .slice-known .given k .fits) (s .args .i) (omega arith) (omega arith) (omega arith)
+    (s .args .value) (s .fits .value .fits))
 
 slice-read-high-bits : tie.Need-slice-read-high-bits
 slice-read-high-bits c = search needs
@@ -62,7 +63,8 @@ returns-2 c =
     let i = s .args .i in
     let v = s .args .value in
     ap (λ h. set (set (s .args .code .now) (i / 8) (bitOr h (v / 2 ^ (i % 8)))) (i / 8 + 1) ((v * 2 ^ (8 - i % 8)) % 256)) (c .high-bits .ensures)
-    ∙ sym (write-parts 8 (s .args .code .now) (λ k. c .before .slice-known2 .given k .fits) i (omega arith) (omega arith) (c .before .before .if1 .left) v (s .fits .value .fits))
+    ∙ sym (write-parts 8 (s .args .code .now) (λ k. c .before .slice-known2 .given k .fits) i (omega arith) (omega arith)
+    (c .before .before .if1 .left) v (s .fits .value .fits))
 
 pub set-byte-spec : {M : Type 1} → statement M
 set-byte-spec =

@@ -31,13 +31,15 @@ loop-less : tie.Need-loop-less Inv-loop μ-loop
 loop-less c = omega arith
 
 loop-again : tie.Need-loop-again Inv-loop μ-loop
-loop-again c = bad-next _ _ (c .before .before .before .before .loop .inv) (c .before .before .before .if1 .left) (sym (c .before .is-letter .ensures) ∙ not-false _ (c .if2 .left))
+loop-again c = bad-next _ _ (c .before .before .before .before .loop .inv) (c .before .before .before .if1 .left)
+    (sym (c .before .is-letter .ensures) ∙ not-false _ (c .if2 .left))
 
 returns : tie.Need-returns Inv-loop μ-loop
 returns c = bad-end _ _ (c .before .loop .inv) (c .if1 .taken)
 
 returns-2 : tie.Need-returns-2 Inv-loop μ-loop
-returns-2 c = bad-here _ _ (c .before .before .before .before .loop .inv) (c .before .before .before .if1 .left) (sym (c .before .is-letter .ensures) ∙ not-true _ (c .if2 .taken))
+returns-2 c = bad-here _ _ (c .before .before .before .before .loop .inv) (c .before .before .before .if1 .left)
+    (sym (c .before .is-letter .ensures) ∙ not-true _ (c .if2 .taken))
 
 pub first-bad-spec : {M : Type 1} → statement M
 first-bad-spec =

@@ -16,7 +16,8 @@ good-lines-requires : tie.Need-good-lines-requires
 good-lines-requires c κs = search needs
 
 returns-3 : tie.Need-returns-3
-returns-3 c = bad-lines _ (c .before .before .before .if1 .left) (c .before .before .if2 .left) (sym (c .before .good-lines .ensures) ∙ not-true _ (c .if3 .taken))
+returns-3 c = bad-lines _ (c .before .before .before .if1 .left) (c .before .before .if2 .left)
+    (sym (c .before .good-lines .ensures) ∙ not-true _ (c .if3 .taken))
 
 tree-fault-of-requires : tie.Need-tree-fault-of-requires
 tree-fault-of-requires c κs = search needs
@@ -28,10 +29,14 @@ enum-told-2 : tie.Need-enum-told-2
 enum-told-2 c = search needs
 
 returns-4 : tie.Need-returns-4
-returns-4 c = bad-tree _ (c .before .before .before .before .before .before .if1 .left) (c .before .before .before .before .before .if2 .left) (sym (c .before .before .before .before .good-lines .ensures) ∙ not-false _ (c .before .before .before .if3 .left)) _ (fault-found _ _ _ (c .before .before .tree-fault-of .ensures) (c .enum-told .given .1))
+returns-4 c = bad-tree _ (c .before .before .before .before .before .before .if1 .left) (c .before .before .before .before .before .if2 .left)
+    (sym (c .before .before .before .before .good-lines .ensures) ∙ not-false _ (c .before .before .before .if3 .left)) _
+    (fault-found _ _ _ (c .before .before .tree-fault-of .ensures) (c .enum-told .given .1))
 
 returns-5 : tie.Need-returns-5
-returns-5 c = good-table _ (c .before .before .before .before .before .before .if1 .left) (c .before .before .before .before .before .if2 .left) (sym (c .before .before .before .before .good-lines .ensures) ∙ not-false _ (c .before .before .before .if3 .left)) (fault-none _ _ (c .before .before .tree-fault-of .ensures) (c .enum-told2 .given .1))
+returns-5 c = good-table _ (c .before .before .before .before .before .before .if1 .left) (c .before .before .before .before .before .if2 .left)
+    (sym (c .before .before .before .before .good-lines .ensures) ∙ not-false _ (c .before .before .before .if3 .left))
+    (fault-none _ _ (c .before .before .tree-fault-of .ensures) (c .enum-told2 .given .1))
 
 pub obeys-rules-spec : {M : Type 1} → statement M
 obeys-rules-spec =

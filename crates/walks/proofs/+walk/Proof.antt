@@ -38,8 +38,26 @@ walk-below t = and 2 walk-kinds.ps (falls 2 walk-kinds.ps _<_ μ-walk t) walk.Pr
 
 -- what the callees promise, and `walk` itself below the measure t
 abbrev given : ℕ → walk-lts.Claims
-given t =
-    (node-at-reads.Asked, node-at-reads.Learnt, walk-leaf-reads.Asked, walk-leaf-reads.Learnt, walk-below t, walk.Post, after-reads.Asked, after-reads.Learnt, failed-reads.Asked, failed-reads.Learnt, side-at-reads.Asked, side-at-reads.Learnt, bit-at-reads.Asked, bit-at-reads.Learnt, went-reads.Asked, went-reads.Learnt, plus-reads.Asked, plus-reads.Learnt)
+given t = (
+  node-at-reads.Asked,
+  node-at-reads.Learnt,
+  walk-leaf-reads.Asked,
+  walk-leaf-reads.Learnt,
+  walk-below t,
+  walk.Post,
+  after-reads.Asked,
+  after-reads.Learnt,
+  failed-reads.Asked,
+  failed-reads.Learnt,
+  side-at-reads.Asked,
+  side-at-reads.Learnt,
+  bit-at-reads.Asked,
+  bit-at-reads.Learnt,
+  went-reads.Asked,
+  went-reads.Learnt,
+  plus-reads.Asked,
+  plus-reads.Learnt,
+)
 
 abbrev walk-Inv-loop : walk-lts.InvT-loop
 walk-Inv-loop table l code count at p here₀ letters₀ here letters = Rounds code count (tree-in table l) at here letters

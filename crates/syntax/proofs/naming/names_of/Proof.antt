@@ -32,13 +32,15 @@ loop-less : tie.Need-loop-less Inv-loop μ-loop
 loop-less c = search needs
 
 loop-again : tie.Need-loop-again Inv-loop μ-loop
-loop-again c = names-on _ _ _ (c .before .before .before .before .before .before .loop .inv) (c .before .before .before .before .before .if1 .left) (c .before .before .before .before .before .before .before .pre) _ (c .before .before .before .name-parts .ensures) (not-false _ (c .before .if2 .left))
+loop-again c = names-on _ _ _ (c .before .before .before .before .before .before .loop .inv) (c .before .before .before .before .before .if1 .left)
+    (c .before .before .before .before .before .before .before .pre) _ (c .before .before .before .name-parts .ensures) (not-false _ (c .before .if2 .left))
 
 returns : tie.Need-returns Inv-loop μ-loop
 returns c = names-end _ _ _ (c .before .loop .inv) (c .if1 .taken)
 
 returns-2 : tie.Need-returns-2 Inv-loop μ-loop
-returns-2 c = names-wrong _ _ _ (c .before .before .before .before .before .loop .inv) (c .before .before .before .before .if1 .left) (c .before .before .before .before .before .before .pre) _ (c .before .before .name-parts .ensures) (not-true _ (c .if2 .taken))
+returns-2 c = names-wrong _ _ _ (c .before .before .before .before .before .loop .inv) (c .before .before .before .before .if1 .left)
+    (c .before .before .before .before .before .before .pre) _ (c .before .before .name-parts .ensures) (not-true _ (c .if2 .taken))
 
 pub names-of-spec : {M : Type 1} → statement M
 names-of-spec =

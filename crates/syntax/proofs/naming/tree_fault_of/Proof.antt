@@ -15,7 +15,8 @@ unnamed-of-requires : tie.Need-unnamed-of-requires
 unnamed-of-requires c κs = search needs
 
 returns-2 : tie.Need-returns-2
-returns-2 c = c .unnamed-of .ensures ∙ fault-unnamed _ _ (c .before .before .before .before .names-of .ensures) (c .before .before .before .before .before .pre) (c .before .before .if1 .left)
+returns-2 c = c .unnamed-of .ensures ∙ fault-unnamed _ _ (c .before .before .before .before .names-of .ensures)
+    (c .before .before .before .before .before .pre) (c .before .before .if1 .left)
 
 pub tree-fault-of-spec : {M : Type 1} → statement M
 tree-fault-of-spec = tie.close (tie.spec names-of-requires returns unnamed-of-requires returns-2)

@@ -33,13 +33,16 @@ loop-less : tie.Need-loop-less Inv-loop μ-loop
 loop-less c = search needs
 
 loop-again : tie.Need-loop-again Inv-loop μ-loop
-loop-again c = searched-on _ _ _ (c .before .before .before .before .loop .inv) (c .before .before .before .if1 .left) (ap not (sym (c .before .good-line .ensures)) ∙ c .if2 .left)
+loop-again c = searched-on _ _ _ (c .before .before .before .before .loop .inv) (c .before .before .before .if1 .left)
+    (ap not (sym (c .before .good-line .ensures)) ∙ c .if2 .left)
 
 returns : tie.Need-returns Inv-loop μ-loop
 returns c = sym (ap is-none (searched-end _ _ _ (c .before .loop .inv) (c .if1 .taken)))
 
 returns-2 : tie.Need-returns-2 Inv-loop μ-loop
-returns-2 c = sym (ap is-none (searched-here _ _ _ (c .before .before .before .before .loop .inv) (c .before .before .before .if1 .left) (ap not (sym (c .before .good-line .ensures)) ∙ c .if2 .taken)))
+returns-2 c = sym
+    (ap is-none (searched-here _ _ _ (c .before .before .before .before .loop .inv) (c .before .before .before .if1 .left)
+    (ap not (sym (c .before .good-line .ensures)) ∙ c .if2 .taken)))
 
 pub good-lines-spec : {M : Type 1} → statement M
 good-lines-spec =

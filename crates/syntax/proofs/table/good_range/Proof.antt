@@ -15,10 +15,18 @@ is-letter-requires-2 : tie.Need-is-letter-requires-2
 is-letter-requires-2 c κs = search needs
 
 returns-2 : tie.Need-returns-2
-returns-2 c = rw (sym (c .before .before .before .is-letter .ensures) ∙ not-false _ (c .before .before .if1 .left), sym (c .before .is-letter2 .ensures) ∙ not-true _ (c .if2 .taken))
+returns-2 c = rw (
+  sym (c .before .before .before .is-letter .ensures) ∙ not-false _ (c .before .before .if1 .left),
+  sym
+      (c .before .is-letter2 .ensures) ∙ not-true _ (c .if2 .taken),
+)
 
 returns-3 : tie.Need-returns-3
-returns-3 c = rw (sym (c .before .before .before .is-letter .ensures) ∙ not-false _ (c .before .before .if1 .left), sym (c .before .is-letter2 .ensures) ∙ not-false _ (c .if2 .left))
+returns-3 c = rw (
+  sym (c .before .before .before .is-letter .ensures) ∙ not-false _ (c .before .before .if1 .left),
+  sym
+      (c .before .is-letter2 .ensures) ∙ not-false _ (c .if2 .left),
+)
 
 pub good-range-spec : {M : Type 1} → statement M
 good-range-spec =
