@@ -9,3 +9,4 @@ pub mod Meaning
 pub mod Examples
 -- Files that are cut off.
 pub mod Shortened
+pub mod Unique

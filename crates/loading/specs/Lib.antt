@@ -9,3 +9,4 @@ pub mod ReadLines
 pub mod Lines
 pub mod Loading
 pub mod LoadLaws
+pub mod Unique

@@ -5,3 +5,4 @@ pub mod Rejected
 pub mod MarkLaws
 pub mod ChoiceLaws
 pub mod Unique
+pub mod Orders

@@ -9,3 +9,4 @@ pub mod SpanLaws
 pub mod Pieces
 -- A node outside the table has no visit.
 pub mod Outside
+pub mod Unique

@@ -3,3 +3,4 @@ pub mod PackedLaws
 pub mod CellLaws
 pub mod Unloaded
 pub mod SpanParts
+pub mod Unique
