@@ -1,4 +1,4 @@
--- Bits of numbers, bits in cells, codes as handed in, mark words: the definitions that the contracts cite. Assumes nothing.
+-- Bits of numbers, bits in cells, codes as handed in, words of state sets: the definitions that the contracts cite. Assumes nothing.
 -- A cell holds a number of w bits, and a byte is a cell of 8. Only the limit of a code's bytes speaks of one width.
 use mathlib.Core.Bool.{Bool, true, false, _&&_, not}
 use mathlib.Core.List.{List, [], _∷_, _++_}
@@ -106,7 +106,7 @@ byte-limit = 65536
 unfoldable pub handed-good : (bytes : List ℕ) → (count : ℕ) → Bool
 handed-good xs n = leb (length xs) byte-limit && exact 8 xs n
 
--- ---- mark words
+-- ---- words of state sets (01: marks)
 
 -- 01: "Bits past the last node are 0": the word whose bit l is f l for every l below n, and 0 from n on
 unfoldable pub word-of : (n : ℕ) → (f : ℕ → Bool) → ℕ

@@ -1,4 +1,4 @@
-// Bits of codes and of mark words. 01: "Codes fill bytes from the highest bit." Each function's contract sets what it returns, or leaves
+// Bits of codes and of state-set words. 01: "Codes fill bytes from the highest bit." Each function's contract sets what it returns, or leaves
 // in the buffer, equal to a definition of specs/Bits.antt. An index that a caller must keep inside is a `requires`; the two tests that
 // services call on whatever they are handed, `handed_good` and `open_nodes`, have none.
 ghost use mathlib.Core.Path.{_≡_};
@@ -106,7 +106,7 @@ pub fn handed_good(code: &[u8], count: u32) -> bool
     high_bits(x, r) == x
 }
 
-// How many nodes are open in a mark word: the language's count of ones.
+// How many nodes are open in a state set: the language's count of ones.
 pub fn open_nodes(word: u64) -> u32
     ensures { λ r. ⌜ r ≡ count-below 64 (test-bit word) ⌝ }
 {

@@ -65,7 +65,7 @@ listing p tape bits =
 unfoldable pub read-listing : Pattern → (tape : List ℕ) → List ℕ
 read-listing p tape = cond (readable (root p) tape) (listing p tape (greedy (root p) tape)) (refused-line (refused Unreadable))
 
--- reading's causes before the sweeps; the mark words suffice
+-- reading's causes before the sweeps; the words suffice
 unfoldable pub early-cause : Pattern → (tape : List ℕ) → Answer
 early-cause p tape = early p tape (2 * (length tape + 1))
 
@@ -89,7 +89,7 @@ listing-of text file = cond (eqb (load-answer text .number) 0) (pattern-listing 
 abbrev pub room : ℕ
 room = 262144
 
--- mark words that hold the marks of every tape: two for each position
+-- words that hold the state sets of every tape: two for each position
 abbrev pub word-limit : ℕ
 word-limit = 2 * (letter-limit + 1)
 

@@ -101,22 +101,22 @@ fn put_lines(p: Pattern, table: &mut [u64])
     }
 }
 
-fn node_of(kind: u64, first: u8, second: u8) -> Node
+fn node_of(kind: u8, first: u8, second: u8) -> Node
     ensures { λ r. ⌜ r ≡ node-from kind first second ⌝ }
 {
-    if kind == 0 {
+    if kind == Numbers::NOTHING {
         return Node::Leaf(Leaf::Nothing);
     }
-    if kind == 1 {
+    if kind == Numbers::LETTER {
         return Node::Leaf(Leaf::Letter(first));
     }
-    if kind == 2 {
+    if kind == Numbers::RANGE {
         return Node::Leaf(Leaf::Range(first, second));
     }
-    if kind == 3 {
+    if kind == Numbers::SEQUENCE {
         return Node::Sequence(first, second);
     }
-    if kind == 4 {
+    if kind == Numbers::ALTERNATIVE {
         return Node::Alternative(first, second);
     }
     Node::Star(first)
@@ -128,9 +128,10 @@ pub fn node_at(table: &[u64; 64], l: usize) -> Node
     ensures { λ r. ⌜ r ≡ node-in (now (table .entry)) l ⌝ }
 {
     let cell = table[l];
+    let kind = (cell % 256) as u8;
     let first = (cell / 256 % 256) as u8;
     let second = (cell / 65536 % 256) as u8;
-    node_of(cell % 256, first, second)
+    node_of(kind, first, second)
 }
 
 // The account of a line, 0 for none.

@@ -1,6 +1,6 @@
 // Spelling, totalling and settling a code: what they answer and leave in the lent buffers, a line each, fields parted by
 // tabs. Behind the pattern's text a case has the code's bytes in hexadecimal, the code's bit count, and how many tape
-// cells, mark words and code bytes are lent, in decimal. The lent parts are the starts of larger arrays, whose cells are
+// cells, words and code bytes are lent, in decimal. The lent parts are the starts of larger arrays, whose cells are
 // set before each call. Each `put_` function puts its bytes into `out` from `at` on and answers where they end. What does
 // not fit is left out.
 use canonical::Canonicalized;
@@ -90,7 +90,7 @@ fn print_totals(totalled: Totalled) {
     print_line(&mut out, b);
 }
 
-// How many tape cells, mark words and code bytes are lent.
+// How many tape cells, words and code bytes are lent.
 struct Lent {
     letters: usize,
     words: usize,
@@ -130,19 +130,19 @@ fn run_canonicalize(
     most: Lent,
 ) {
     let letters = least(most.letters, tape.len());
-    let marks = least(most.words, words.len());
+    let room = least(most.words, words.len());
     let bytes = least(most.bytes, canonical.len());
     let answer = canonicalize(
         p,
         code,
         count,
         &mut tape[..letters],
-        &mut words[..marks],
+        &mut words[..room],
         &mut canonical[..bytes],
     );
     let lent = Lent {
         letters,
-        words: marks,
+        words: room,
         bytes,
     };
     print_settling(answer, tape, words, canonical, lent);
@@ -161,7 +161,7 @@ fn run_lent(p: Pattern, code: &[u8], count: u32, most: Lent) {
     run_settling(p, code, count, most);
 }
 
-// Behind the bit count: how many tape cells, mark words and code bytes are lent.
+// Behind the bit count: how many tape cells, words and code bytes are lent.
 fn run_sizes(p: Pattern, code: &[u8], count: u32, line: &[u8]) {
     let behind = rest(line);
     let last = rest(behind);

@@ -1,5 +1,5 @@
 // Reading a tape: what it answers and what it leaves in the lent buffers, one line a case, fields parted by tabs. Behind
-// the pattern's text a case has the tape in hexadecimal, and how many mark words and code bytes are lent, in decimal. The
+// the pattern's text a case has the tape in hexadecimal, and how many words and code bytes are lent, in decimal. The
 // lent parts are the starts of larger arrays, whose cells are set before each case. Each `put_` function puts its bytes
 // into `out` from `at` on and answers where they end. What does not fit is left out.
 use parser::Parsed;

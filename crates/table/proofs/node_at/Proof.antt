@@ -10,6 +10,9 @@ mul-cell c = search needs
 element-copy-out-cell : tie.Need-element-copy-out-cell
 element-copy-out-cell c = search needs
 
+cast-kind : tie.Need-cast-kind
+cast-kind c = search needs
+
 cast-first : tie.Need-cast-first
 cast-first c = search needs
 
@@ -26,4 +29,4 @@ returns c = search needs
 pub node-at-spec : {M : Type 1} → statement M
 node-at-spec =
     tie.close
-    (tie.spec mul-cell element-copy-out-cell cast-first cast-second node-of-requires returns)
+    (tie.spec mul-cell element-copy-out-cell cast-kind cast-first cast-second node-of-requires returns)
