@@ -1,12 +1,13 @@
 -- Spelling a whole code: one law for each way of the service.
-use mathlib.Core.Path.{_≡_, refl, sym, ap, subst, _∙_}
+use mathlib.Core.Path.{_≡_, refl, sym, ap, ap₂, subst, _∙_}
 use mathlib.Core.Bool.{true, false, cond}
-use mathlib.Core.List.{List}
-use Prim.Native.Nat.{ℕ, _-_, _≤_, _<_}
+use mathlib.Core.List.{List, _++_}
+use Prim.Native.Nat.{ℕ, suc, _+_, _-_, _≤_, _<_}
 use native.Mathlib.Omega.{arith}
 use lib.Dec.{eqb}
 use borrow.Author.Tests.{le-leb, lt-leb}
-use lib.ListN.{length}
+use lib.ListN.{length, drop, getD, set, length-set}
+use lib.Seq.{take-at, paste, paste-zero, paste-suc}
 use Rattle.syntax.specs.declared.Pattern.{Pattern}
 use Rattle.refusals.specs.declared.Refusal.the-variants.{Tree as Tree-fault, TapeTooLong, NotACode, TapeTooShort}
 use Rattle.syntax.specs.Letter.{letter-limit}
@@ -18,25 +19,46 @@ use Rattle.table.specs.Cells.{tree-in, Holds}
 use Rattle.table.specs.CellLaws.{holds-tree}
 use Rattle.codes.specs.declared.Flattened.{Flattened}
 use Rattle.codes.specs.declared.Flattened.the-variants.{Letters, Refused}
-use Rattle.walks.specs.declared.Measured.{Measured}
 use Rattle.walks.specs.Whole.{whole-code, letters-of}
 use Rattle.codes.specs.Flatten.{room-answer, flatten-answer, flatten-tape, flattened-answer, Flattens}
-use Rattle.walks.specs.Measures.{measured, measured-no, measured-yes, measured-letters}
-use Rattle.entries.specs.declared.Entered.{Entered}
-use Rattle.entries.specs.Entering.{Entering, Enters}
-use Rattle.entries.specs.WholeLaws.{whole-entering, letters-front}
+use Rattle.entries.specs.declared.Measured.{Measured}
+use Rattle.entries.specs.Measures.{Reads, measured-no, measured-yes, measured-letters}
+use Rattle.entries.specs.WholeLaws.{letters-front}
 
--- a table that holds the pattern: what was measured, or is entered, at its last line is the pattern's
-module _ (p : Pattern) (table : List ℕ) (o : obeys p ≡ true) (h : Holds p table) where
-  pub measured-root : (code : List ℕ) (count : ℕ) (m : Measured) → m ≡ measured (tree-in table (p .count - 1)) code count → m ≡ measured (root p) code count
-  measured-root code count m em = em ∙ ap (λ t. measured t code count) (holds-tree p table o h)
+-- a table that holds the pattern: what was read at its last line is the pattern's
+pub reads-root : (p : Pattern) (table : List ℕ) → obeys p ≡ true → Holds p table → {code : List ℕ} {count : ℕ} {xs ys xs' ys' : List ℕ} {m : Measured}
+    → Reads code (tree-in table (p .count - 1)) count xs ys xs' ys' m → Reads code (root p) count xs ys xs' ys' m
+reads-root p table o h {code} {count} {xs} {ys} {xs'} {ys'} {m} k = subst (λ t. Reads code t count xs ys xs' ys' m) (holds-tree p table o h) k
 
-  pub entering-root : (code : List ℕ) (size : ℕ) → Entering code (root p) 0 0 size 0 → Entering code (tree-in table (p .count - 1)) 0 0 size 0
-  entering-root code size s = subst (λ t. Entering code t 0 0 size 0) (sym (holds-tree p table o h)) s
+-- ── the loop that copies: i letters are in front of what the tape held ──
+pub record Copied (own old now : List ℕ) (n i : ℕ) : Type 0 where
+  pub low : i ≤ n
+  pub size : length now ≡ length old
+  pub holds : now ≡ paste old 0 own i
 
-  pub entered-root : {code xs ys xs' ys' : List ℕ} {r : Entered} → Enters code (tree-in table (p .count - 1)) 0 0 0 xs ys xs' ys' r
-      → Enters code (root p) 0 0 0 xs ys xs' ys' r
-  entered-root {code} {xs} {ys} {xs'} {ys'} {r} w = subst (λ t. Enters code t 0 0 0 xs ys xs' ys' r) (holds-tree p table o h) w
+pub copied-none : (own old : List ℕ) (n : ℕ) → Copied own old old n 0
+copied-none own old n = record { low = omega arith; size = refl; holds = paste-zero old 0 own }
+
+module _ {own old now : List ℕ} {n i : ℕ} (k : Copied own old now n i) where
+  pub copied-one : n ≤ length own → n ≤ length old → i < n → Copied own old (set now i (getD own i 0)) n (i + 1)
+  copied-one a b h =
+      let j : suc i ≡ i + 1 = omega arith in
+      let z : i ≡ 0 + i = omega arith in
+      record {
+        low = omega arith;
+        size = length-set now i (getD own i 0) ∙ k .size;
+        holds = ap₂ (λ xs at. set xs at (getD own i 0)) (k .holds) z ∙ paste-suc old 0 own i 0 (omega arith) (omega arith) ∙ ap (paste old 0 own) j;
+      }
+
+  pub copied-all : n ≤ i → now ≡ paste old 0 own n
+  copied-all h = let e : i ≡ n = omega (arith, k .low) in k .holds ∙ ap (paste old 0 own) e
+
+-- the letters in front of the one buffer come to stand in front of the other
+paste-front : (new rest old : List ℕ) (n : ℕ) → length new ≡ n → paste old 0 (in-front new rest) n ≡ in-front new old
+unfolding in-front
+paste-front new rest old n e =
+    let z : 0 + n ≡ length new = omega arith in
+    ap₂ (λ xs k. xs ++ drop k old) (take-at new (drop (length new) rest) n e) z
 
 module _ (p : Pattern) (code : List ℕ) (count : ℕ) (tape : List ℕ) where
   -- a refusal leaves the tape
@@ -53,24 +75,24 @@ module _ (p : Pattern) (code : List ℕ) (count : ℕ) (tape : List ℕ) where
   unfolding flatten-answer
   flatten-bad o = refusal _ (refused (Tree-fault 0)) (rw o) refl refl
 
-  module _ (o : obeys p ≡ true) (m : Measured) (em : m ≡ measured (root p) code count) where
+  module _ (o : obeys p ≡ true) {own ys own' ys' : List ℕ} {m : Measured} (k : Reads code (root p) count own ys own' ys' m) where
     pub flatten-not : m .whole ≡ false → Flattens p code count tape tape (Refused NotACode)
     unfolding flatten-answer
-    flatten-not f = refusal _ (refused NotACode) (rw (o, measured-no (root p) code count m em f)) refl refl
+    flatten-not f = refusal _ (refused NotACode) (rw (o, measured-no (root p) code count m (k .is) f)) refl refl
 
     module _ (f : m .whole ≡ true) where
       whole : whole-code (root p) code count ≡ true
-      whole = measured-yes (root p) code count m em f
+      whole = measured-yes (root p) code count m (k .is) f
 
       pub flatten-long : letter-limit < m .letters → Flattens p code count tape tape (Refused TapeTooLong)
       unfolding flatten-answer
       flatten-long h =
-          let n = measured-letters (root p) code count m em f in
+          let n = measured-letters (root p) code count m (k .is) f in
           refusal _ (refused TapeTooLong) (rw (o, whole, lt-leb (length (letters-of (root p) code count)) letter-limit (omega arith))) refl refl
 
       module _ (h : m .letters ≤ letter-limit) where
         exactly : length (letters-of (root p) code count) ≡ m .letters
-        exactly = let n = measured-letters (root p) code count m em f in omega arith
+        exactly = let n = measured-letters (root p) code count m (k .is) f in omega arith
 
         room : flatten-answer p code count (length tape) ≡ room-answer (m .letters) (length tape)
         unfolding flatten-answer
@@ -79,17 +101,14 @@ module _ (p : Pattern) (code : List ℕ) (count : ℕ) (tape : List ℕ) where
         pub flatten-short : length tape < m .letters → Flattens p code count tape tape (Refused (TapeTooShort (m .letters)))
         flatten-short g = refusal _ (refused (TapeTooShort (m .letters))) (room ∙ rw (lt-leb (m .letters) (length tape) g)) refl refl
 
-        module _ (g : m .letters ≤ length tape) where
-          pub flatten-ready : Entering code (root p) 0 0 (length tape) 0
-          flatten-ready = whole-entering (root p) code count whole (length tape) (omega (arith, exactly))
-
-          pub flatten-done : {ys tape' ys' : List ℕ} {x : Entered} → Enters code (root p) 0 0 0 tape ys tape' ys' x
-              → Flattens p code count tape tape' (Letters (m .letters))
-          unfolding flatten-tape
-          flatten-done k =
-              let a : flatten-answer p code count (length tape) ≡ answer 0 (m .letters) = room ∙ rw (le-leb (m .letters) (length tape) g) in
-              record {
-                answers = sym a;
-                leaves = letters-front (root p) code count whole k (omega (arith, exactly))
-                    ∙ sym (ap (λ x. cond (eqb (x .number) 0) (in-front (letters-of (root p) code count) tape) tape) a);
-              }
+        pub flatten-done : m .letters ≤ length tape → length own ≡ letter-limit → {tape' : List ℕ} → tape' ≡ paste tape 0 own' (m .letters)
+            → Flattens p code count tape tape' (Letters (m .letters))
+        unfolding flatten-tape
+        flatten-done g long e =
+            let a : flatten-answer p code count (length tape) ≡ answer 0 (m .letters) = room ∙ rw (le-leb (m .letters) (length tape) g) in
+            let new = letters-front (root p) code count whole (k .wrote f) (omega (arith, exactly)) in
+            record {
+              answers = sym a;
+              leaves = e ∙ ap (λ l. paste tape 0 l (m .letters)) new ∙ paste-front (letters-of (root p) code count) own tape (m .letters) exactly
+                  ∙ sym (ap (λ x. cond (eqb (x .number) 0) (in-front (letters-of (root p) code count) tape) tape) a);
+            }

@@ -12,12 +12,10 @@ use Rattle.syntax.specs.Bools.{and-snd}
 use Rattle.syntax.specs.Letter.{letter-limit}
 use Rattle.syntax.specs.Tree.{Tree}
 use Rattle.bits.specs.Bits.{in-front}
-use Rattle.walks.specs.declared.Measured.{Measured}
 use Rattle.walks.specs.Whole.{whole-code, letters-of}
-use Rattle.walks.specs.Measures.{measured, measured-no, measured-yes, measured-letters}
-use Rattle.entries.specs.declared.Entered.{Entered}
-use Rattle.entries.specs.Entering.{Entering, Enters}
-use Rattle.entries.specs.WholeLaws.{whole-entering, letters-front}
+use Rattle.entries.specs.declared.Measured.{Measured}
+use Rattle.entries.specs.Measures.{Reads, measured-no, measured-yes, measured-letters}
+use Rattle.entries.specs.WholeLaws.{letters-front}
 use Rattle.codes.specs.Spells.{same, code-of-tape}
 
 -- ── a buffer that begins with a tape ──
@@ -83,32 +81,27 @@ same-not xs ys n = go (same xs ys) refl
     go true e = absurd (n (same-length xs ys e))
     go false e = e
 
--- ── a code that was measured, against a tape within the limit ──
-module _ (t : Tree) (tape code : List ℕ) (count : ℕ) (h : length tape ≤ letter-limit) (m : Measured) (em : m ≡ measured t code count) where
+-- ── a code that was read, against a tape within the limit ──
+module _ (t : Tree) (tape code : List ℕ) (count : ℕ) (h : length tape ≤ letter-limit) {own ys own' ys' : List ℕ} {m : Measured}
+    (k : Reads code t count own ys own' ys' m) where
   pub spells-no : m .whole ≡ false → false ≡ code-of-tape t tape code count
   unfolding code-of-tape
-  spells-no f = rw (measured-no t code count m em f)
+  spells-no f = rw (measured-no t code count m (k .is) f)
 
   module _ (f : m .whole ≡ true) where
     whole : whole-code t code count ≡ true
-    whole = measured-yes t code count m em f
+    whole = measured-yes t code count m (k .is) f
 
     pub spells-other : (m .letters ≡ length tape → ⊥) → false ≡ code-of-tape t tape code count
     unfolding code-of-tape
     spells-other d =
-        let n = measured-letters t code count m em f in
+        let n = measured-letters t code count m (k .is) f in
         rw (whole, same-not (letters-of t code count) tape (λ z. d (omega arith)))
 
-    module _ (e : m .letters ≡ length tape) where
-      exactly : length (letters-of t code count) ≡ length tape
-      exactly = let n = measured-letters t code count m em f in omega arith
-
-      pub spells-ready : (size : ℕ) → size ≡ letter-limit → Entering code t 0 0 size 0
-      spells-ready size s = whole-entering t code count whole size (omega (arith, exactly))
-
-      pub spells-same : (own : List ℕ) → length own ≡ letter-limit → {ys own' ys' : List ℕ} {x : Entered} → Enters code t 0 0 0 own ys own' ys' x
-          → (r : Bool) → r ≡ front-same tape own' → r ≡ code-of-tape t tape code count
-      unfolding code-of-tape in-front
-      spells-same own size k r e =
-          e ∙ ap (front-same tape) (letters-front t code count whole k (omega (arith, exactly)))
-          ∙ same-front (letters-of t code count) tape (drop (length (letters-of t code count)) own) exactly ∙ rw whole
+    pub spells-same : m .letters ≡ length tape → length own ≡ letter-limit → (r : Bool) → r ≡ front-same tape own' → r ≡ code-of-tape t tape code count
+    unfolding code-of-tape in-front
+    spells-same e size r er =
+        let n = measured-letters t code count m (k .is) f in
+        let exactly : length (letters-of t code count) ≡ length tape = omega arith in
+        er ∙ ap (front-same tape) (letters-front t code count whole (k .wrote f) (omega (arith, exactly)))
+        ∙ same-front (letters-of t code count) tape (drop (length (letters-of t code count)) own) exactly ∙ rw whole

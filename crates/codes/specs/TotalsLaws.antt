@@ -26,14 +26,14 @@ use Rattle.semantics.specs.Accounts.{accounts, totals, digits}
 use Rattle.semantics.specs.AccountLaws.{Accounts, letters, entries-below, totals-digits}
 use Rattle.semantics.specs.VisitLaws.{All}
 use Rattle.codes.specs.declared.TotalsOutcome.the-variants.{Added, Refused}
-use Rattle.walks.specs.declared.Measured.{Measured}
 use Rattle.walks.specs.Whole.{whole-code, letters-of}
 use Rattle.codes.specs.Totals.{entries-by, entries-of, totals-answer, totals-litres, no-litres, Totals}
-use Rattle.walks.specs.Measures.{measured, measured-no, measured-yes, measured-letters, whole-handed, whole-value, spells}
-use Rattle.entries.specs.declared.Entered.{Entered}
+use Rattle.walks.specs.Measures.{whole-handed, whole-value, spells}
+use Rattle.entries.specs.declared.Measured.{Measured}
 use Rattle.entries.specs.Entries.{accounts-in}
-use Rattle.entries.specs.Entering.{Entering, Enters, enters-long}
-use Rattle.entries.specs.WholeLaws.{whole-entering, entered-value, entered-letters, entered-count, letters-front, accounts-front}
+use Rattle.entries.specs.Entering.{Wrote}
+use Rattle.entries.specs.Measures.{Reads, measured-no, measured-yes, measured-letters}
+use Rattle.entries.specs.WholeLaws.{entered-value, entered-letters, entered-count, letters-front, accounts-front}
 use Rattle.codes.specs.Sums.{pairs, pairs-entries, Owned, entries-owned}
 
 -- ── every account of a pattern that obeys the rules is an account ──
@@ -81,76 +81,74 @@ module _ (p : Pattern) (code : List ℕ) (count : ℕ) where
   unfolding totals-answer
   totals-bad o = refusal (Tree-fault 0) (rw o) refl
 
-  module _ (o : obeys p ≡ true) (m : Measured) (em : m ≡ measured (root p) code count) where
+  module _ (o : obeys p ≡ true) {xs ys xs' ys' : List ℕ} {m : Measured} (r : Reads code (root p) count xs ys xs' ys' m) where
     pub totals-not : m .whole ≡ false → Totals p code count (record { outcome = Refused NotACode; litres = no-litres })
     unfolding totals-answer
-    totals-not f = refusal NotACode (rw (o, measured-no (root p) code count m em f)) refl
+    totals-not f = refusal NotACode (rw (o, measured-no (root p) code count m (r .is) f)) refl
 
     module _ (f : m .whole ≡ true) where
       whole : whole-code (root p) code count ≡ true
-      whole = measured-yes (root p) code count m em f
+      whole = measured-yes (root p) code count m (r .is) f
 
       pub totals-long : letter-limit < m .letters → Totals p code count (record { outcome = Refused TapeTooLong; litres = no-litres })
       unfolding totals-answer
       totals-long h =
-          let n = measured-letters (root p) code count m em f in
+          let n = measured-letters (root p) code count m (r .is) f in
           refusal TapeTooLong (rw (o, whole, lt-leb (length (letters-of (root p) code count)) letter-limit (omega arith))) refl
 
-      module _ (h : m .letters ≤ letter-limit) where
+      module _ (h : m .letters ≤ letter-limit) (long : length xs ≡ letter-limit) (wide : length ys ≡ letter-limit) where
         exactly : length (letters-of (root p) code count) ≡ m .letters
-        exactly = let n = measured-letters (root p) code count m em f in omega arith
+        exactly = let n = measured-letters (root p) code count m (r .is) f in omega arith
 
-        pub totals-ready : (size : ℕ) → size ≡ letter-limit → Entering code (root p) 0 0 size 0
-        totals-ready size s = whole-entering (root p) code count whole size (omega (arith, exactly))
+        abbrev k : Wrote code (root p) 0 0 0 xs ys xs' ys' count (m .letters)
+        k = r .wrote f
 
-        module _ (xs ys : List ℕ) (long : length xs ≡ letter-limit) (wide : length ys ≡ letter-limit) where
-          module _ {xs' ys' : List ℕ} {x : Entered} (k : Enters code (root p) 0 0 0 xs ys xs' ys' x) where
-            many : m .letters ≡ length (k .entries)
-            many = sym exactly ∙ sym (entered-count (root p) code count whole k)
+        many : m .letters ≡ length (k .entries)
+        many = sym exactly ∙ sym (entered-count (root p) code count whole k)
 
-            -- what the arrays had behind the entries
-            abbrev xs-rest : List ℕ
-            xs-rest = drop (length (letters-of (root p) code count)) xs
+        -- what the arrays had behind the entries
+        abbrev xs-rest : List ℕ
+        xs-rest = drop (length (letters-of (root p) code count)) xs
 
-            abbrev ys-rest : List ℕ
-            ys-rest = drop (length (accounts-in (k .entries))) ys
+        abbrev ys-rest : List ℕ
+        ys-rest = drop (length (accounts-in (k .entries))) ys
 
-            accounts-are : ys' ≡ accounts-in (k .entries) ++ ys-rest
-            unfolding in-front
-            accounts-are = accounts-front (root p) code count whole k (omega (arith, exactly))
+        accounts-are : ys' ≡ accounts-in (k .entries) ++ ys-rest
+        unfolding in-front
+        accounts-are = accounts-front (root p) code count whole k (omega (arith, exactly))
 
-            letters-are : xs' ≡ letters (k .entries) ++ xs-rest
-            unfolding in-front
-            letters-are =
-                letters-front (root p) code count whole k (omega (arith, exactly))
-                ∙ ap (λ l. l ++ xs-rest) (sym (entered-letters (root p) code count whole k))
+        letters-are : xs' ≡ letters (k .entries) ++ xs-rest
+        unfolding in-front
+        letters-are =
+            letters-front (root p) code count whole k (omega (arith, exactly))
+            ∙ ap (λ l. l ++ xs-rest) (sym (entered-letters (root p) code count whole k))
 
-            pub totals-owned : (m .letters ≤ length xs') × (m .letters ≤ letter-limit) × Owned ys' (m .letters)
-            totals-owned =
-                let (v, e) = whole-value (root p) code count whole in
-                let own = entries-below (account-limit + 1) (root p) 0 v (root-accounts p o) (omega arith) in (
-                  omega (arith, enters-long k, exactly),
-                  h,
-                  subst (λ l. Owned l (m .letters)) (sym accounts-are)
-                      (entries-owned (k .entries) ys-rest
-                      (subst (All (λ e. e .1 < account-limit + 1)) (sym (entered-value (root p) code count whole v e k)) own) (m .letters) many),
-                )
+        pub totals-owned : (m .letters ≤ length xs') × (m .letters ≤ letter-limit) × Owned ys' (m .letters)
+        totals-owned =
+            let (v, e) = whole-value (root p) code count whole in
+            let own = entries-below (account-limit + 1) (root p) 0 v (root-accounts p o) (omega arith) in (
+              omega (arith, r .long, exactly),
+              h,
+              subst (λ l. Owned l (m .letters)) (sym accounts-are)
+                  (entries-owned (k .entries) ys-rest
+                  (subst (All (λ e. e .1 < account-limit + 1)) (sym (entered-value (root p) code count whole v e k)) own) (m .letters) many),
+            )
 
-            entries-are : pairs (m .letters) xs' ys' ≡ entries-of (root p) code count
-            unfolding entries-of accounts
-            entries-are =
-                let (v, e) = whole-value (root p) code count whole in
-                ap₂ (pairs (m .letters)) letters-are accounts-are
-                ∙ ap (λ n. pairs n (letters (k .entries) ++ xs-rest) (accounts-in (k .entries) ++ ys-rest)) many
-                ∙ pairs-entries (k .entries) xs-rest ys-rest
-                ∙ entered-value (root p) code count whole v e k ∙ ap (entries-by (root p)) (sym e)
+        entries-are : pairs (m .letters) xs' ys' ≡ entries-of (root p) code count
+        unfolding entries-of accounts
+        entries-are =
+            let (v, e) = whole-value (root p) code count whole in
+            ap₂ (pairs (m .letters)) letters-are accounts-are
+            ∙ ap (λ n. pairs n (letters (k .entries) ++ xs-rest) (accounts-in (k .entries) ++ ys-rest)) many
+            ∙ pairs-entries (k .entries) xs-rest ys-rest
+            ∙ entered-value (root p) code count whole v e k ∙ ap (entries-by (root p)) (sym e)
 
-            pub totals-done : (s : List ℕ) → s ≡ totals (pairs (m .letters) xs' ys') → Totals p code count (record { outcome = Added; litres = s })
-            unfolding totals-litres totals-answer
-            totals-done s e =
-                let few = exactly in
-                let within = le-leb (length (letters-of (root p) code count)) letter-limit (omega arith) in
-                record { answers = rw (o, whole, within); gives = e ∙ ap totals entries-are ∙ rw (o, whole, within) }
+        pub totals-done : (s : List ℕ) → s ≡ totals (pairs (m .letters) xs' ys') → Totals p code count (record { outcome = Added; litres = s })
+        unfolding totals-litres totals-answer
+        totals-done s e =
+            let few = exactly in
+            let within = le-leb (length (letters-of (root p) code count)) letter-limit (omega arith) in
+            record { answers = rw (o, whole, within); gives = e ∙ ap totals entries-are ∙ rw (o, whole, within) }
 
 -- ── 01: the totals "add up to the tape's digits" ──
 abbrev pub sum-list : List ℕ → ℕ

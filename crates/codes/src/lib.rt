@@ -1,5 +1,5 @@
-// Services on codes: spelling a code, litres by account, and whether a code spells a tape. Each walks a code for its measure before anything
-// is written or added.
+// Services on codes: spelling a code, litres by account, and whether a code spells a tape. Each walks a code once, into cells of its own, and
+// nothing of the caller's is written before the whole code is tested.
 ghost use mathlib.Core.Path.{_≡_};
 ghost use Prim.Native.Nat.{_≤_, _<_};
 ghost use lib.ListN.{length};
@@ -10,16 +10,17 @@ ghost use Rattle.codes.specs.Flatten.{Flattens};
 ghost use Rattle.codes.specs.Totals.{Totals, refused-totals};
 
 mod compare; // compare.rt: whether a buffer begins with a tape
+mod front; // front.rt: copying a buffer's first letters
 mod sums; // sums.rt: adding up entries
 
 use compare::begins;
-use entries::put_entries;
+use entries::enter;
+use front::put_front;
 use refusals::Refusal;
 use sums::add_up;
 use syntax::Pattern;
 use syntax::obeys_rules;
 use table::table_of;
-use walks::measure;
 
 // Whether a code of node l spells a tape: its letters are written and compared.
 pub fn spells(table: &[u64; 64], l: usize, code: &[u8], count: u32, tape: &[u8]) -> bool
@@ -27,16 +28,15 @@ pub fn spells(table: &[u64; 64], l: usize, code: &[u8], count: u32, tape: &[u8])
     requires { ⌜ (l < 64) × (length (now tape) ≤ letter-limit) ⌝ }
     ensures { λ r. ⌜ r ≡ code-of-tape (tree-in (now (table .entry)) l) (now (tape .entry)) (now (code .entry)) count ⌝ }
 {
-    let measured = measure(table, l, code, count);
+    let mut own = [0u8; Pattern::MAX_LETTERS];
+    let mut accounts = [0u8; 0];
+    let measured = enter(table, l, code, count, &mut own, &mut accounts);
     if !measured.whole {
         return false;
     }
     if measured.letters as usize != tape.len() {
         return false;
     }
-    let mut own = [0u8; Pattern::MAX_LETTERS];
-    let mut accounts = [0u8; 0];
-    put_entries(table, l, 0, code, 0, &mut own, &mut accounts, 0);
     begins(&own, tape)
 }
 
@@ -46,7 +46,7 @@ pub enum Flattened {
     Refused(Refusal),
 }
 
-// Spells a code: its letters in front of the tape. Letters are counted before any cell is written.
+// Spells a code: its letters in front of the tape, copied there once they are known to fit.
 pub fn flatten(p: Pattern, code: &[u8], count: u32, tape: &mut [u8]) -> Flattened
     ensures { λ r. ⌜ Flattens p (now (code .entry)) count (now (tape .entry)) (now (tape .exit)) r ⌝ }
 {
@@ -55,7 +55,9 @@ pub fn flatten(p: Pattern, code: &[u8], count: u32, tape: &mut [u8]) -> Flattene
     }
     let table = table_of(p);
     let root = p.count - 1;
-    let measured = measure(&table, root, code, count);
+    let mut own = [0u8; Pattern::MAX_LETTERS];
+    let mut accounts = [0u8; 0];
+    let measured = enter(&table, root, code, count, &mut own, &mut accounts);
     if !measured.whole {
         return Flattened::Refused(Refusal::NotACode);
     }
@@ -66,8 +68,7 @@ pub fn flatten(p: Pattern, code: &[u8], count: u32, tape: &mut [u8]) -> Flattene
     if tape.len() < letters {
         return Flattened::Refused(Refusal::TapeTooShort(measured.letters));
     }
-    let mut accounts = [0u8; 0];
-    put_entries(&table, root, 0, code, 0, tape, &mut accounts, 0);
+    put_front(&own, letters, tape);
     Flattened::Letters(measured.letters)
 }
 
@@ -106,7 +107,9 @@ pub fn totals(p: Pattern, code: &[u8], count: u32) -> Totalled
     }
     let table = table_of(p);
     let root = p.count - 1;
-    let measured = measure(&table, root, code, count);
+    let mut letters = [0u8; Pattern::MAX_LETTERS];
+    let mut accounts = [0u8; Pattern::MAX_LETTERS];
+    let measured = enter(&table, root, code, count, &mut letters, &mut accounts);
     if !measured.whole {
         return no_totals(Refusal::NotACode);
     }
@@ -114,9 +117,6 @@ pub fn totals(p: Pattern, code: &[u8], count: u32) -> Totalled
     if Pattern::MAX_LETTERS < n {
         return no_totals(Refusal::TapeTooLong);
     }
-    let mut letters = [0u8; Pattern::MAX_LETTERS];
-    let mut accounts = [0u8; Pattern::MAX_LETTERS];
-    put_entries(&table, root, 0, code, 0, &mut letters, &mut accounts, 0);
     let litres = add_up(&letters, &accounts, n);
     Totalled {
         outcome: TotalsOutcome::Added,

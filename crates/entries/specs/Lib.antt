@@ -2,3 +2,4 @@
 pub mod Entries
 pub mod Entering
 pub mod WholeLaws
+pub mod Measures

@@ -11,7 +11,6 @@ use lib.Seq.{sets, sets-eq, take-all}
 use Rattle.syntax.specs.Tree.{Tree}
 use Rattle.bits.specs.Bits.{unpack, held, in-front}
 use Rattle.bits.specs.Packing.{length-unpack}
-use Rattle.bits.specs.Handed.{handed-count}
 use Rattle.semantics.specs.Value.{Value}
 use Rattle.semantics.specs.Code.{code as bits-of}
 use Rattle.semantics.specs.Accounts.{entries}
@@ -24,9 +23,8 @@ use Rattle.walks.specs.Whole.{whole-code, letters-of}
 use Rattle.walks.specs.Words.{same-seen}
 use Rattle.walks.specs.Handed.{held-length}
 use Rattle.walks.specs.Measures.{handed-fit, whole-handed, whole-value, spells}
-use Rattle.entries.specs.declared.Entered.{Entered}
 use Rattle.entries.specs.Entries.{Entries, accounts-in, entries-at}
-use Rattle.entries.specs.Entering.{Entering, Enters}
+use Rattle.entries.specs.Entering.{Wrote}
 
 -- bits behind a code are not read
 see-front : {X : Type 0} (t : Tree) (f : Value t → X) (v : Value t) (r : List Bool) → see (bits-of t v ++ r) t f 0 ≡ some (f v, length (bits-of t v))
@@ -36,7 +34,7 @@ see-front t f v r =
     ap (seen (length (bits-of t v ++ r)) t f) (read-code t v r) ∙ ap (λ n. some (f v, n)) e
 
 -- every bit of the bytes: those held, and the rest
-every : (code : List ℕ) (count : ℕ) → held 8 code (length code * 8) ≡ held 8 code count ++ drop count (unpack 8 code)
+pub every : (code : List ℕ) (count : ℕ) → held 8 code (length code * 8) ≡ held 8 code count ++ drop count (unpack 8 code)
 unfolding held
 every code count =
     let n : length (unpack 8 code) ≤ length code * 8 = rw length-unpack (omega arith) in
@@ -72,22 +70,10 @@ module _ (t : Tree) (code : List ℕ) (count : ℕ) (w : whole-code t code count
     value-letters = entries-flat t 0 v ∙ sym (spells t code count (whole-handed t code count w) v e)
 
     -- what a walk entered
-    pub entered-value : {xs ys xs' ys' : List ℕ} {r : Entered} (k : Enters code t 0 0 0 xs ys xs' ys' r) → k .entries ≡ entries t 0 v
+    pub entered-value : {xs ys xs' ys' : List ℕ} {j n : ℕ} (k : Wrote code t 0 0 0 xs ys xs' ys' j n) → k .entries ≡ entries t 0 v
     entered-value k = same-seen (sym (k .is) ∙ whole-entries 0) .0
 
-  pub whole-entering : (size : ℕ) → length (letters-of t code count) ≤ size → Entering code t 0 0 size 0
-  whole-entering size h =
-      let (v, e) = whole-value t code count w in
-      record {
-        entries = entries t 0 v;
-        stop = count;
-        is = whole-entries v e 0;
-        low = omega arith;
-        high = handed-count code count (whole-handed t code count w);
-        room = omega (arith, length-letters (entries t 0 v), ap length (value-letters v e));
-      }
-
-  module _ {xs ys xs' ys' : List ℕ} {r : Entered} (k : Enters code t 0 0 0 xs ys xs' ys' r) where
+  module _ {xs ys xs' ys' : List ℕ} {j n : ℕ} (k : Wrote code t 0 0 0 xs ys xs' ys' j n) where
     pub entered-letters : letters (k .entries) ≡ letters-of t code count
     entered-letters = let (v, e) = whole-value t code count w in ap letters (entered-value v e k) ∙ value-letters v e
 

@@ -1,15 +1,18 @@
 -- `entries::put_entry` meets its contract.
-use mathlib.Core.Path.{refl, sym}
-use lib.Seq.{set-out}
+use mathlib.Core.Path.{ap}
+use Rattle.entries.specs.Entering.{went}
 use borrow.Author.Needs.{needs}
 use Rattle.entries.proofs.put_entry.Statement.{statement}
 use Rattle.entries.proofs.put_entry.Tie as tie
 
-slice-write-letters : tie.Need-slice-write-letters
-slice-write-letters c = search needs
+put-cell-requires : tie.Need-put-cell-requires
+put-cell-requires c κs = search needs
 
-slice-write-accounts : tie.Need-slice-write-accounts
-slice-write-accounts c = search needs
+put-cell-requires-2 : tie.Need-put-cell-requires-2
+put-cell-requires-2 c κs = search needs
+
+next-cell-requires : tie.Need-next-cell-requires
+next-cell-requires c κs = search needs
 
 same-length : tie.Need-same-length
 same-length c = search needs
@@ -18,22 +21,15 @@ same-length-2 : tie.Need-same-length-2
 same-length-2 c = search needs
 
 returns : tie.Need-returns
-returns c = (refl, refl)
-
-same-length-3 : tie.Need-same-length-3
-same-length-3 c = search needs
-
-returns-2 : tie.Need-returns-2
-returns-2 c = (refl, sym (set-out _ _ _ (c .if1 .left)))
+returns c = (c .before .before .before .before .before .before .before .put-cell .ensures, c .before .before .before .put-cell2 .ensures, ap (went _) (c .next-cell .ensures))
 
 pub put-entry-spec : {M : Type 1} → statement M
 put-entry-spec =
     tie.close
     (tie.spec
-    slice-write-letters
-    slice-write-accounts
+    put-cell-requires
+    put-cell-requires-2
+    next-cell-requires
     same-length
     same-length-2
-    returns
-    same-length-3
-    returns-2)
+    returns)
