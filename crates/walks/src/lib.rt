@@ -12,10 +12,8 @@ ghost use Rattle.semantics.specs.Code.{code-limit};
 ghost use Rattle.table.specs.Cells.{Good, tree-in};
 ghost use Rattle.walks.specs.Lines.{leaf-node, range-node};
 ghost use Rattle.walks.specs.Walks.{cap, went, failed, walked, more};
-ghost use Rattle.walks.specs.Measures.{no-measure, measured};
 use bits::bit_at;
 use bits::byte_at;
-use bits::handed_good;
 use syntax::Leaf;
 use syntax::Node;
 use table::node_at;
@@ -150,43 +148,5 @@ pub fn walk(table: &[u64; 64], l: usize, code: &[u8], count: u32, at: u32) -> Wa
             }
             failed(count)
         }
-    }
-}
-
-// Whether what is handed in is a whole code, and how many letters it spells.
-pub struct Measured {
-    pub whole: bool,
-    pub letters: u32,
-}
-
-fn no_measure() -> Measured
-    ensures { λ r. ⌜ r ≡ no-measure ⌝ }
-{
-    Measured {
-        whole: false,
-        letters: 0,
-    }
-}
-
-// All of a code is walked, at node l, before anything is said of its letters.
-pub fn measure(table: &[u64; 64], l: usize, code: &[u8], count: u32) -> Measured
-    requires { ⌜ Good (now table) ⌝ }
-    requires { ⌜ l < 64 ⌝ }
-    ensures { λ r.
-        ⌜ r ≡ measured (tree-in (now (table .entry)) l) (now (code .entry)) count ⌝ }
-{
-    if !handed_good(code, count) {
-        return no_measure();
-    }
-    let walked = walk(table, l, code, count, 0);
-    if !walked.ok {
-        return no_measure();
-    }
-    if walked.at != count {
-        return no_measure();
-    }
-    Measured {
-        whole: true,
-        letters: walked.letters,
     }
 }
