@@ -20,7 +20,8 @@ table-of-requires c κs = obeys-iff _ .0 (sym (c .before .obeys-rules .ensures) 
 
 sub-root : tie.Need-sub-root
 sub-root c =
-    let o = sym (c .before .before .before .obeys-rules .ensures) ∙ not-false _ (c .before .before .if1 .left) in
+    let at-else1 = c .before .before in
+    let o = sym (at-else1 .before .obeys-rules .ensures) ∙ not-false _ (at-else1 .if1 .left) in
     omega (arith, obeys-iff _ .0 o .one)
 
 slice-aggregate-enter : tie.Need-slice-aggregate-enter
@@ -31,14 +32,19 @@ slice-aggregate-enter-2 c = search needs
 
 enter-requires : tie.Need-enter-requires
 enter-requires c κs =
-    let o = sym (c .before .before .before .before .before .before .obeys-rules .ensures) ∙ not-false _ (c .before .before .before .before .before .if1 .left) in
+    let at-table-of = c .before .before .before .before in
+    let at-else1 = at-table-of .before in
+    let o = sym (at-else1 .before .obeys-rules .ensures) ∙ not-false _ (at-else1 .if1 .left) in
     let r = obeys-iff _ .0 o in
-    ((holds-good _ _ o (c .before .before .before .before .table-of .ensures), omega (arith, r .one, r .few)), search needs)
+    ((holds-good _ _ o (at-table-of .table-of .ensures), omega (arith, r .one, r .few)), search needs)
 
 returns-2 : tie.Need-returns-2
 returns-2 c =
-    let o = sym (c .before .before .before .before .before .before .before .before .before .before .before .obeys-rules .ensures) ∙ not-false _ (c .before .before .before .before .before .before .before .before .before .before .if1 .left) in
-    let read = reads-root _ _ o (c .before .before .before .before .before .before .before .before .before .table-of .ensures) (c .before .before .before .before .enter .ensures) in
+    let at-enter = c .before .before .before .before in
+    let at-table-of = at-enter .before .before .before .before .before in
+    let at-else1 = at-table-of .before in
+    let o = sym (at-else1 .before .obeys-rules .ensures) ∙ not-false _ (at-else1 .if1 .left) in
+    let read = reads-root _ _ o (at-table-of .table-of .ensures) (at-enter .enter .ensures) in
     flatten-not _ _ _ _ o read (not-true _ (c .if2 .taken))
 
 cast-letters : tie.Need-cast-letters
@@ -46,30 +52,50 @@ cast-letters c = search needs
 
 returns-3 : tie.Need-returns-3
 returns-3 c =
-    let o = sym (c .before .before .before .before .before .before .before .before .before .before .before .before .before .obeys-rules .ensures) ∙ not-false _ (c .before .before .before .before .before .before .before .before .before .before .before .before .if1 .left) in
-    let read = reads-root _ _ o (c .before .before .before .before .before .before .before .before .before .before .before .table-of .ensures) (c .before .before .before .before .before .before .enter .ensures) in
-    flatten-long _ _ _ _ o read (not-false _ (c .before .before .if2 .left)) (c .if3 .taken)
+    let at-else2 = c .before .before in
+    let at-enter = at-else2 .before .before .before .before in
+    let at-table-of = at-enter .before .before .before .before .before in
+    let at-else1 = at-table-of .before in
+    let o = sym (at-else1 .before .obeys-rules .ensures) ∙ not-false _ (at-else1 .if1 .left) in
+    let read = reads-root _ _ o (at-table-of .table-of .ensures) (at-enter .enter .ensures) in
+    flatten-long _ _ _ _ o read (not-false _ (at-else2 .if2 .left)) (c .if3 .taken)
 
 returns-4 : tie.Need-returns-4
 returns-4 c =
-    let o = sym (c .before .before .before .before .before .before .before .before .before .before .before .before .before .before .obeys-rules .ensures) ∙ not-false _ (c .before .before .before .before .before .before .before .before .before .before .before .before .before .if1 .left) in
-    let read = reads-root _ _ o (c .before .before .before .before .before .before .before .before .before .before .before .before .table-of .ensures) (c .before .before .before .before .before .before .before .enter .ensures) in
-    flatten-short _ _ _ _ o read (not-false _ (c .before .before .before .if2 .left)) (c .before .if3 .left) (c .if4 .taken)
+    let at-else3 = c .before in
+    let at-else2 = at-else3 .before .before in
+    let at-enter = at-else2 .before .before .before .before in
+    let at-table-of = at-enter .before .before .before .before .before in
+    let at-else1 = at-table-of .before in
+    let o = sym (at-else1 .before .obeys-rules .ensures) ∙ not-false _ (at-else1 .if1 .left) in
+    let read = reads-root _ _ o (at-table-of .table-of .ensures) (at-enter .enter .ensures) in
+    flatten-short _ _ _ _ o read (not-false _ (at-else2 .if2 .left)) (at-else3 .if3 .left) (c .if4 .taken)
 
 slice-aggregate-put-front : tie.Need-slice-aggregate-put-front
 slice-aggregate-put-front c = search needs
 
 put-front-requires : tie.Need-put-front-requires
-put-front-requires c κs = (omega (arith, c .before .before .before .if3 .left, c .before .before .before .before .before .before .before .before .before .enter .ensures .long), c .before .before .if4 .left)
+put-front-requires c κs =
+    let at-else4 = c .before .before in
+    let at-else3 = at-else4 .before in
+    let at-enter = at-else3 .before .before .before .before .before .before in
+    (omega (arith, at-else3 .if3 .left, at-enter .enter .ensures .long), at-else4 .if4 .left)
 
 same-length : tie.Need-same-length
 same-length c = search needs
 
 returns-5 : tie.Need-returns-5
 returns-5 c =
-    let o = sym (c .before .before .before .before .before .before .before .before .before .before .before .before .before .before .before .before .before .before .before .obeys-rules .ensures) ∙ not-false _ (c .before .before .before .before .before .before .before .before .before .before .before .before .before .before .before .before .before .before .if1 .left) in
-    let read = reads-root _ _ o (c .before .before .before .before .before .before .before .before .before .before .before .before .before .before .before .before .before .table-of .ensures) (c .before .before .before .before .before .before .before .before .before .before .before .before .enter .ensures) in
-    flatten-done _ _ _ _ o read (not-false _ (c .before .before .before .before .before .before .before .before .if2 .left)) (c .before .before .before .before .before .before .if3 .left) (c .before .before .before .before .before .if4 .left) refl (c .before .before .put-front .ensures)
+    let at-put-front = c .before .before in
+    let at-else4 = at-put-front .before .before .before in
+    let at-else3 = at-else4 .before in
+    let at-else2 = at-else3 .before .before in
+    let at-enter = at-else2 .before .before .before .before in
+    let at-table-of = at-enter .before .before .before .before .before in
+    let at-else1 = at-table-of .before in
+    let o = sym (at-else1 .before .obeys-rules .ensures) ∙ not-false _ (at-else1 .if1 .left) in
+    let read = reads-root _ _ o (at-table-of .table-of .ensures) (at-enter .enter .ensures) in
+    flatten-done _ _ _ _ o read (not-false _ (at-else2 .if2 .left)) (at-else3 .if3 .left) (at-else4 .if4 .left) refl (at-put-front .put-front .ensures)
 
 pub flatten-spec : {M : Type 1} → statement M
 flatten-spec =

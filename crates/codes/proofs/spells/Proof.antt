@@ -13,19 +13,26 @@ slice-aggregate-enter-2 : tie.Need-slice-aggregate-enter-2
 slice-aggregate-enter-2 c = search needs
 
 enter-requires : tie.Need-enter-requires
-enter-requires c κs = ((c .before .before .before .before .pre .0, c .before .before .before .before .pre .1 .0), search needs)
+enter-requires c κs =
+    let begin = c .before .before .before .before in
+    ((begin .pre .0, begin .pre .1 .0), search needs)
 
 returns : tie.Need-returns
-returns c = spells-no _ _ _ _ (c .before .before .before .before .before .before .before .before .before .pre .1 .1) (c .before .before .before .before .enter .ensures) (not-true _ (c .if1 .taken))
+returns c =
+    let at-enter = c .before .before .before .before in
+    let begin = at-enter .before .before .before .before .before in
+    spells-no _ _ _ _ (begin .pre .1 .1) (at-enter .enter .ensures) (not-true _ (c .if1 .taken))
 
 cast-if2 : tie.Need-cast-if2
 cast-if2 c = search needs
 
 returns-2 : tie.Need-returns-2
 returns-2 c =
-    let begin = c .before .before .before .before .before .before .before .before .before .before .before in
-    let read = c .before .before .before .before .before .before .enter .ensures in
-    spells-other _ _ _ _ (begin .pre .1 .1) read (not-false _ (c .before .before .if1 .left)) (c .if2 .taken)
+    let at-else1 = c .before .before in
+    let at-enter = at-else1 .before .before .before .before in
+    let begin0 = at-enter .before .before .before .before .before in
+    let read = at-enter .enter .ensures in
+    spells-other _ _ _ _ (begin0 .pre .1 .1) read (not-false _ (at-else1 .if1 .left)) (c .if2 .taken)
 
 slice-aggregate-begins : tie.Need-slice-aggregate-begins
 slice-aggregate-begins c = search needs
@@ -35,9 +42,12 @@ begins-requires c κs = search needs
 
 returns-3 : tie.Need-returns-3
 returns-3 c =
-    let begin = c .before .before .before .before .before .before .before .before .before .before .before .before .before in
-    let read = c .before .before .before .before .before .before .before .before .enter .ensures in
-    spells-same _ _ _ _ (begin .pre .1 .1) read (not-false _ (c .before .before .before .before .if1 .left)) (c .before .before .if2 .left) refl _ (c .begins .ensures)
+    let at-else2 = c .before .before in
+    let at-else1 = at-else2 .before .before in
+    let at-enter = at-else1 .before .before .before .before in
+    let begin0 = at-enter .before .before .before .before .before in
+    let read = at-enter .enter .ensures in
+    spells-same _ _ _ _ (begin0 .pre .1 .1) read (not-false _ (at-else1 .if1 .left)) (at-else2 .if2 .left) refl _ (c .begins .ensures)
 
 pub spells-spec : {M : Type 1} → statement M
 spells-spec =

@@ -17,14 +17,17 @@ no-totals-requires : tie.Need-no-totals-requires
 no-totals-requires c κs = search needs
 
 returns : tie.Need-returns
-returns c = rw (c .no-totals .ensures) (totals-bad _ _ _ (sym (c .before .before .obeys-rules .ensures) ∙ not-true _ (c .before .if1 .taken)))
+returns c =
+    let at-then1 = c .before in
+    rw (c .no-totals .ensures) (totals-bad _ _ _ (sym (at-then1 .before .obeys-rules .ensures) ∙ not-true _ (at-then1 .if1 .taken)))
 
 table-of-requires : tie.Need-table-of-requires
 table-of-requires c κs = obeys-iff _ .0 (sym (c .before .obeys-rules .ensures) ∙ not-false _ (c .if1 .left))
 
 sub-root : tie.Need-sub-root
 sub-root c =
-    let o = sym (c .before .before .before .obeys-rules .ensures) ∙ not-false _ (c .before .before .if1 .left) in
+    let at-else1 = c .before .before in
+    let o = sym (at-else1 .before .obeys-rules .ensures) ∙ not-false _ (at-else1 .if1 .left) in
     omega (arith, obeys-iff _ .0 o .one)
 
 slice-aggregate-enter : tie.Need-slice-aggregate-enter
@@ -35,18 +38,24 @@ slice-aggregate-enter-2 c = search needs
 
 enter-requires : tie.Need-enter-requires
 enter-requires c κs =
-    let o = sym (c .before .before .before .before .before .before .obeys-rules .ensures) ∙ not-false _ (c .before .before .before .before .before .if1 .left) in
+    let at-table-of = c .before .before .before .before in
+    let at-else1 = at-table-of .before in
+    let o = sym (at-else1 .before .obeys-rules .ensures) ∙ not-false _ (at-else1 .if1 .left) in
     let r = obeys-iff _ .0 o in
-    ((holds-good _ _ o (c .before .before .before .before .table-of .ensures), omega (arith, r .one, r .few)), search needs)
+    ((holds-good _ _ o (at-table-of .table-of .ensures), omega (arith, r .one, r .few)), search needs)
 
 no-totals-requires-2 : tie.Need-no-totals-requires-2
 no-totals-requires-2 c κs = search needs
 
 returns-2 : tie.Need-returns-2
 returns-2 c =
-    let o = sym (c .before .before .before .before .before .before .before .before .before .before .before .before .obeys-rules .ensures) ∙ not-false _ (c .before .before .before .before .before .before .before .before .before .before .before .if1 .left) in
-    let read = reads-root _ _ o (c .before .before .before .before .before .before .before .before .before .before .table-of .ensures) (c .before .before .before .before .before .enter .ensures) in
-    rw (c .no-totals2 .ensures) (totals-not _ _ _ o read (not-true _ (c .before .if2 .taken)))
+    let at-then2 = c .before in
+    let at-enter = at-then2 .before .before .before .before in
+    let at-table-of = at-enter .before .before .before .before .before in
+    let at-else1 = at-table-of .before in
+    let o = sym (at-else1 .before .obeys-rules .ensures) ∙ not-false _ (at-else1 .if1 .left) in
+    let read = reads-root _ _ o (at-table-of .table-of .ensures) (at-enter .enter .ensures) in
+    rw (c .no-totals2 .ensures) (totals-not _ _ _ o read (not-true _ (at-then2 .if2 .taken)))
 
 cast-n : tie.Need-cast-n
 cast-n c = search needs
@@ -56,9 +65,14 @@ no-totals-requires-3 c κs = search needs
 
 returns-3 : tie.Need-returns-3
 returns-3 c =
-    let o = sym (c .before .before .before .before .before .before .before .before .before .before .before .before .before .before .obeys-rules .ensures) ∙ not-false _ (c .before .before .before .before .before .before .before .before .before .before .before .before .before .if1 .left) in
-    let read = reads-root _ _ o (c .before .before .before .before .before .before .before .before .before .before .before .before .table-of .ensures) (c .before .before .before .before .before .before .before .enter .ensures) in
-    rw (c .no-totals3 .ensures) (totals-long _ _ _ o read (not-false _ (c .before .before .before .if2 .left)) (c .before .if3 .taken))
+    let at-then3 = c .before in
+    let at-else2 = at-then3 .before .before in
+    let at-enter = at-else2 .before .before .before .before in
+    let at-table-of = at-enter .before .before .before .before .before in
+    let at-else1 = at-table-of .before in
+    let o = sym (at-else1 .before .obeys-rules .ensures) ∙ not-false _ (at-else1 .if1 .left) in
+    let read = reads-root _ _ o (at-table-of .table-of .ensures) (at-enter .enter .ensures) in
+    rw (c .no-totals3 .ensures) (totals-long _ _ _ o read (not-false _ (at-else2 .if2 .left)) (at-then3 .if3 .taken))
 
 slice-aggregate-add-up : tie.Need-slice-aggregate-add-up
 slice-aggregate-add-up c = search needs
@@ -68,15 +82,25 @@ slice-aggregate-add-up-2 c = search needs
 
 add-up-requires : tie.Need-add-up-requires
 add-up-requires c κs =
-    let o = sym (c .before .before .before .before .before .before .before .before .before .before .before .before .before .before .before .obeys-rules .ensures) ∙ not-false _ (c .before .before .before .before .before .before .before .before .before .before .before .before .before .before .if1 .left) in
-    let read = reads-root _ _ o (c .before .before .before .before .before .before .before .before .before .before .before .before .before .table-of .ensures) (c .before .before .before .before .before .before .before .before .enter .ensures) in
-    totals-owned _ _ _ o read (not-false _ (c .before .before .before .before .if2 .left)) (c .before .before .if3 .left) refl refl
+    let at-else3 = c .before .before in
+    let at-else2 = at-else3 .before .before in
+    let at-enter = at-else2 .before .before .before .before in
+    let at-table-of = at-enter .before .before .before .before .before in
+    let at-else1 = at-table-of .before in
+    let o = sym (at-else1 .before .obeys-rules .ensures) ∙ not-false _ (at-else1 .if1 .left) in
+    let read = reads-root _ _ o (at-table-of .table-of .ensures) (at-enter .enter .ensures) in
+    totals-owned _ _ _ o read (not-false _ (at-else2 .if2 .left)) (at-else3 .if3 .left) refl refl
 
 returns-4 : tie.Need-returns-4
 returns-4 c =
-    let o = sym (c .before .before .before .before .before .before .before .before .before .before .before .before .before .before .before .before .obeys-rules .ensures) ∙ not-false _ (c .before .before .before .before .before .before .before .before .before .before .before .before .before .before .before .if1 .left) in
-    let read = reads-root _ _ o (c .before .before .before .before .before .before .before .before .before .before .before .before .before .before .table-of .ensures) (c .before .before .before .before .before .before .before .before .before .enter .ensures) in
-    totals-done _ _ _ o read (not-false _ (c .before .before .before .before .before .if2 .left)) (c .before .before .before .if3 .left) refl refl _ (c .add-up .ensures)
+    let at-else3 = c .before .before .before in
+    let at-else2 = at-else3 .before .before in
+    let at-enter = at-else2 .before .before .before .before in
+    let at-table-of = at-enter .before .before .before .before .before in
+    let at-else1 = at-table-of .before in
+    let o = sym (at-else1 .before .obeys-rules .ensures) ∙ not-false _ (at-else1 .if1 .left) in
+    let read = reads-root _ _ o (at-table-of .table-of .ensures) (at-enter .enter .ensures) in
+    totals-done _ _ _ o read (not-false _ (at-else2 .if2 .left)) (at-else3 .if3 .left) refl refl _ (c .add-up .ensures)
 
 pub totals-spec : {M : Type 1} → statement M
 totals-spec =

@@ -107,28 +107,30 @@ enum-known-leaf t c = search needs
 
 put-leaf-requires : (t : ℕ) → lts.Need-put-leaf-requires (given t) (called t) reads.Post Inv μ-loop
 put-leaf-requires t c κs =
-    let d = c .before .before .before .before .before in
+    let at-leaf = c .before .before .before in
+    let d = at-leaf .before .before in
     let known = line t d in
     let begin = start t d in
-    (leaf-formed (known .good) _ (known .below) _ (known .node) _ (c .before .before .before .leaf .given .1), begin .pre .1 .1)
+    (leaf-formed (known .good) _ (known .below) _ (known .node) _ (at-leaf .leaf .given .1), begin .pre .1 .1)
 
 enum-known-p : (t : ℕ) → lts.Need-enum-known-p (given t) (called t) reads.Post Inv μ-loop
 enum-known-p t c = search needs
 
 cast-put-entries : (t : ℕ) → lts.Need-cast-put-entries (given t) (called t) reads.Post Inv μ-loop
 cast-put-entries t c =
-    let d = c .before .before .before in
+    let at-p = c .before in
+    let d = at-p .before .before in
     let known = line t d in
-    let begin = start t d in
-    let e = c .before .p .given .1 in
+    let e = at-p .p .given .1 in
     omega (arith, known .below, first-below known _ _ e)
 
 put-entries-requires : (t : ℕ) → lts.Need-put-entries-requires (given t) (called t) reads.Post Inv μ-loop
 put-entries-requires t c κs =
-    let d = c .before .before .before .before .before in
+    let at-p = c .before .before .before in
+    let d = at-p .before .before in
     let known = line t d in
     let begin = start t d in
-    let e = c .before .before .before .p .given .1 in
+    let e = at-p .p .given .1 in
     let h = first-below known _ _ e in
     (omega (arith, h, begin .pre .0), ((known .good, omega (arith, h, known .below)), begin .pre .1 .1))
 
@@ -140,29 +142,34 @@ same-length-2 t c = search needs
 
 returns : (t : ℕ) → lts.Need-returns (given t) (called t) reads.Post Inv μ-loop
 returns t c =
-    let d = c .before .before .before .before .before .before .before .before .before .before .before .before in
+    let at-put-entries = c .before .before .before .before .before .before in
+    let at-p = at-put-entries .before .before .before .before in
+    let d = at-p .before .before in
     let known = line t d in
     let begin = start t d in
-    let e = c .before .before .before .before .before .before .before .before .before .before .p .given .1 in
+    let e = at-p .p .given .1 in
     let parts = seq-is known _ _ _ _ e (begin .pre .1 .1 .within) in
-    first-failed parts (c .before .before .before .before .before .before .put-entries .ensures) (not-true _ (c .if1 .taken))
+    first-failed parts (at-put-entries .put-entries .ensures) (not-true _ (c .if1 .taken))
 
 cast-second : (t : ℕ) → lts.Need-cast-second (given t) (called t) reads.Post Inv μ-loop
 cast-second t c =
-    let d = c .before .before .before .before .before .before .before .before .before .before .before .before in
+    let at-p = c .before .before .before .before .before .before .before .before .before .before in
+    let d = at-p .before .before in
     let known = line t d in
-    let begin = start t d in
-    let e = c .before .before .before .before .before .before .before .before .before .before .p .given .1 in
+    let e = at-p .p .given .1 in
     omega (arith, known .below, second-below known _ _ e)
 
 put-entries-requires-2 : (t : ℕ) → lts.Need-put-entries-requires-2 (given t) (called t) reads.Post Inv μ-loop
 put-entries-requires-2 t c κs =
-    let d = c .before .before .before .before .before .before .before .before .before .before .before .before .before .before in
+    let at-else1 = c .before .before in
+    let at-put-entries = at-else1 .before .before .before .before .before .before in
+    let at-p = at-put-entries .before .before .before .before in
+    let d = at-p .before .before in
     let known = line t d in
     let begin = start t d in
-    let e = c .before .before .before .before .before .before .before .before .before .before .before .before .p .given .1 in
+    let e = at-p .p .given .1 in
     let h = second-below known _ _ e in
-    let ready = enters-ready (c .before .before .before .before .before .before .before .before .put-entries .ensures) (not-false _ (c .before .before .if1 .left)) (begin .pre .1 .1) in
+    let ready = enters-ready (at-put-entries .put-entries .ensures) (not-false _ (at-else1 .if1 .left)) (begin .pre .1 .1) in
     (omega (arith, h, begin .pre .0), ((known .good, omega (arith, h, known .below)), ready))
 
 enum-known-p-2 : (t : ℕ) → lts.Need-enum-known-p-2 (given t) (called t) reads.Post Inv μ-loop
@@ -176,40 +183,46 @@ failed-requires t c κs = search needs
 
 returns-2 : (t : ℕ) → lts.Need-returns-2 (given t) (called t) reads.Post Inv μ-loop
 returns-2 t c =
-    let d = c .before .before .before .before .before .before in
+    let at-then2 = c .before in
+    let at-bits-in = at-then2 .before in
+    let at-p2 = at-bits-in .before .before in
+    let d = at-p2 .before .before in
     let known = line t d in
-    let begin = start t d in
-    let e = c .before .before .before .before .p2 .given .1 in
-    not-entered refl refl (c .failed .ensures) (alt-none-is known _ _ _ _ e (omega (arith, c .before .if2 .taken, c .before .before .bits-in .ensures)))
+    let e = at-p2 .p2 .given .1 in
+    not-entered refl refl (c .failed .ensures) (alt-none-is known _ _ _ _ e (omega (arith, at-then2 .if2 .taken, at-bits-in .bits-in .ensures)))
 
 side-at-requires : (t : ℕ) → lts.Need-side-at-requires (given t) (called t) reads.Post Inv μ-loop
-side-at-requires t c κs = omega (arith, side-there t (c))
+side-at-requires t c κs = omega (arith, side-there t c)
 
 cast-side : (t : ℕ) → lts.Need-cast-side (given t) (called t) reads.Post Inv μ-loop
 cast-side t c =
-    let d = c .before .before .before .before .before .before in
+    let at-p2 = c .before .before .before .before in
+    let d = at-p2 .before .before in
     let known = line t d in
     let begin = start t d in
-    let e = c .before .before .before .before .p2 .given .1 in
+    let e = at-p2 .p2 .given .1 in
     let h = side-below known _ _ e (bit-at 8 (begin .args .code .now) (begin .args .at)) _ (c .side-at .ensures) in
     omega (arith, h, known .below)
 
 add-put-entries : (t : ℕ) → lts.Need-add-put-entries (given t) (called t) reads.Post Inv μ-loop
 add-put-entries t c =
-    let d = c .before .before .before .before .before .before in
-    let known = line t d in
-    let begin = start t d in
-    omega (arith, side-there t (c .before), begin .pre .1 .1 .short)
+    let at-else2 = c .before in
+    let read-node = at-else2 .before .before .before .before .before in
+    let begin = start t read-node in
+    omega (arith, side-there t at-else2, begin .pre .1 .1 .short)
 
 put-entries-requires-3 : (t : ℕ) → lts.Need-put-entries-requires-3 (given t) (called t) reads.Post Inv μ-loop
 put-entries-requires-3 t c κs =
-    let d = c .before .before .before .before .before .before .before .before in
+    let at-side-at = c .before .before in
+    let at-else2 = at-side-at .before in
+    let at-p2 = at-else2 .before .before .before in
+    let d = at-p2 .before .before in
     let known = line t d in
     let begin = start t d in
-    let e = c .before .before .before .before .before .before .p2 .given .1 in
-    let h = side-below known _ _ e (bit-at 8 (begin .args .code .now) (begin .args .at)) _ (c .before .before .side-at .ensures) in
-    let there = side-there t (c .before .before .before) in
-    let same = side-is known _ _ _ _ _ e there (c .before .before .side-at .ensures) in
+    let e = at-p2 .p2 .given .1 in
+    let h = side-below known _ _ e (bit-at 8 (begin .args .code .now) (begin .args .at)) _ (at-side-at .side-at .ensures) in
+    let there = side-there t at-else2 in
+    let same = side-is known _ _ _ _ _ e there (at-side-at .side-at .ensures) in
     (omega (arith, h, begin .pre .0), ((known .good, omega (arith, h, known .below)), ready-at (begin .pre .1 .1) (same .within)))
 
 enum-known-p-3 : (t : ℕ) → lts.Need-enum-known-p-3 (given t) (called t) reads.Post Inv μ-loop
@@ -217,23 +230,27 @@ enum-known-p-3 t c = search needs
 
 cast-part : (t : ℕ) → lts.Need-cast-part (given t) (called t) reads.Post Inv μ-loop
 cast-part t c =
-    let d = c .before .before .before in
+    let at-p3 = c .before in
+    let d = at-p3 .before .before in
     let known = line t d in
-    let begin = start t d in
-    let e = c .before .p3 .given .1 in
+    let e = at-p3 .p3 .given .1 in
     omega (arith, known .below, star-below known _ e)
 
 bits-in-requires-2 : (t : ℕ) → lts.Need-bits-in-requires-2 (given t) (called t) reads.Post Inv μ-loop
 bits-in-requires-2 t c κs = start t (c .before .before .before) .pre .1 .1 .short
 
 loop-holds : (t : ℕ) → lts.Need-loop-holds (given t) (called t) reads.Post Inv μ-loop
-loop-holds t c = turns-start (start t (c .before .before .before .before) .pre .1 .1)
+loop-holds t c =
+    let read-node = c .before .before .before .before in
+    turns-start (start t read-node .pre .1 .1)
 
 bit-at-requires : (t : ℕ) → lts.Need-bit-at-requires (given t) (called t) reads.Post Inv μ-loop
-bit-at-requires t c κs = omega (arith, bit-there t (c))
+bit-at-requires t c κs = omega (arith, bit-there t c)
 
 add-t50 : (t : ℕ) → lts.Need-add-t50 (given t) (called t) reads.Post Inv μ-loop
-add-t50 t c = omega (arith, bit-there t (c .before .before), c .before .before .before .loop .inv .ready .short)
+add-t50 t c =
+    let inside = c .before .before in
+    omega (arith, bit-there t inside, inside .before .loop .inv .ready .short)
 
 same-length-3 : (t : ℕ) → lts.Need-same-length-3 (given t) (called t) reads.Post Inv μ-loop
 same-length-3 t c = c .before .before .before .loop .inv .long
@@ -243,72 +260,94 @@ same-length-4 t c = c .before .before .before .loop .inv .wide
 
 returns-3 : (t : ℕ) → lts.Need-returns-3 (given t) (called t) reads.Post Inv μ-loop
 returns-3 t c =
-    let d = c .before .before .before .before .before .before .before .before in
+    let at-bit-at = c .before in
+    let inside = at-bit-at .before in
+    let turn = inside .before in
+    let at-p3 = turn .before .before .before in
+    let d = at-p3 .before .before in
     let known = line t d in
-    let begin = start t d in
-    let e = c .before .before .before .before .before .before .p3 .given .1 in
-    let at-loop = c .before .before .before in
-    let there = bit-there t (c .before .before) in
-    let stop = stop-is known _ _ _ e there _ (c .before .bit-at .ensures) (c .if3 .taken) in
-    at-loop .loop .inv .finish _ _ _ (none-entered _ _ (at-loop .loop .inv .ready .few) stop)
+    let e = at-p3 .p3 .given .1 in
+    let there = bit-there t inside in
+    let stop = stop-is known _ _ _ e there _ (at-bit-at .bit-at .ensures) (c .if3 .taken) in
+    turn .loop .inv .finish _ _ _ (none-entered _ _ (turn .loop .inv .ready .few) stop)
 
 add-put-entries-2 : (t : ℕ) → lts.Need-add-put-entries-2 (given t) (called t) reads.Post Inv μ-loop
-add-put-entries-2 t c = omega (arith, bit-there t (c .before .before), c .before .before .before .loop .inv .ready .short)
+add-put-entries-2 t c =
+    let inside = c .before .before in
+    omega (arith, bit-there t inside, inside .before .loop .inv .ready .short)
 
 put-entries-requires-4 : (t : ℕ) → lts.Need-put-entries-requires-4 (given t) (called t) reads.Post Inv μ-loop
 put-entries-requires-4 t c κs =
-    let d = c .before .before .before .before .before .before .before .before .before .before in
+    let at-else3 = c .before .before in
+    let at-bit-at = at-else3 .before in
+    let inside = at-bit-at .before in
+    let turn = inside .before in
+    let at-p3 = turn .before .before .before in
+    let d = at-p3 .before .before in
     let known = line t d in
     let begin = start t d in
-    let e = c .before .before .before .before .before .before .before .before .p3 .given .1 in
-    let again = c .before .before in
-    let at-loop = c .before .before .before .before .before in
-    let there = bit-there t (c .before .before .before .before) in
-    let parts = round-is known _ _ _ e there _ (c .before .before .before .bit-at .ensures) (again .if3 .left) in
+    let e = at-p3 .p3 .given .1 in
+    let there = bit-there t inside in
+    let parts = round-is known _ _ _ e there _ (at-bit-at .bit-at .ensures) (at-else3 .if3 .left) in
     let h = star-below known _ e in
-    (omega (arith, h, begin .pre .0), ((known .good, omega (arith, h, known .below)), turn-ready (at-loop .loop .inv) parts))
+    (omega (arith, h, begin .pre .0), ((known .good, omega (arith, h, known .below)), turn-ready (turn .loop .inv) parts))
 
 same-length-5 : (t : ℕ) → lts.Need-same-length-5 (given t) (called t) reads.Post Inv μ-loop
-same-length-5 t c = c .before .before .before .before .before .before .put-entries4 .ensures .long ∙ c .before .before .before .before .before .before .before .before .before .before .before .before .loop .inv .long
+same-length-5 t c =
+    let at-put-entries4 = c .before .before .before .before .before .before in
+    let turn = at-put-entries4 .before .before .before .before .before .before in
+    at-put-entries4 .put-entries4 .ensures .long ∙ turn .loop .inv .long
 
 same-length-6 : (t : ℕ) → lts.Need-same-length-6 (given t) (called t) reads.Post Inv μ-loop
-same-length-6 t c = c .before .before .before .before .before .before .put-entries4 .ensures .wide ∙ c .before .before .before .before .before .before .before .before .before .before .before .before .loop .inv .wide
+same-length-6 t c =
+    let at-put-entries4 = c .before .before .before .before .before .before in
+    let turn = at-put-entries4 .before .before .before .before .before .before in
+    at-put-entries4 .put-entries4 .ensures .wide ∙ turn .loop .inv .wide
 
 returns-4 : (t : ℕ) → lts.Need-returns-4 (given t) (called t) reads.Post Inv μ-loop
 returns-4 t c =
-    let d = c .before .before .before .before .before .before .before .before .before .before .before .before .before .before .before .before .before in
+    let at-put-entries4 = c .before .before .before .before .before .before in
+    let at-else3 = at-put-entries4 .before .before .before in
+    let at-bit-at = at-else3 .before in
+    let inside = at-bit-at .before in
+    let turn = inside .before in
+    let at-p3 = turn .before .before .before in
+    let d = at-p3 .before .before in
     let known = line t d in
-    let begin = start t d in
-    let e = c .before .before .before .before .before .before .before .before .before .before .before .before .before .before .before .p3 .given .1 in
-    let again = c .before .before .before .before .before .before .before .before .before in
-    let at-loop = c .before .before .before .before .before .before .before .before .before .before .before .before in
-    let there = bit-there t (c .before .before .before .before .before .before .before .before .before .before .before) in
-    let parts = round-is known _ _ _ e there _ (c .before .before .before .before .before .before .before .before .before .before .bit-at .ensures) (again .if3 .left) in
-    turns-failed (at-loop .loop .inv) parts (c .before .before .before .before .before .before .put-entries4 .ensures) (not-true _ (c .if4 .taken))
+    let e = at-p3 .p3 .given .1 in
+    let there = bit-there t inside in
+    let parts = round-is known _ _ _ e there _ (at-bit-at .bit-at .ensures) (at-else3 .if3 .left) in
+    turns-failed (turn .loop .inv) parts (at-put-entries4 .put-entries4 .ensures) (not-true _ (c .if4 .taken))
 
 loop-less : (t : ℕ) → lts.Need-loop-less (given t) (called t) reads.Post Inv μ-loop
 loop-less t c =
-    let d = c .before .before .before .before .before .before .before .before .before .before .before .before .before .before .before .before .before in
+    let at-put-entries4 = c .before .before .before .before .before .before in
+    let at-else3 = at-put-entries4 .before .before .before in
+    let at-bit-at = at-else3 .before in
+    let inside = at-bit-at .before in
+    let turn = inside .before in
+    let at-p3 = turn .before .before .before in
+    let d = at-p3 .before .before in
     let known = line t d in
-    let begin = start t d in
-    let e = c .before .before .before .before .before .before .before .before .before .before .before .before .before .before .before .p3 .given .1 in
-    let again = c .before .before .before .before .before .before .before .before .before in
-    let at-loop = c .before .before .before .before .before .before .before .before .before .before .before .before in
-    let there = bit-there t (c .before .before .before .before .before .before .before .before .before .before .before) in
-    let parts = round-is known _ _ _ e there _ (c .before .before .before .before .before .before .before .before .before .before .bit-at .ensures) (again .if3 .left) in
-    omega (arith, at-loop .loop .inv .ready .short, enters-stays (c .before .before .before .before .before .before .put-entries4 .ensures) (not-false _ (c .if4 .left)) (parts .within))
+    let e = at-p3 .p3 .given .1 in
+    let there = bit-there t inside in
+    let parts = round-is known _ _ _ e there _ (at-bit-at .bit-at .ensures) (at-else3 .if3 .left) in
+    omega (arith, turn .loop .inv .ready .short, enters-stays (at-put-entries4 .put-entries4 .ensures) (not-false _ (c .if4 .left)) (parts .within))
 
 loop-again : (t : ℕ) → lts.Need-loop-again (given t) (called t) reads.Post Inv μ-loop
 loop-again t c =
-    let d = c .before .before .before .before .before .before .before .before .before .before .before .before .before .before .before .before .before in
+    let at-put-entries4 = c .before .before .before .before .before .before in
+    let at-else3 = at-put-entries4 .before .before .before in
+    let at-bit-at = at-else3 .before in
+    let inside = at-bit-at .before in
+    let turn = inside .before in
+    let at-p3 = turn .before .before .before in
+    let d = at-p3 .before .before in
     let known = line t d in
-    let begin = start t d in
-    let e = c .before .before .before .before .before .before .before .before .before .before .before .before .before .before .before .p3 .given .1 in
-    let again = c .before .before .before .before .before .before .before .before .before in
-    let at-loop = c .before .before .before .before .before .before .before .before .before .before .before .before in
-    let there = bit-there t (c .before .before .before .before .before .before .before .before .before .before .before) in
-    let parts = round-is known _ _ _ e there _ (c .before .before .before .before .before .before .before .before .before .before .bit-at .ensures) (again .if3 .left) in
-    turns-more (at-loop .loop .inv) parts (c .before .before .before .before .before .before .put-entries4 .ensures) (not-false _ (c .if4 .left))
+    let e = at-p3 .p3 .given .1 in
+    let there = bit-there t inside in
+    let parts = round-is known _ _ _ e there _ (at-bit-at .bit-at .ensures) (at-else3 .if3 .left) in
+    turns-more (turn .loop .inv) parts (at-put-entries4 .put-entries4 .ensures) (not-false _ (c .if4 .left))
 
 failed-requires-2 : (t : ℕ) → lts.Need-failed-requires-2 (given t) (called t) reads.Post Inv μ-loop
 failed-requires-2 t c κs = search needs
@@ -321,10 +360,12 @@ same-length-8 t c = search needs
 
 returns-5 : (t : ℕ) → lts.Need-returns-5 (given t) (called t) reads.Post Inv μ-loop
 returns-5 t c =
-    let d = c .before .before .before .before .before .before .before .before .before .before in
+    let at-put-leaf = c .before .before .before .before in
+    let at-leaf = at-put-leaf .before .before .before .before in
+    let d = at-leaf .before .before in
     let known = line t d in
     let begin = start t d in
-    same-entered (leaf-is known _ _ _ (c .before .before .before .before .before .before .before .before .leaf .given .1) (begin .pre .1 .1 .within)) (c .before .before .before .before .put-leaf .ensures)
+    same-entered (leaf-is known _ _ _ (at-leaf .leaf .given .1) (begin .pre .1 .1 .within)) (at-put-leaf .put-leaf .ensures)
 
 same-length-9 : (t : ℕ) → lts.Need-same-length-9 (given t) (called t) reads.Post Inv μ-loop
 same-length-9 t c = search needs
@@ -334,13 +375,18 @@ same-length-10 t c = search needs
 
 returns-6 : (t : ℕ) → lts.Need-returns-6 (given t) (called t) reads.Post Inv μ-loop
 returns-6 t c =
-    let d = c .before .before .before .before .before .before .before .before .before .before .before .before .before .before .before .before .before .before .before in
+    let at-put-entries2 = c .before .before .before .before in
+    let at-else1 = at-put-entries2 .before .before .before in
+    let at-put-entries = at-else1 .before .before .before .before .before .before in
+    let at-p = at-put-entries .before .before .before .before in
+    let d = at-p .before .before in
     let known = line t d in
     let begin = start t d in
-    let e = c .before .before .before .before .before .before .before .before .before .before .before .before .before .before .before .before .before .p .given .1 in
+    let e = at-p .p .given .1 in
     let parts = seq-is known _ _ _ _ e (begin .pre .1 .1 .within) in
     let ready = begin .pre .1 .1 in
-    both-entered parts (c .before .before .before .before .before .before .before .before .before .before .before .before .before .put-entries .ensures) (not-false _ (c .before .before .before .before .before .before .before .if1 .left)) (ready .long) (ready .wide) (c .before .before .before .before .put-entries2 .ensures)
+    both-entered parts (at-put-entries .put-entries .ensures) (not-false _ (at-else1 .if1 .left)) (ready .long) (ready .wide)
+    (at-put-entries2 .put-entries2 .ensures)
 
 same-length-11 : (t : ℕ) → lts.Need-same-length-11 (given t) (called t) reads.Post Inv μ-loop
 same-length-11 t c = search needs
@@ -350,12 +396,15 @@ same-length-12 t c = search needs
 
 returns-7 : (t : ℕ) → lts.Need-returns-7 (given t) (called t) reads.Post Inv μ-loop
 returns-7 t c =
-    let d = c .before .before .before .before .before .before .before .before .before .before .before .before .before in
+    let at-put-entries3 = c .before .before .before .before in
+    let at-side-at = at-put-entries3 .before .before .before in
+    let at-else2 = at-side-at .before in
+    let at-p2 = at-else2 .before .before .before in
+    let d = at-p2 .before .before in
     let known = line t d in
-    let begin = start t d in
-    let e = c .before .before .before .before .before .before .before .before .before .before .before .p2 .given .1 in
-    let there = side-there t (c .before .before .before .before .before .before .before .before) in
-    same-entered (side-is known _ _ _ _ _ e there (c .before .before .before .before .before .before .before .side-at .ensures)) (c .before .before .before .before .put-entries3 .ensures)
+    let e = at-p2 .p2 .given .1 in
+    let there = side-there t at-else2 in
+    same-entered (side-is known _ _ _ _ _ e there (at-side-at .side-at .ensures)) (at-put-entries3 .put-entries3 .ensures)
 
 same-length-13 : (t : ℕ) → lts.Need-same-length-13 (given t) (called t) reads.Post Inv μ-loop
 same-length-13 t c = c .before .before .loop .inv .long
@@ -365,13 +414,17 @@ same-length-14 t c = c .before .before .loop .inv .wide
 
 returns-8 : (t : ℕ) → lts.Need-returns-8 (given t) (called t) reads.Post Inv μ-loop
 returns-8 t c =
-    let d = c .before .before .before .before .before .before .before in
+    let behind = c .before in
+    let turn = behind .before in
+    let at-bits-in2 = turn .before in
+    let at-p3 = at-bits-in2 .before .before in
+    let d = at-p3 .before .before in
     let known = line t d in
     let begin = start t d in
-    let e = c .before .before .before .before .before .p3 .given .1 in
-    let at-loop = c .before .before in
-    let over = star-none-is known (begin .args .code .now) (at-loop .loop .here) _ e (omega (arith, c .before .loop-test .left, c .before .before .before .bits-in2 .ensures)) in
-    at-loop .loop .inv .finish _ _ _ (not-entered refl refl (c .failed2 .ensures) over)
+    let e = at-p3 .p3 .given .1 in
+    let over = star-none-is known (begin .args .code .now) (turn .loop .here) _ e
+    (omega (arith, behind .loop-test .left, at-bits-in2 .bits-in2 .ensures)) in
+    turn .loop .inv .finish _ _ _ (not-entered refl refl (c .failed2 .ensures) over)
 
 pub +put-entries-spec : {M : Type 1} → statement M
 +put-entries-spec = close μ λ t. lts.spec (given t)

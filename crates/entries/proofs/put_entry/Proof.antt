@@ -21,7 +21,10 @@ same-length-2 : tie.Need-same-length-2
 same-length-2 c = search needs
 
 returns : tie.Need-returns
-returns c = (c .before .before .before .before .before .before .before .put-cell .ensures, c .before .before .before .put-cell2 .ensures, ap (went _) (c .next-cell .ensures))
+returns c =
+    let at-put-cell2 = c .before .before .before in
+    let at-put-cell = at-put-cell2 .before .before .before .before in
+    (at-put-cell .put-cell .ensures, at-put-cell2 .put-cell2 .ensures, ap (went _) (c .next-cell .ensures))
 
 pub put-entry-spec : {M : Type 1} → statement M
 put-entry-spec =

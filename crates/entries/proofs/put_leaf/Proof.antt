@@ -14,16 +14,23 @@ enum-known-leaf : tie.Need-enum-known-leaf
 enum-known-leaf c = search needs
 
 put-entry-requires : tie.Need-put-entry-requires
-put-entry-requires c κs = c .before .before .before .before .before .before .before .before .pre .1 .few
+put-entry-requires c κs =
+    let begin = c .before .before .before .before .before .before .before .before in
+    begin .pre .1 .few
 
 enum-known-leaf-2 : tie.Need-enum-known-leaf-2
 enum-known-leaf-2 c = search needs
 
 put-range-requires : tie.Need-put-range-requires
-put-range-requires c κs = (ap leaf-good (sym (c .before .before .before .leaf2 .given .1)) ∙ c .before .before .before .before .before .before .before .before .pre .0, c .before .before .before .before .before .before .before .before .pre .1)
+put-range-requires c κs =
+    let at-leaf2 = c .before .before .before in
+    let begin = at-leaf2 .before .before .before .before .before in
+    (ap leaf-good (sym (at-leaf2 .leaf2 .given .1)) ∙ begin .pre .0, begin .pre .1)
 
 returns : tie.Need-returns
-returns c = none-entered _ _ (c .before .before .before .before .before .pre .1 .few) (entries-nothing _ _ _ _ (c .enum-told .given .1) (c .before .before .before .before .before .pre .1 .within))
+returns c =
+    let begin = c .before .before .before .before .before in
+    none-entered _ _ (begin .pre .1 .few) (entries-nothing _ _ _ _ (c .enum-told .given .1) (begin .pre .1 .within))
 
 same-length : tie.Need-same-length
 same-length c = search needs
@@ -33,9 +40,11 @@ same-length-2 c = search needs
 
 returns-2 : tie.Need-returns-2
 returns-2 c =
-    let put = c .before .before .before .before in
-    one-entered (entries-letter _ _ _ _ _ (c .before .before .before .before .before .before .before .before .leaf .given .1) (c .before .before .before .before .before .before .before .before .before .before .before .before .before .pre .1 .within))
-    (put .put-entry .ensures .0) (put .put-entry .ensures .1) (put .put-entry .ensures .2)
+    let at-put-entry = c .before .before .before .before in
+    let at-leaf = at-put-entry .before .before .before .before in
+    let begin = at-leaf .before .before .before .before .before in
+    one-entered (entries-letter _ _ _ _ _ (at-leaf .leaf .given .1) (begin .pre .1 .within))
+    (at-put-entry .put-entry .ensures .0) (at-put-entry .put-entry .ensures .1) (at-put-entry .put-entry .ensures .2)
 
 same-length-3 : tie.Need-same-length-3
 same-length-3 c = search needs
@@ -44,7 +53,10 @@ same-length-4 : tie.Need-same-length-4
 same-length-4 c = search needs
 
 returns-3 : tie.Need-returns-3
-returns-3 c = rw (c .before .before .before .before .before .before .before .before .leaf2 .given .1) (c .before .before .before .before .put-range .ensures)
+returns-3 c =
+    let at-put-range = c .before .before .before .before in
+    let at-leaf2 = at-put-range .before .before .before .before in
+    rw (at-leaf2 .leaf2 .given .1) (at-put-range .put-range .ensures)
 
 pub put-leaf-spec : {M : Type 1} → statement M
 put-leaf-spec =

@@ -12,13 +12,17 @@ bits-in-requires : tie.Need-bits-in-requires
 bits-in-requires c κs = c .before .before .before .pre .1 .short
 
 add-if1 : tie.Need-add-if1
-add-if1 c = omega (arith, c .before .before .before .before .pre .1 .within, c .before .before .before .before .pre .1 .short)
+add-if1 c =
+    let begin = c .before .before .before .before in
+    omega (arith, begin .pre .1 .within, begin .pre .1 .short)
 
 failed-requires : tie.Need-failed-requires
 failed-requires c κs = search needs
 
 returns : tie.Need-returns
-returns c = not-entered refl refl (c .failed .ensures) (entries-short _ _ _ _ _ (omega (arith, c .before .if1 .taken, c .before .before .bits-in .ensures)))
+returns c =
+    let at-then1 = c .before in
+    not-entered refl refl (c .failed .ensures) (entries-short _ _ _ _ _ (omega (arith, at-then1 .if1 .taken, at-then1 .before .bits-in .ensures)))
 
 byte-at-requires : tie.Need-byte-at-requires
 byte-at-requires c κs = omega (arith, c .if1 .left, c .before .bits-in .ensures)
@@ -28,24 +32,39 @@ failed-requires-2 c κs = search needs
 
 returns-2 : tie.Need-returns-2
 returns-2 c =
-    let out = in-range-low _ _ _ (c .before .before .before .before .before .before .before .before .pre .0) (c .before .if2 .taken) in
+    let at-then2 = c .before in
+    let at-byte-at = at-then2 .before in
+    let at-else1 = at-byte-at .before in
+    let at-bits-in = at-else1 .before in
+    let begin = at-bits-in .before .before .before .before in
+    let out = in-range-low _ _ _ (begin .pre .0) (at-then2 .if2 .taken) in
     not-entered refl refl (c .failed2 .ensures)
-    (entries-outside _ _ _ _ _ _ (omega (arith, c .before .before .before .if1 .left, c .before .before .before .before .bits-in .ensures)) (c .before .before .byte-at .ensures) out)
+    (entries-outside _ _ _ _ _ _ (omega (arith, at-else1 .if1 .left, at-bits-in .bits-in .ensures)) (at-byte-at .byte-at .ensures) out)
 
 failed-requires-3 : tie.Need-failed-requires-3
 failed-requires-3 c κs = search needs
 
 returns-3 : tie.Need-returns-3
 returns-3 c =
-    let out = in-range-high _ _ _ (c .before .before .before .before .before .before .before .before .before .pre .0) (c .before .before .if2 .left) (c .before .if3 .taken) in
+    let at-then3 = c .before in
+    let at-else2 = at-then3 .before in
+    let at-byte-at = at-else2 .before in
+    let at-else1 = at-byte-at .before in
+    let at-bits-in = at-else1 .before in
+    let begin = at-bits-in .before .before .before .before in
+    let out = in-range-high _ _ _ (begin .pre .0) (at-else2 .if2 .left) (at-then3 .if3 .taken) in
     not-entered refl refl (c .failed3 .ensures)
-    (entries-outside _ _ _ _ _ _ (omega (arith, c .before .before .before .before .if1 .left, c .before .before .before .before .before .bits-in .ensures)) (c .before .before .before .byte-at .ensures) out)
+    (entries-outside _ _ _ _ _ _ (omega (arith, at-else1 .if1 .left, at-bits-in .bits-in .ensures)) (at-byte-at .byte-at .ensures) out)
 
 add-put-entry : tie.Need-add-put-entry
-add-put-entry c = omega (arith, c .before .before .before .before .before .before .before .before .before .before .pre .1 .within, c .before .before .before .before .before .before .before .before .before .before .pre .1 .short)
+add-put-entry c =
+    let begin = c .before .before .before .before .before .before .before .before .before .before in
+    omega (arith, begin .pre .1 .within, begin .pre .1 .short)
 
 put-entry-requires : tie.Need-put-entry-requires
-put-entry-requires c κs = c .before .before .before .before .before .before .before .before .before .before .pre .1 .few
+put-entry-requires c κs =
+    let begin = c .before .before .before .before .before .before .before .before .before .before in
+    begin .pre .1 .few
 
 same-length : tie.Need-same-length
 same-length c = search needs
@@ -55,10 +74,16 @@ same-length-2 c = search needs
 
 returns-4 : tie.Need-returns-4
 returns-4 c =
-    let put = c .before .before .before .before in
-    let inside = in-range-yes _ _ _ (c .before .before .before .before .before .before .before .before .before .before .before .before .before .before .before .pre .0) (c .before .before .before .before .before .before .before .before .if2 .left) (c .before .before .before .before .before .before .before .if3 .left) in
-    one-entered (entries-range _ _ _ _ _ _ (omega (arith, c .before .before .before .before .before .before .before .before .before .before .if1 .left, c .before .before .before .before .before .before .before .before .before .before .before .bits-in .ensures)) (c .before .before .before .before .before .before .before .before .before .byte-at .ensures) inside)
-    (put .put-entry .ensures .0) (put .put-entry .ensures .1) (put .put-entry .ensures .2)
+    let at-put-entry = c .before .before .before .before in
+    let at-else3 = at-put-entry .before .before .before in
+    let at-else2 = at-else3 .before in
+    let at-byte-at = at-else2 .before in
+    let at-else1 = at-byte-at .before in
+    let at-bits-in = at-else1 .before in
+    let begin = at-bits-in .before .before .before .before in
+    let inside = in-range-yes _ _ _ (begin .pre .0) (at-else2 .if2 .left) (at-else3 .if3 .left) in
+    one-entered (entries-range _ _ _ _ _ _ (omega (arith, at-else1 .if1 .left, at-bits-in .bits-in .ensures)) (at-byte-at .byte-at .ensures) inside)
+    (at-put-entry .put-entry .ensures .0) (at-put-entry .put-entry .ensures .1) (at-put-entry .put-entry .ensures .2)
 
 pub put-range-spec : {M : Type 1} → statement M
 put-range-spec =
