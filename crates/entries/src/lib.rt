@@ -12,7 +12,7 @@ ghost use Rattle.table.specs.Cells.{Good, tree-in};
 ghost use Rattle.walks.specs.Lines.{range-node};
 ghost use Rattle.walks.specs.Walks.{cap};
 ghost use Rattle.entries.specs.Entries.{leaf-tree};
-ghost use Rattle.entries.specs.Entering.{Ready, failed, Enters};
+ghost use Rattle.entries.specs.Entering.{Ready, went, failed, Enters};
 ghost use Rattle.entries.specs.Measures.{no-measure, Reads};
 use bits::bit_at;
 use bits::byte_at;
@@ -28,6 +28,12 @@ pub struct Entered {
     pub ok: bool,
     pub at: u32,
     pub n: usize,
+}
+
+fn went(at: u32, n: usize) -> Entered
+    ensures { λ r. ⌜ r ≡ went at n ⌝ }
+{
+    Entered { ok: true, at, n }
 }
 
 // A walk that fails answers one value, whatever it had read.
@@ -198,11 +204,7 @@ fn put_entries(
             let mut m = n;
             while here < end {
                 if bit_at(code, here) {
-                    return Entered {
-                        ok: true,
-                        at: here + 1,
-                        n: m,
-                    };
+                    return went(here + 1, m);
                 }
                 let one = put_entries(table, part, owner, code, here + 1, letters, accounts, m);
                 if !one.ok {

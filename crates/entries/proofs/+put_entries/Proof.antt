@@ -23,6 +23,7 @@ use Rattle.entries.proofs.bits_in.Reads as bits-in-reads
 use Rattle.entries.proofs.failed.Reads as failed-reads
 use Rattle.entries.proofs.handed_down.Reads as handed-down-reads
 use Rattle.entries.proofs.put_leaf.Reads as put-leaf-reads
+use Rattle.entries.proofs.went.Reads as went-reads
 use Rattle.table.proofs.account_at.Reads as account-at-reads
 use Rattle.table.proofs.node_at.Reads as node-at-reads
 use Rattle.walks.proofs.side_at.Reads as side-at-reads
@@ -61,6 +62,8 @@ given t = (
   side-at-reads.Learnt,
   bit-at-reads.Asked,
   bit-at-reads.Learnt,
+  went-reads.Asked,
+  went-reads.Learnt,
 )
 
 abbrev Inv : lts.InvT-loop
@@ -247,20 +250,28 @@ loop-holds t c =
 bit-at-requires : (t : ℕ) → lts.Need-bit-at-requires (given t) (called t) reads.Post Inv μ-loop
 bit-at-requires t c κs = omega (arith, bit-there t c)
 
-add-t50 : (t : ℕ) → lts.Need-add-t50 (given t) (called t) reads.Post Inv μ-loop
-add-t50 t c =
+add-went : (t : ℕ) → lts.Need-add-went (given t) (called t) reads.Post Inv μ-loop
+add-went t c =
     let inside = c .before .before in
     omega (arith, bit-there t inside, inside .before .loop .inv .ready .short)
 
+went-requires : (t : ℕ) → lts.Need-went-requires (given t) (called t) reads.Post Inv μ-loop
+went-requires t c κs = search needs
+
 same-length-3 : (t : ℕ) → lts.Need-same-length-3 (given t) (called t) reads.Post Inv μ-loop
-same-length-3 t c = c .before .before .before .loop .inv .long
+same-length-3 t c =
+    let turn = c .before .before .before .before in
+    turn .loop .inv .long
 
 same-length-4 : (t : ℕ) → lts.Need-same-length-4 (given t) (called t) reads.Post Inv μ-loop
-same-length-4 t c = c .before .before .before .loop .inv .wide
+same-length-4 t c =
+    let turn = c .before .before .before .before in
+    turn .loop .inv .wide
 
 returns-3 : (t : ℕ) → lts.Need-returns-3 (given t) (called t) reads.Post Inv μ-loop
 returns-3 t c =
-    let at-bit-at = c .before in
+    let at-then3 = c .before in
+    let at-bit-at = at-then3 .before in
     let inside = at-bit-at .before in
     let turn = inside .before in
     let at-p3 = turn .before .before .before in
@@ -268,8 +279,8 @@ returns-3 t c =
     let known = line t d in
     let e = at-p3 .p3 .given .1 in
     let there = bit-there t inside in
-    let stop = stop-is known _ _ _ e there _ (at-bit-at .bit-at .ensures) (c .if3 .taken) in
-    turn .loop .inv .finish _ _ _ (none-entered _ _ (turn .loop .inv .ready .few) stop)
+    let stop = stop-is known _ _ _ e there _ (at-bit-at .bit-at .ensures) (at-then3 .if3 .taken) in
+    rw (c .went .ensures) (turn .loop .inv .finish _ _ _ (none-entered _ _ (turn .loop .inv .ready .few) stop))
 
 add-put-entries-2 : (t : ℕ) → lts.Need-add-put-entries-2 (given t) (called t) reads.Post Inv μ-loop
 add-put-entries-2 t c =
@@ -458,7 +469,8 @@ pub +put-entries-spec : {M : Type 1} → statement M
     (bits-in-requires-2 t)
     (loop-holds t)
     (bit-at-requires t)
-    (add-t50 t)
+    (add-went t)
+    (went-requires t)
     (same-length-3 t)
     (same-length-4 t)
     (returns-3 t)
