@@ -154,7 +154,8 @@ module _ (w : ℕ) (h : 0 < w) (xs : List ℕ) where
       ∙ ap (λ l. getD l k false) (unpack-fill w m bs) ∙ getD-pad (m * w) bs k e ∙ List·getD-eq-default bs false (omega arith)
 
   -- the cells behind the written bits stand
-  pub write-past : (i : ℕ) (cs : List Bool) → i ≤ length xs * w → drop (cell-count w (i + length cs)) (write w xs i cs) ≡ drop (cell-count w (i + length cs)) xs
+  pub write-past : (i : ℕ) (cs : List Bool) → i ≤ length xs * w
+      → drop (cell-count w (i + length cs)) (write w xs i cs) ≡ drop (cell-count w (i + length cs)) xs
   unfolding write in-front
   write-past i [] l = refl
   write-past i (c ∷ cs) l =

@@ -145,7 +145,8 @@ module _ (bs : List Bool) where
       last v (some q) = ap (λ z. some (z, length bs - length (q .1))) (s v (q .0))
 
       go : (o : Read t) → read t (drop i bs) ≡ o
-          → seen (length bs) w f (bind o (λ p. bind (read u (p .1)) (λ q. some (pair (p .0) (q .0), q .1)))) ≡ and-then op (seen (length bs) t g o) (see bs u h)
+          → seen (length bs) w f (bind o (λ p. bind (read u (p .1)) (λ q. some (pair (p .0) (q .0), q .1)))) ≡ and-then op (seen (length bs) t g o)
+          (see bs u h)
       go none e = refl
       go (some p) e = last (p .0) (read u (p .1)) ∙ ap (λ z. joined op (g (p .0)) (seen (length bs) u h (read u z))) (rest-bits t i le p e)
 

@@ -18,7 +18,8 @@ use Rattle.syntax.specs.declared.naming.TreeFault.the-variants.{Line as 
 use Rattle.syntax.specs.Table.{node-at, parts, named-below, member, rightly-named, wrongly-names, unnamed, lowest, or-else, tree-fault}
 use Rattle.syntax.specs.Bools.{and-fst}
 use Rattle.syntax.specs.Lowest.{lowest-within, lowest-same, Searched, searched-start, searched-end, searched-here, searched-on}
-use Rattle.syntax.specs.Naming.{naming, name-one, name-next, name-all, Flags, index-or, Named-so-far, Names-wrongly, not-flagged, first-unnamed, fault-of}
+use Rattle.syntax.specs.Naming.{naming, name-one, name-next, name-all, Flags, index-or, Named-so-far, Names-wrongly, not-flagged, first-unnamed}
+use Rattle.syntax.specs.Naming.{fault-of}
 
 -- ── one part ──
 module _ (i : ℕ) (m : List Bool) (q : ℕ) where

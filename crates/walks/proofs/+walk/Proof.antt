@@ -170,7 +170,8 @@ walk-returns-3 : (t : ℕ) → walk-lts.Need-returns-3 (given t) (walk-at t) wal
 walk-returns-3 t c = c .went .ensures ∙ rounds-stop _ _ _ _ _ _ (c .before .before .before .before .loop .inv)
     (stop-is _ _ (omega arith) (star-as (c .before .before .before .before .before .before .before .before .before .before .pre .1 .0) _ (omega arith) _
     (c .before .before .before .before .before .before .before .before .node-at .ensures) _
-    (c .before .before .before .before .before .before .node4 .given .1)) _ (c .before .before .before .loop-test .taken) _ (c .before .before .bit-at .ensures)
+    (c .before .before .before .before .before .before .node4 .given .1)) _ (c .before .before .before .loop-test .taken) _
+    (c .before .before .bit-at .ensures)
     (c .before .if3 .taken))
 
 walk-cast-walk-4 : (t : ℕ) → walk-lts.Need-cast-walk-4 (given t) (walk-at t) walk.Post walk-Inv-loop walk-μ-loop
