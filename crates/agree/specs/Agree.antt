@@ -3,8 +3,7 @@ use mathlib.Core.Path.{_≡_}
 use mathlib.Core.Bool.{Bool, true, false}
 use mathlib.Core.Logic.{_↔_}
 use mathlib.Core.List.{List}
-use Prim.Native.Nat.{ℕ, _+_, _*_, _≤_}
-use lib.Dec.{ltb}
+use Prim.Native.Nat.{ℕ, _+_, _*_, _≤_, _<_}
 use lib.ListN.{length, take}
 use Rattle.syntax.specs.declared.Pattern.{Pattern}
 use Rattle.refusals.specs.declared.Refusal.{Refusal}
@@ -14,7 +13,7 @@ use Rattle.syntax.specs.Table.{obeys}
 use Rattle.syntax.specs.Trees.{root}
 use Rattle.bits.specs.Bits.{cell-count, pack, in-front}
 use Rattle.semantics.specs.Code.{Canonical}
-use Rattle.first_sweep.specs.StateSets.{words}
+use Rattle.first_sweep.specs.StateSets.{words as state-sets}
 use Rattle.canonical.specs.declared.Canonicalized.{Canonicalized}
 use Rattle.canonical.specs.declared.Canonicalized.the-variants.{Bits, Refused}
 use Rattle.agree.specs.declared.Agreement.{Agreement}
@@ -59,28 +58,29 @@ pub record Worked : Type 0 where
   pub again : List ℕ
 
 abbrev pub worked : (tape words again : List ℕ) → Worked
-worked ts ws gs = record { tape = ts; words = ws; again = gs }
+worked tape words again = record { tape = tape; words = words; again = again }
 
 -- a settled code is spelled and read: tape and words are filled, whatever is answered, and the code is written where it fits
 abbrev pub filled : Pattern → (code : List ℕ) → (count : ℕ) → Worked → Worked
-filled p code count w = worked (in-front (tape-of p code count) (w .tape)) (in-front (words p (tape-of p code count)) (w .words)) (w .again)
+filled p code count lent =
+    worked (in-front (tape-of p code count) (lent .tape)) (in-front (state-sets p (tape-of p code count)) (lent .words)) (lent .again)
 
 abbrev pub written : Pattern → (code : List ℕ) → (count : ℕ) → Worked → Worked
-written p code count w = worked (filled p code count w .tape) (filled p code count w .words) (in-front code (w .again))
+written p code count lent = worked (filled p code count lent .tape) (filled p code count lent .words) (in-front code (lent .again))
 
 -- each comes back as itself, the first before the second; a buffer that is too short for it is 7, with the bytes needed. Then the two are
 -- compared.
-abbrev pub Settled-again : (short short' : Bool) → Pattern → (one : List ℕ) → (n : ℕ) → (two : List ℕ) → (m : ℕ) → (lent left : Worked) → Agreement → Type 0
-Settled-again true short' p one n two m w v r = (r ≡ Not-settled (CodeTooShort (length one))) × (v ≡ filled p one n w)
-Settled-again false true p one n two m w v r = (r ≡ Not-settled (CodeTooShort (length two))) × (v ≡ filled p two m (written p one n w))
-Settled-again false false p one n two m w v r = Compares one n two m r × (v ≡ written p two m (written p one n w))
-
-abbrev pub Settles-again : Pattern → (one : List ℕ) → (n : ℕ) → (two : List ℕ) → (m : ℕ) → (lent left : Worked) → Agreement → Type 0
-Settles-again p one n two m w v r = Settled-again (ltb (length (w .again)) (length one)) (ltb (length (w .again)) (length two)) p one n two m w v r
+pub record Settles-again (p : Pattern) (one : List ℕ) (n : ℕ) (two : List ℕ) (m : ℕ) (lent left : Worked) (r : Agreement) : Type 0 where
+  pub first-short : length (lent .again) < length one → (r ≡ Not-settled (CodeTooShort (length one))) × (left ≡ filled p one n lent)
+  pub second-short : length one ≤ length (lent .again) → length (lent .again) < length two
+      → (r ≡ Not-settled (CodeTooShort (length two))) × (left ≡ filled p two m (written p one n lent))
+  pub compares : length one ≤ length (lent .again) → length two ≤ length (lent .again)
+      → Compares one n two m r × (left ≡ written p two m (written p one n lent))
 
 abbrev pub Comes-back : Pattern → (one : List ℕ) → (n : ℕ) → (two : List ℕ) → (m : ℕ) → (lent left : Worked) → Agreement → Type 0
-Comes-back p one n two m w v r =
-    Is-settled p one n (length (w .tape)) (length (w .words)) → Is-settled p two m (length (w .tape)) (length (w .words)) → Settles-again p one n two m w v r
+Comes-back p one n two m lent left r =
+    Is-settled p one n (length (lent .tape)) (length (lent .words)) → Is-settled p two m (length (lent .tape)) (length (lent .words))
+    → Settles-again p one n two m lent left r
 
 -- ── the run ──
 
@@ -96,10 +96,10 @@ abbrev pub front : (buffer : List ℕ) → (count : ℕ) → List ℕ
 front buffer n = take (cell-count 8 n) buffer
 
 -- the answer and the buffers worked in, by what the two calls answered: of refusals the first is passed on
-abbrev pub Verdict : (first second : Canonicalized) → Pattern → (xs ys : List ℕ) → (lent left : Worked) → Agreement → Type 0
-Verdict (Refused why) second p xs ys w v r = (r ≡ Not-settled why) × (v ≡ w)
-Verdict (Bits k) (Refused why) p xs ys w v r = (r ≡ Not-settled why) × (v ≡ w)
-Verdict (Bits k) (Bits l) p xs ys w v r = Settles-again p (front xs k) k (front ys l) l w v r
+pub record Verdict (first second : Canonicalized) (p : Pattern) (a-now b-now : List ℕ) (lent left : Worked) (r : Agreement) : Type 0 where
+  pub first-refused : (why : Refusal) → first ≡ Refused why → (r ≡ Not-settled why) × (left ≡ lent)
+  pub second-refused : (k : ℕ) → (why : Refusal) → first ≡ Bits k → second ≡ Refused why → (r ≡ Not-settled why) × (left ≡ lent)
+  pub both : (k l : ℕ) → first ≡ Bits k → second ≡ Bits l → Settles-again p (front a-now k) k (front b-now l) l lent left r
 
 -- 01: "buffers suffice with at least n tape cells, 2 × (n + 1) mark words, and as many code bytes as the code of the greedy reading of those
 -- letters fills"
@@ -108,22 +108,22 @@ pub record Suffice (p : Pattern) (letters : List ℕ) (tape words out : ℕ) : T
   pub word-room : 2 * (length letters + 1) ≤ words
   pub code-room : (bits : List Bool) → Canonical (root p) letters bits → cell-count 8 (length bits) ≤ out
 
--- the demand on a run: xs and ys are what the two calls of settling left, and the answer says whether the codes spell the same tape
-pub record On-run (p : Pattern) (c d : Code p) (xs ys : List ℕ) (r : Agreement) : Type 0 where
+-- the demand on a run: a-now and b-now are what the two calls of settling left, and the answer says whether the codes spell the same tape
+pub record On-run (p : Pattern) (c d : Code p) (a-now b-now : List ℕ) (r : Agreement) : Type 0 where
   pub x : Run p c
   pub y : Run p d
-  pub x-left : x .out-now ≡ xs
-  pub y-left : y .out-now ≡ ys
+  pub x-left : x .out-now ≡ a-now
+  pub y-left : y .out-now ≡ b-now
   pub demand : Demand p c d x y
   pub same : (r ≡ Same) ↔ (spells c ≡ spells d)
   pub different : (r ≡ Different) ↔ (spells c ≡ spells d → ⊥)
 
 -- where both are codes of the pattern, in lent buffers that suffice for each and for each again
-abbrev pub Demands : Pattern → (one : List ℕ) → (n : ℕ) → (two : List ℕ) → (m : ℕ) → (tape words a b again : ℕ) → (xs ys : List ℕ) → Agreement → Type 0
-Demands p one n two m nt nw na nb ng xs ys r =
+abbrev pub Demands : Pattern → (one : List ℕ) → (n : ℕ) → (two : List ℕ) → (m : ℕ) → (tape words a b again : ℕ) → (a-now b-now : List ℕ) → Agreement → Type 0
+Demands p one n two m tape words a b again a-now b-now r =
     obeys p ≡ true → (c d : Code p) → c .bytes ≡ one → c .count ≡ n → d .bytes ≡ two → d .count ≡ m
-    → Suffice p (spells c) nt nw na → Suffice p (spells d) nt nw nb → Suffice p (spells c) nt nw ng → Suffice p (spells d) nt nw ng
-    → On-run p c d xs ys r
+    → Suffice p (spells c) tape words a → Suffice p (spells d) tape words b → Suffice p (spells c) tape words again → Suffice p (spells d) tape words again
+    → On-run p c d a-now b-now r
 
 -- THE PROMISE of running the demand: two calls of settling, one after the other, then the answer and all buffers for every input, and the
 -- demand on this run

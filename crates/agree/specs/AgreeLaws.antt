@@ -3,10 +3,9 @@ use mathlib.Core.Path.{_≡_, refl, sym, ap, ap₂, subst, _∙_}
 use mathlib.Core.Bool.{Bool, true, false, false≢true}
 use mathlib.Core.Logic.{_↔_}
 use mathlib.Core.List.{List}
-use Prim.Native.Nat.{ℕ, zero, suc, _+_, _*_, _≤_, _<_}
+use Prim.Native.Nat.{ℕ, _+_, _*_, _≤_, _<_}
 use native.Mathlib.Omega.{arith}
-use borrow.Author.Tests.{ltb-true, ltb-false, le-ltb, leb-true, leb-false}
-use lib.Dec.{ltb, leb}
+use native.Mathlib.Decide.{decLe}
 use lib.ListN.{length, take}
 use Rattle.syntax.specs.declared.Pattern.{Pattern}
 use Rattle.refusals.specs.declared.Refusal.{Refusal}
@@ -24,20 +23,20 @@ use Rattle.semantics.specs.GreedyLaws.{greedy-canonical}
 use Rattle.first_sweep.specs.StateSets.{words}
 use Rattle.first_sweep.specs.Meaning.{words-length}
 use Rattle.walks.specs.Whole.{whole-code, letters-of}
-use Rattle.codes.specs.Flatten.{flatten-answer}
+use Rattle.codes.specs.FlattenLaws.{flatten-fills}
 use Rattle.parser.specs.Parse.{Reads-greedily}
 use Rattle.canonical.specs.declared.Canonicalized.{Canonicalized}
 use Rattle.canonical.specs.declared.Canonicalized.the-variants.{Bits, Refused}
 use Rattle.agree.specs.declared.Agreement.{Agreement}
 use Rattle.agree.specs.declared.Agreement.the-variants.{Same, Different, Refused as Not-settled}
-use Rattle.canonical.specs.Canonicalize.{canonicalized-answer, Read-by, Settles-by, Canonicalizes}
-use Rattle.canonical.specs.CanonicalLaws.{Spelled, spelled, settles}
+use Rattle.canonical.specs.Canonicalize.{canonicalized-answer, settle-early, Canonicalizes}
+use Rattle.canonical.specs.CanonicalLaws.{Spelled, spelled-clear, settle-passed, settles}
 use Rattle.canonical.specs.Unique.{canonicalized-same}
 use Rattle.canonical.specs.RoundTrip.{canonical-whole, canonical-spells, letters-readable}
 use Rattle.canonical.specs.Demand.{tape-of, Code, spells, Run, Settled, Equal, Third-demand}
 use Rattle.canonical.specs.Demanded.{third-demand}
 use Rattle.agree.specs.Agree.{concluded, Is-settled, Compares, Worked, worked, filled, written}
-use Rattle.agree.specs.Agree.{Settled-again, Comes-back, front, Verdict, Suffice, On-run, Agrees}
+use Rattle.agree.specs.Agree.{Settles-again, Comes-back, front, Verdict, Suffice, On-run, Agrees}
 
 -- ── an answer that is a refusal, and one that is not ──
 pub refusal-canonicalized : (a : Canonicalized) (why : Refusal) → a ≡ Refused why → 1 ≤ canonicalized-answer a .number
@@ -65,52 +64,42 @@ pub record Left (p : Pattern) (code : List ℕ) (count k : ℕ) (ts us ws vs xs 
 
 module _ (p : Pattern) (code : List ℕ) (count k : ℕ) (ts us ws vs xs ys : List ℕ) (r : Canonicalized)
     (h : Canonicalizes p code count ts us ws vs xs ys r) (e : r ≡ Bits k) where
+  -- it was not refused before the sweeps
+  passed : settle-early p code count (length ts) (length ws) .number ≡ 0
+  passed = go (decLe 1 (settle-early p code count (length ts) (length ws) .number))
+    where
+      go : Dec (1 ≤ settle-early p code count (length ts) (length ws) .number) → settle-early p code count (length ts) (length ws) .number ≡ 0
+      go (yes m) = sym (ap (λ a. a .number) (h .refuses m .0)) ∙ ap (λ a. canonicalized-answer a .number) e
+      go (no m) = omega arith
+
   pub left : Left p code count k ts us ws vs xs ys
-  unfolding Canonicalizes
-  left = go (flatten-answer p code count (length ts) .number) refl h
+  left =
+      let (s, enough) = settle-passed p code count (length ts) (length ws) passed in
+      let c = greedy-canonical (root p) (tape-of p code count) (letters-readable p code count (s .whole)) in
+      fitting s enough c (decLe (cell-count 8 (length (best p code count))) (length xs))
     where
       a-is : canonicalized-answer r ≡ answer 0 k
       a-is = ap canonicalized-answer e
 
-      swept : (s : Spelled p code count (length ts)) → us ≡ in-front (tape-of p code count) ts → 2 * (length (tape-of p code count) + 1) ≤ length ws
-          → vs ≡ in-front (words p (tape-of p code count)) ws → Reads-greedily (root p) (tape-of p code count) xs ys (canonicalized-answer r)
+      fitting : Spelled p code count (length ts) → 2 * (length (tape-of p code count) + 1) ≤ length ws
+          → Canonical (root p) (tape-of p code count) (best p code count) → Dec (cell-count 8 (length (best p code count)) ≤ length xs)
           → Left p code count k ts us ws vs xs ys
-      swept s t w v g =
-          let c = greedy-canonical (root p) (tape-of p code count) (letters-readable p code count (s .whole)) in
-          fitting c (leb (cell-count 8 (length (best p code count))) (length xs)) refl
-        where
-          fitting : Canonical (root p) (tape-of p code count) (best p code count) → (b : Bool)
-              → leb (cell-count 8 (length (best p code count))) (length xs) ≡ b → Left p code count k ts us ws vs xs ys
-          fitting c true f =
-              let l = leb-true (cell-count 8 (length (best p code count))) (length xs) f in
-              let m = g .fits (best p code count) c l in
-              let n : k ≡ length (best p code count) = ap (λ a. a .value) (sym a-is ∙ m .0) in
-              record {
-                it = s;
-                words-enough = w;
-                tape-is = t;
-                words-are = v;
-                canonical = c;
-                count-is = n;
-                room = subst (λ i. cell-count 8 i ≤ length xs) (sym n) l;
-                code-is = m .1;
-              }
-          fitting c false f =
-              let l = leb-false (cell-count 8 (length (best p code count))) (length xs) f in
-              let m = g .short (best p code count) c l in
-              absurd (let z : _≡_ {A = ℕ} 0 7 = ap (λ a. a .number) (sym a-is ∙ m .0) in omega arith)
-
-      read : (s : Spelled p code count (length ts)) → us ≡ in-front (tape-of p code count) ts → (b : Bool)
-          → ltb (length ws) (2 * (length (tape-of p code count) + 1)) ≡ b
-          → Read-by b p (tape-of p code count) ws vs xs ys (canonicalized-answer r) → Left p code count k ts us ws vs xs ys
-      read s t true f g = absurd (let z : _≡_ {A = ℕ} 0 6 = ap (λ a. a .number) (sym a-is ∙ g .0) in omega arith)
-      read s t false f g = swept s t (ltb-false (length ws) (2 * (length (tape-of p code count) + 1)) f) (g .0) (g .1)
-
-      go : (n : ℕ) → flatten-answer p code count (length ts) .number ≡ n
-          → Settles-by n (flatten-answer p code count (length ts)) p (tape-of p code count) ts us ws vs xs ys (canonicalized-answer r)
-          → Left p code count k ts us ws vs xs ys
-      go zero q w = read (spelled p code count (length ts) q) (w .0) (ltb (length ws) (2 * (length (tape-of p code count) + 1))) refl (w .1)
-      go (suc n) q w = absurd (let z : _≡_ {A = ℕ} 0 (suc n) = ap (λ a. a .number) (sym a-is ∙ w .0) ∙ q in omega arith)
+      fitting s enough c (yes l) =
+          let m = h .reads passed .fits (best p code count) c l in
+          let n : k ≡ length (best p code count) = ap (λ a. a .value) (sym a-is ∙ m .0) in
+          record {
+            it = s;
+            words-enough = enough;
+            tape-is = h .spells ∙ flatten-fills p code count ts (spelled-clear p code count (length ts) s);
+            words-are = h .fills passed;
+            canonical = c;
+            count-is = n;
+            room = subst (λ i. cell-count 8 i ≤ length xs) (sym n) l;
+            code-is = m .1;
+          }
+      fitting s enough c (no l) =
+          let m = h .reads passed .short (best p code count) c (omega arith) in
+          absurd (let z : _≡_ {A = ℕ} 0 7 = ap (λ a. a .number) (sym a-is ∙ m .0) in omega arith)
 
   pub left-room : cell-count 8 k ≤ length ys
   left-room =
@@ -154,17 +143,26 @@ module _ (p : Pattern) (code : List ℕ) (count k : ℕ) (ts us ws vs xs ys : Li
       (sym (words-length p (tape-of p code count))) (l .words-enough))
 
 -- ── a settled code, settled again ──
-abbrev Back-by : (short : Bool) → Pattern → (code : List ℕ) → (count : ℕ) → (lent left : Worked) → Canonicalized → Type 0
-Back-by true p code count w v r = (r ≡ Refused (CodeTooShort (length code))) × (v ≡ filled p code count w)
-Back-by false p code count w v r = (r ≡ Bits count) × (v ≡ written p code count w)
+record Back (p : Pattern) (code : List ℕ) (count : ℕ) (lent left : Worked) (r : Canonicalized) : Type 0 where
+  short : length (lent .again) < length code → (r ≡ Refused (CodeTooShort (length code))) × (left ≡ filled p code count lent)
+  fits : length code ≤ length (lent .again) → (r ≡ Bits count) × (left ≡ written p code count lent)
 
 all-worked : (a a' b b' c c' : List ℕ) → a ≡ a' → b ≡ b' → c ≡ c' → worked a b c ≡ worked a' b' c'
 all-worked a a' b b' c c' e f g = ap (λ z. worked z b c) e ∙ ap (λ z. worked a' z c) f ∙ ap (worked a' b') g
 
-back-by :
+back :
     (p : Pattern) (code : List ℕ) (count : ℕ) (ts us ws vs xs ys : List ℕ) (r : Canonicalized) → Canonicalizes p code count ts us ws vs xs ys r
-    → Is-settled p code count (length ts) (length ws) → Back-by (ltb (length xs) (length code)) p code count (worked ts ws xs) (worked us vs ys) r
-back-by p code count ts us ws vs xs ys r h s = go (ltb (length xs) (length code)) refl
+    → Is-settled p code count (length ts) (length ws) → Back p code count (worked ts ws xs) (worked us vs ys) r
+back p code count ts us ws vs xs ys r h s = record {
+  short = λ l.
+      let m = greedily .short (s .bits) (s .earliest) (subst (λ n. length xs < n) size l) in
+      (canonicalized-same r (Refused (CodeTooShort (length code))) (m .0 ∙ ap (λ n. refused (CodeTooShort n)) (sym size)), left-by xs (m .1));
+  fits = λ l.
+      let m = greedily .fits (s .bits) (s .earliest) (subst (λ n. n ≤ length xs) size l) in (
+        canonicalized-same r (Bits count) (m .0 ∙ ap (answer 0) (sym (s .count-is))),
+        left-by (in-front code xs) (m .1 ∙ ap (λ l. in-front l xs) (sym (s .bytes-are))),
+      );
+}
   where
     whole : whole-code (root p) code count ≡ true
     whole = ap₂ (whole-code (root p)) (s .bytes-are) (s .count-is) ∙ canonical-whole p (s .good) (s .letters) (s .few) (s .bits) (s .earliest)
@@ -175,27 +173,17 @@ back-by p code count ts us ws vs xs ys r h s = go (ltb (length xs) (length code)
     size : length code ≡ cell-count 8 (length (s .bits))
     size = ap length (s .bytes-are) ∙ length-pack 8 (s .bits)
 
-    read : (us ≡ in-front (tape-of p code count) ts) × Read-by false p (tape-of p code count) ws vs xs ys (canonicalized-answer r)
+    read : (us ≡ in-front (tape-of p code count) ts) × (vs ≡ in-front (words p (tape-of p code count)) ws)
+        × Reads-greedily (root p) (tape-of p code count) xs ys (canonicalized-answer r)
     read = settles p code count ts us ws vs xs ys r h (s .good) whole (rw letters-are (s .few)) (rw letters-are (s .tape-room)) (rw letters-are (s .word-room))
 
     greedily : Reads-greedily (root p) (s .letters) xs ys (canonicalized-answer r)
-    greedily = subst (λ l. Reads-greedily (root p) l xs ys (canonicalized-answer r)) letters-are (read .1 .1)
+    greedily = subst (λ l. Reads-greedily (root p) l xs ys (canonicalized-answer r)) letters-are (read .2)
 
     left-by : (again : List ℕ) → ys ≡ again
         → worked us vs ys ≡ worked (in-front (tape-of p code count) ts) (in-front (words p (tape-of p code count)) ws) again
     left-by again e =
-        all-worked us (in-front (tape-of p code count) ts) vs (in-front (words p (tape-of p code count)) ws) ys again (read .0) (read .1 .0) e
-
-    go : (b : Bool) → ltb (length xs) (length code) ≡ b → Back-by b p code count (worked ts ws xs) (worked us vs ys) r
-    go true e =
-        let m = greedily .short (s .bits) (s .earliest) (subst (λ n. length xs < n) size (ltb-true (length xs) (length code) e)) in
-        (canonicalized-same r (Refused (CodeTooShort (length code))) (m .0 ∙ ap (λ n. refused (CodeTooShort n)) (sym size)), left-by xs (m .1))
-    go false e =
-        let m = greedily .fits (s .bits) (s .earliest) (subst (λ n. n ≤ length xs) size (ltb-false (length xs) (length code) e)) in (
-          canonicalized-same r (Bits count) (m .0 ∙ ap (answer 0) (sym (s .count-is))),
-          left-by (in-front code xs)
-              (m .1 ∙ ap (λ l. in-front l xs) (sym (s .bytes-are))),
-        )
+        all-worked us (in-front (tape-of p code count) ts) vs (in-front (words p (tape-of p code count)) ws) ys again (read .0) (read .1) e
 
 -- ── comparing ──
 pub equal-counts : (one two : List ℕ) (n m : ℕ) → (n ≡ m → ⊥) → (false ≡ true) ↔ Equal one two n m
@@ -249,24 +237,25 @@ module _
     (h : Canonicalizes p one n ts us ws vs gs hs third)
   where
     pub again-first : (why : Refusal) → third ≡ Refused why → Comes-back p one n two m (worked ts ws gs) (worked us vs hs) (Not-settled why)
-    again-first why e s t = go (ltb (length gs) (length one)) (ltb (length gs) (length two)) (back-by p one n ts us ws vs gs hs third h s)
-      where
-        go : (b b' : Bool) → Back-by b p one n (worked ts ws gs) (worked us vs hs) third
-            → Settled-again b b' p one n two m (worked ts ws gs) (worked us vs hs) (Not-settled why)
-        go true b' q = (ap Not-settled (same-refusal third why (CodeTooShort (length one)) e (q .0)), q .1)
-        go false b' q = absurd (refused-not third why n e (q .0))
+    again-first why e s t =
+        let q = back p one n ts us ws vs gs hs third h s in
+        record {
+          first-short = λ l. let a = q .short l in (ap Not-settled (same-refusal third why (CodeTooShort (length one)) e (a .0)), a .1);
+          second-short = λ l j. absurd (refused-not third why n e (q .fits l .0));
+          compares = λ l j. absurd (refused-not third why n e (q .fits l .0));
+        }
 
     module _ (k : ℕ) (e : third ≡ Bits k) (us' vs' is : List ℕ) (fourth : Canonicalized) (f : Canonicalizes p two m us us' vs vs' hs is fourth) where
       -- the first came back, so the second is settled again in buffers of the same lengths
       kept-length : Is-settled p one n (length ts) (length ws) → length hs ≡ length gs
-      kept-length s = go (ltb (length gs) (length one)) refl (back-by p one n ts us ws vs gs hs third h s)
+      kept-length s = go (decLe (length one) (length gs))
         where
-          go : (b : Bool) → ltb (length gs) (length one) ≡ b → Back-by b p one n (worked ts ws gs) (worked us vs hs) third → length hs ≡ length gs
-          go true c q = ap (λ z. length (z .again)) (q .1)
-          go false c q = ap (λ z. length (z .again)) (q .1) ∙ length-in-front one gs (ltb-false (length gs) (length one) c)
+          go : Dec (length one ≤ length gs) → length hs ≡ length gs
+          go (yes l) = ap (λ z. length (z .again)) (back p one n ts us ws vs gs hs third h s .fits l .1) ∙ length-in-front one gs l
+          go (no l) = ap (λ z. length (z .again)) (back p one n ts us ws vs gs hs third h s .short (omega arith) .1)
 
       second-back : Is-settled p one n (length ts) (length ws) → Is-settled p two m (length ts) (length ws)
-          → Back-by (ltb (length gs) (length two)) p two m (worked us vs hs) (worked us' vs' is) fourth
+          → Back p two m (worked us vs hs) (worked us' vs' is) fourth
       second-back s t =
           let a : length us ≡ length ts = tape-length p one n k ts us ws vs gs hs third h e in
           let b : length vs ≡ length ws = words-kept p one n k ts us ws vs gs hs third h e in
@@ -281,50 +270,63 @@ module _
             tape-room = subst (λ z. length (t .letters) ≤ z) (sym a) (t .tape-room);
             word-room = subst (λ z. 2 * (length (t .letters) + 1) ≤ z) (sym b) (t .word-room);
           } in
-          subst (λ z. Back-by (ltb z (length two)) p two m (worked us vs hs) (worked us' vs' is) fourth) (kept-length s)
-          (back-by p two m us us' vs vs' hs is fourth f t')
+          back p two m us us' vs vs' hs is fourth f t'
 
       pub again-second : (why : Refusal) → fourth ≡ Refused why → Comes-back p one n two m (worked ts ws gs) (worked us' vs' is) (Not-settled why)
       again-second why d s t =
-          go (ltb (length gs) (length one)) (ltb (length gs) (length two)) (back-by p one n ts us ws vs gs hs third h s) (second-back s t)
-        where
-          go : (b b' : Bool) → Back-by b p one n (worked ts ws gs) (worked us vs hs) third → Back-by b' p two m (worked us vs hs) (worked us' vs' is) fourth
-              → Settled-again b b' p one n two m (worked ts ws gs) (worked us' vs' is) (Not-settled why)
-          go true b' q w = absurd (refused-not third (CodeTooShort (length one)) k (q .0) e)
-          go false true q w = (ap Not-settled (same-refusal fourth why (CodeTooShort (length two)) d (w .0)), w .1 ∙ ap (filled p two m) (q .1))
-          go false false q w = absurd (refused-not fourth why m d (w .0))
+          let q = back p one n ts us ws vs gs hs third h s in
+          let w = second-back s t in
+          let same = kept-length s in
+          record {
+            first-short = λ l. absurd (refused-not third (CodeTooShort (length one)) k (q .short l .0) e);
+            second-short = λ l j.
+                let a = w .short (omega (arith, same, j)) in
+                (ap Not-settled (same-refusal fourth why (CodeTooShort (length two)) d (a .0)), a .1 ∙ ap (filled p two m) (q .fits l .1));
+            compares = λ l j. absurd (refused-not fourth why m d (w .fits (omega (arith, same, j)) .0));
+          }
 
       pub again-both :
           (l i j : ℕ) → fourth ≡ Bits l → i ≡ cell-count 8 k → j ≡ cell-count 8 l → (x y z : Bool) → (x ≡ true) ↔ Equal one (take i hs) n k
           → (y ≡ true) ↔ Equal two (take j is) m l
           → (z ≡ true) ↔ Equal one two n m → (r : Agreement) → r ≡ concluded x y z → Comes-back p one n two m (worked ts ws gs) (worked us' vs' is) r
       again-both l i j d ei ej x y z ex ey ez r er s t =
-          go (ltb (length gs) (length one)) (ltb (length gs) (length two)) (back-by p one n ts us ws vs gs hs third h s) (second-back s t)
-        where
-          go : (b b' : Bool) → Back-by b p one n (worked ts ws gs) (worked us vs hs) third → Back-by b' p two m (worked us vs hs) (worked us' vs' is) fourth
-              → Settled-again b b' p one n two m (worked ts ws gs) (worked us' vs' is) r
-          go true b' q w = absurd (refused-not third (CodeTooShort (length one)) k (q .0) e)
-          go false true q w = absurd (refused-not fourth (CodeTooShort (length two)) l (w .0) d)
-          go false false q w =
-              let tx : x ≡ true =
-              back-equal one n k i gs hs x (same-bits third k n e (q .0)) ei (settled-size p one n (length ts) (length ws) s) (ap (λ v. v .again) (q .1)) ex in
-              let ty : y ≡ true =
-              back-equal two m l j hs is y (same-bits fourth l m d (w .0)) ej (settled-size p two m (length ts) (length ws) t)
-              (ap (λ v. v .again) (w .1)) ey in
-              let er' : r ≡ concluded true true z = er ∙ ap₂ (λ a b. concluded a b z) tx ty in
-              (subst (λ a. Compares one n two m a) (sym er') (concluded-by one two n m z ez), w .1 ∙ ap (written p two m) (q .1))
+          let q = back p one n ts us ws vs gs hs third h s in
+          let w = second-back s t in
+          let same = kept-length s in
+          record {
+            first-short = λ a. absurd (refused-not third (CodeTooShort (length one)) k (q .short a .0) e);
+            second-short = λ a b. absurd (refused-not fourth (CodeTooShort (length two)) l (w .short (omega (arith, same, b)) .0) d);
+            compares = λ a b.
+                let first = q .fits a in
+                let second = w .fits (omega (arith, same, b)) in
+                let tx : x ≡ true =
+                back-equal one n k i gs hs x (same-bits third k n e (first .0)) ei (settled-size p one n (length ts) (length ws) s)
+                (ap (λ v. v .again) (first .1)) ex in
+                let ty : y ≡ true =
+                back-equal two m l j hs is y (same-bits fourth l m d (second .0)) ej (settled-size p two m (length ts) (length ws) t)
+                (ap (λ v. v .again) (second .1)) ey in
+                let er' : r ≡ concluded true true z = er ∙ ap₂ (λ a b. concluded a b z) tx ty in
+                (subst (λ a. Compares one n two m a) (sym er') (concluded-by one two n m z ez), second .1 ∙ ap (written p two m) (first .1));
+          }
 
 -- ── the answer of a run ──
 verdict-first :
     (first second : Canonicalized) (p : Pattern) (xs ys : List ℕ) (w : Worked) (why : Refusal) → first ≡ Refused why
     → Verdict first second p xs ys w w (Not-settled why)
-verdict-first first second p xs ys w why e = subst (λ f. Verdict f second p xs ys w w (Not-settled why)) (sym e) (refl, refl)
+verdict-first first second p xs ys w why e = record {
+  first-refused = λ v q. (ap Not-settled (same-refusal first why v e q), refl);
+  second-refused = λ k v q d. absurd (refused-not first why k e q);
+  both = λ k l q d. absurd (refused-not first why k e q);
+}
 
 verdict-second :
     (first second : Canonicalized) (p : Pattern) (xs ys : List ℕ) (w : Worked) (k : ℕ) (why : Refusal) → first ≡ Bits k → second ≡ Refused why
     → Verdict first second p xs ys w w (Not-settled why)
-verdict-second first second p xs ys w k why e d =
-    subst (λ f. Verdict f second p xs ys w w (Not-settled why)) (sym e) (subst (λ g. Verdict (Bits k) g p xs ys w w (Not-settled why)) (sym d) (refl, refl))
+verdict-second first second p xs ys w k why e d = record {
+  first-refused = λ v q. absurd (refused-not first v k q e);
+  second-refused = λ j v q s. (ap Not-settled (same-refusal second why v d s), refl);
+  both = λ j l q s. absurd (refused-not second why l d s);
+}
 
 module _
     (p : Pattern)
@@ -351,8 +353,13 @@ module _
         let w' : Comes-back p (front xs k) k (front ys l) l (worked us' vs' gs) left-in r =
         subst (λ z. Comes-back p (take z xs) k (front ys l) l (worked us' vs' gs) left-in r) ei
         (subst (λ z. Comes-back p (take i xs) k (take z ys) l (worked us' vs' gs) left-in r) ej w) in
-        subst (λ g. Verdict g second p xs ys (worked us' vs' gs) left-in r) (sym e)
-        (subst (λ g. Verdict (Bits k) g p xs ys (worked us' vs' gs) left-in r) (sym d) (w' s t))
+        record {
+          first-refused = λ v q. absurd (refused-not first v k q e);
+          second-refused = λ c v q g. absurd (refused-not second v l g d);
+          both = λ c o q g.
+              subst (λ z. Settles-again p (front xs z) z (front ys o) o (worked us' vs' gs) left-in r) (same-bits first k c e q)
+              (subst (λ z. Settles-again p (front xs k) k (front ys z) z (worked us' vs' gs) left-in r) (same-bits second l o d g) (w' s t));
+        }
 
 -- ── the demand on a run ──
 module _
@@ -413,8 +420,6 @@ module _
 
     compared : (k l : ℕ) → first ≡ Bits k → second ≡ Bits l → Compares (front xs k) k (front ys l) l r
     compared k l e q =
-        let v : Verdict (Bits k) (Bits l) p xs ys (worked us' vs' gs) left-in r =
-        subst (λ z. Verdict (Bits k) z p xs ys (worked us' vs' gs) left-in r) q (subst (λ z. Verdict z second p xs ys (worked us' vs' gs) left-in r) e w) in
         let a = left p (c .bytes) (c .count) k ts us ws vs os xs first h e in
         let b = left p (d .bytes) (d .count) l us us' vs vs' bs ys second f q in
         let x : length (front xs k) ≤ length gs =
@@ -423,9 +428,7 @@ module _
         let y : length (front ys l) ≤ length gs =
         subst (λ z. z ≤ length gs) (sym (ap length (left-front p (d .bytes) (d .count) l us us' vs vs' bs ys second f q)
         ∙ length-pack 8 (greedy (root p) (spells d)))) (gd .code-room (greedy (root p) (spells d)) (b .canonical)) in
-        subst (λ z. Settled-again false z p (front xs k) k (front ys l) l (worked us' vs' gs) left-in r) (le-ltb (length gs) (length (front ys l)) y)
-        (subst (λ z. Settled-again z (ltb (length gs) (length (front ys l))) p (front xs k) k (front ys l) l (worked us' vs' gs) left-in r)
-        (le-ltb (length gs) (length (front xs k)) x) v) .0
+        w .both k l e q .compares x y .0
 
     pub on-run : On-run p c d xs ys r
     unfolding Third-demand

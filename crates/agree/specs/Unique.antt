@@ -1,10 +1,9 @@
 -- The promise of running the demand fixes answer and buffers: two outcomes that it allows on one input are the same.
 use mathlib.Core.Path.{_≡_, refl, sym, ap, subst, _∙_}
-use mathlib.Core.Bool.{Bool, true, false}
 use mathlib.Core.List.{List}
-use Prim.Native.Nat.{ℕ}
+use Prim.Native.Nat.{ℕ, _≤_}
 use native.Mathlib.Omega.{arith}
-use lib.Dec.{ltb}
+use native.Mathlib.Decide.{decLe}
 use lib.ListN.{length}
 use Rattle.syntax.specs.declared.Pattern.{Pattern}
 use Rattle.canonical.specs.declared.Canonicalized.{Canonicalized}
@@ -14,7 +13,7 @@ use Rattle.agree.specs.declared.Agreement.the-variants.{Same, Different,
 use Rattle.canonical.specs.Canonicalize.{Canonicalizes}
 use Rattle.canonical.specs.Unique.{canonicalizes-one}
 use Rattle.canonical.specs.Demand.{Equal}
-use Rattle.agree.specs.Agree.{Compares, Worked, worked, Settled-again, front, Verdict, Agrees}
+use Rattle.agree.specs.Agree.{Compares, Worked, worked, Settles-again, front, Verdict, Agrees}
 
 abbrev tag : Agreement → ℕ
 tag Same = 0
@@ -29,18 +28,36 @@ compares-one one n two m (Not-settled w) s f g =
     let z : _≡_ {A = ℕ} 2 1 = ap tag (f .different .1 none) in
     absurd (omega arith)
 
-again-one : (b c : Bool) (p : Pattern) (one : List ℕ) (n : ℕ) (two : List ℕ) (m : ℕ) (w v u : Worked) (r s : Agreement)
-    → Settled-again b c p one n two m w v r → Settled-again b c p one n two m w u s → (r ≡ s) × (v ≡ u)
-again-one true c p one n two m w v u r s f g = (f .0 ∙ sym (g .0), f .1 ∙ sym (g .1))
-again-one false true p one n two m w v u r s f g = (f .0 ∙ sym (g .0), f .1 ∙ sym (g .1))
-again-one false false p one n two m w v u r s f g = (compares-one one n two m r s (f .0) (g .0), f .1 ∙ sym (g .1))
+again-one : (p : Pattern) (one : List ℕ) (n : ℕ) (two : List ℕ) (m : ℕ) (lent left left-too : Worked) (r s : Agreement)
+    → Settles-again p one n two m lent left r → Settles-again p one n two m lent left-too s → (r ≡ s) × (left ≡ left-too)
+again-one p one n two m lent left left-too r s f g = go (decLe (length one) (length (lent .again))) (decLe (length two) (length (lent .again)))
+  where
+    go : Dec (length one ≤ length (lent .again)) → Dec (length two ≤ length (lent .again)) → (r ≡ s) × (left ≡ left-too)
+    go (no a) d =
+        let x = f .first-short (omega arith) in
+        let y = g .first-short (omega arith) in
+        (x .0 ∙ sym (y .0), x .1 ∙ sym (y .1))
+    go (yes a) (no b) =
+        let x = f .second-short a (omega arith) in
+        let y = g .second-short a (omega arith) in
+        (x .0 ∙ sym (y .0), x .1 ∙ sym (y .1))
+    go (yes a) (yes b) =
+        let x = f .compares a b in
+        let y = g .compares a b in
+        (compares-one one n two m r s (x .0) (y .0), x .1 ∙ sym (y .1))
 
-verdict-one : (x y : Canonicalized) (p : Pattern) (xs ys : List ℕ) (w v u : Worked) (r s : Agreement) → Verdict x y p xs ys w v r
-    → Verdict x y p xs ys w u s → (r ≡ s) × (v ≡ u)
-verdict-one (Refused why) y p xs ys w v u r s f g = (f .0 ∙ sym (g .0), f .1 ∙ sym (g .1))
-verdict-one (Bits k) (Refused why) p xs ys w v u r s f g = (f .0 ∙ sym (g .0), f .1 ∙ sym (g .1))
-verdict-one (Bits k) (Bits l) p xs ys w v u r s f g =
-    again-one (ltb (length (w .again)) (length (front xs k))) (ltb (length (w .again)) (length (front ys l))) p (front xs k) k (front ys l) l w v u r s f g
+verdict-one : (x y : Canonicalized) (p : Pattern) (a b : List ℕ) (lent left left-too : Worked) (r s : Agreement)
+    → Verdict x y p a b lent left r → Verdict x y p a b lent left-too s → (r ≡ s) × (left ≡ left-too)
+verdict-one (Refused why) y p a b lent left left-too r s f g =
+    let x = f .first-refused why refl in
+    let z = g .first-refused why refl in
+    (x .0 ∙ sym (z .0), x .1 ∙ sym (z .1))
+verdict-one (Bits k) (Refused why) p a b lent left left-too r s f g =
+    let x = f .second-refused k why refl refl in
+    let z = g .second-refused k why refl refl in
+    (x .0 ∙ sym (z .0), x .1 ∙ sym (z .1))
+verdict-one (Bits k) (Bits l) p a b lent left left-too r s f g =
+    again-one p (front a k) k (front b l) l lent left left-too r s (f .both k l refl refl) (g .both k l refl refl)
 
 module _ (p : Pattern) (one : List ℕ) (n : ℕ) (two : List ℕ) (m : ℕ) (lent left left-too : Worked) (a x x-too b y y-too : List ℕ) (r s : Agreement)
     (f : Agrees p one n two m lent left a x b y r) (g : Agrees p one n two m lent left-too a x-too b y-too s) where

@@ -1,11 +1,11 @@
 -- Laws of settling: one for each way of the code.
 use mathlib.Core.Path.{_≡_, refl, sym, ap, subst, _∙_}
-use mathlib.Core.Bool.{Bool, true, false, _&&_, not, cond, true≢false, false≢true}
+use mathlib.Core.Bool.{true, not}
 use mathlib.Core.List.{List, [], _∷_, _++_}
 use Prim.Native.Nat.{ℕ, zero, suc, _+_, _*_, _-_, _≤_, _<_}
 use native.Mathlib.Omega.{arith}
-use borrow.Author.Tests.{lt-ltb, le-ltb, le-leb, leb-true, leb-false, ne-eqb}
-use lib.Dec.{ltb, leb, eqb}
+use borrow.Author.Tests.{not-false, ltb-false, le-ltb}
+use lib.Dec.{ltb, leb}
 use lib.ListN.{length, take, drop, length-take}
 use lib.Seq.{take-at}
 use Rattle.syntax.specs.declared.Leaf.the-variants.{Nothing, Letter, Range}
@@ -13,11 +13,14 @@ use Rattle.syntax.specs.declared.Node.{Node}
 use Rattle.syntax.specs.declared.Node.the-variants.{Leaf as Leaf-node, Sequence, Alternative, Star}
 use Rattle.syntax.specs.declared.Pattern.{Pattern}
 use Rattle.refusals.specs.declared.Refusal.{Refusal}
-use Rattle.refusals.specs.declared.Refusal.the-variants.{WordsTooShort, TapeTooShort}
+use Rattle.refusals.specs.declared.Refusal.the-variants.{Tree as Tree-fault, TapeTooLong, TapeByte}
 use Rattle.syntax.specs.Bools.{and-snd}
 use Rattle.syntax.specs.Letter.{is-letter, first-bad, letter-limit}
-use Rattle.refusals.specs.Refusals.{Answer, answer, refused, number}
+use Rattle.refusals.specs.Refusals.{answer, refused}
 use Rattle.refusals.specs.RefusalLaws.{number-positive}
+use Rattle.refusals.specs.Checks.{Check, First, Clear}
+use Rattle.refusals.specs.CheckLaws.{first-answered, first-positive, first-more, clear-success, clear-more}
+use Rattle.refusals.specs.CheckLaws.{clear-parts, zero-clear, refused-first}
 use Rattle.syntax.specs.Table.{obeys, line-at, node-at, line-good, node-good}
 use Rattle.syntax.specs.Tree.{Label, Tree, nothing, letter, range, seq, alt, star}
 use Rattle.syntax.specs.Trees.{made, tree-of, root}
@@ -26,17 +29,19 @@ use Rattle.bits.specs.Bits.{in-front}
 use Rattle.semantics.specs.Value.{Value, flat}
 use Rattle.semantics.specs.LetterLaws.{Lettered, flat-letters}
 use Rattle.semantics.specs.VisitLaws.{All}
+use Rattle.first_sweep.specs.StateSets.{words}
 use Rattle.codes.specs.declared.Flattened.{Flattened}
 use Rattle.codes.specs.declared.Flattened.the-variants.{Letters, Refused as Not-flattened}
 use Rattle.walks.specs.Whole.{whole-code, letters-of}
-use Rattle.codes.specs.Flatten.{room-answer, too-long, no-code, bad-table, flatten-answer, flatten-tape, flattened-answer, Flattens}
+use Rattle.codes.specs.Flatten.{flatten-order, flatten-answer, flatten-tape, flattened-answer, Flattens}
+use Rattle.codes.specs.FlattenLaws.{flatten-fills}
 use Rattle.walks.specs.Measures.{whole-handed, whole-value, spells}
 use Rattle.parser.specs.declared.Parsed.{Parsed}
 use Rattle.parser.specs.declared.Parsed.the-variants.{Bits as Parsed-bits, Refused as Not-parsed}
-use Rattle.parser.specs.Parse.{parsed-answer, early, Parses-by, Parses}
+use Rattle.parser.specs.Parse.{parsed-answer, early, Reads-greedily, Parses}
 use Rattle.canonical.specs.declared.Canonicalized.{Canonicalized}
 use Rattle.canonical.specs.declared.Canonicalized.the-variants.{Bits, Refused}
-use Rattle.canonical.specs.Canonicalize.{canonicalized-answer, Read-by, Settles-by, Canonicalizes}
+use Rattle.canonical.specs.Canonicalize.{canonicalized-answer, word-check, settle-order, settle-early, Canonicalizes}
 use Rattle.canonical.specs.Demand.{tape-of}
 
 -- ── an answer that is a refusal, and one that is not ──
@@ -60,28 +65,41 @@ pub record Spelled (p : Pattern) (code : List ℕ) (count size : ℕ) : Type 0 w
   pub room : length (tape-of p code count) ≤ size
   pub value-is : flatten-answer p code count size .value ≡ length (tape-of p code count)
 
+clear-spelled : (p : Pattern) (code : List ℕ) (count size : ℕ) → Clear (flatten-order p code count size) → Spelled p code count size
+unfolding flatten-answer
+clear-spelled p code count size c = record {
+  good = not-false (obeys p) (c .0);
+  whole = not-false (whole-code (root p) code count) (c .1 .0);
+  few = ltb-false letter-limit (length (tape-of p code count)) (c .1 .1 .0);
+  room = ltb-false size (length (tape-of p code count)) (c .1 .1 .1 .0);
+  value-is = ap (λ a. a .value) (clear-success (flatten-order p code count size) (answer 0 (length (tape-of p code count))) c);
+}
+
 pub spelled : (p : Pattern) (code : List ℕ) (count size : ℕ) → flatten-answer p code count size .number ≡ 0 → Spelled p code count size
 unfolding flatten-answer
 spelled p code count size h =
-    go (obeys p) refl (whole-code (root p) code count) refl (leb (length (tape-of p code count)) letter-limit) refl
-    (leb (length (tape-of p code count)) size) refl h
-  where
-    go : (o : Bool) → obeys p ≡ o → (w : Bool) → whole-code (root p) code count ≡ w → (f : Bool) → leb (length (tape-of p code count)) letter-limit ≡ f
-        → (r : Bool) → leb (length (tape-of p code count)) size ≡ r
-        → cond o (cond w (cond f (cond r (answer 0 (length (tape-of p code count))) (refused (TapeTooShort (length (tape-of p code count))))) too-long)
-        no-code) bad-table .number ≡ 0
-        → Spelled p code count size
-    go true eo true ew true ef true er h = record {
-      good = eo;
-      whole = ew;
-      few = leb-true (length (tape-of p code count)) letter-limit ef;
-      room = leb-true (length (tape-of p code count)) size er;
-      value-is = rw (eo, ew, ef, er);
-    }
-    go true eo true ew true ef false er h = absurd (omega arith)
-    go true eo true ew false ef r er h = absurd (omega arith)
-    go true eo false ew f ef r er h = absurd (omega arith)
-    go false eo w ew f ef r er h = absurd (omega arith)
+    clear-spelled p code count size (zero-clear (flatten-order p code count size) (answer 0 (length (tape-of p code count))) h)
+
+pub spelled-clear : (p : Pattern) (code : List ℕ) (count size : ℕ) → Spelled p code count size → Clear (flatten-order p code count size)
+spelled-clear p code count size s = (
+  ap not (s .good),
+  (
+    ap not (s .whole),
+    (
+      le-ltb letter-limit (length (tape-of p code count)) (s .few),
+      (le-ltb size (length (tape-of p code count)) (s .room), tt),
+    ),
+  ),
+)
+
+-- nothing before the sweeps refuses
+pub settle-passed : (p : Pattern) (code : List ℕ) (count size n : ℕ) → settle-early p code count size n .number ≡ 0
+    → Spelled p code count size × (2 * (length (tape-of p code count) + 1) ≤ n)
+unfolding settle-early
+settle-passed p code count size n z =
+    let c = clear-parts (flatten-order p code count size) (word-check p code count n)
+    (zero-clear (settle-order p code count size n) (answer 0 0) z) in
+    (clear-spelled p code count size (c .0), ltb-false n (2 * (length (tape-of p code count) + 1)) (c .1 .0))
 
 -- ── what a code spells is letters ──
 module _ (p : Pattern) (r : Rules p) where
@@ -123,47 +141,39 @@ letters-good p code count size s =
 -- ── the tape that is read ──
 pub record Laid (p : Pattern) (code : List ℕ) (count : ℕ) (ts us : List ℕ) (n : ℕ) : Type 0 where
   pub it : Spelled p code count (length ts)
-  pub number-is : flatten-answer p code count (length ts) .number ≡ 0
-  pub tape-is : us ≡ in-front (tape-of p code count) ts
+  pub tape-is : us ≡ flatten-tape p code count ts
   pub front-is : take n us ≡ tape-of p code count
   pub size-is : n ≡ length (tape-of p code count)
 
 module _ (p : Pattern) (code : List ℕ) (count : ℕ) (ts us : List ℕ) (f : Flattened) (h : Flattens p code count ts us f) where
   pub laid : (n : ℕ) → f ≡ Letters n → Laid p code count ts us n
-  unfolding flatten-tape in-front
+  unfolding in-front
   laid n e =
       let a : answer 0 n ≡ flatten-answer p code count (length ts) = sym (ap flattened-answer e) ∙ h .answers in
-      let z : flatten-answer p code count (length ts) .number ≡ 0 = sym (ap (λ x. x .number) a) in
-      let s = spelled p code count (length ts) z in
+      let s = spelled p code count (length ts) (sym (ap (λ x. x .number) a)) in
       let t : us ≡ tape-of p code count ++ drop (length (tape-of p code count)) ts =
-      h .leaves ∙ ap (λ k. cond (eqb k 0) (tape-of p code count ++ drop (length (tape-of p code count)) ts) ts) z in
+      h .leaves ∙ flatten-fills p code count ts (spelled-clear p code count (length ts) s) in
       let m : n ≡ length (tape-of p code count) = ap (λ x. x .value) a ∙ s .value-is in
       record {
         it = s;
-        number-is = z;
-        tape-is = t;
+        tape-is = h .leaves;
         size-is = m;
         front-is = ap (take n) t ∙ take-at (tape-of p code count) (drop (length (tape-of p code count)) ts) n (sym m);
       }
 
   pub settle-refused : (why : Refusal) (ws xs : List ℕ) → f ≡ Not-flattened why → Canonicalizes p code count ts us ws ws xs xs (Refused why)
-  unfolding Canonicalizes flatten-tape
+  unfolding flatten-answer settle-early
   settle-refused why ws xs e =
-      let a : refused why ≡ flatten-answer p code count (length ts) = sym (ap flattened-answer e) ∙ h .answers in
-      go (flatten-answer p code count (length ts) .number) refl (number-positive why) a
-    where
-      go : (n : ℕ) → flatten-answer p code count (length ts) .number ≡ n → 1 ≤ number why → refused why ≡ flatten-answer p code count (length ts)
-          → Settles-by n (flatten-answer p code count (length ts)) p (tape-of p code count) ts us ws ws xs xs (refused why)
-      go zero q k a = absurd (omega (arith, ap (λ x. x .number) a))
-      go (suc n) q k a = (
-        a,
-        h .leaves ∙ ap (λ m. cond (eqb m 0) (in-front (tape-of p code count) ts) ts) q ∙ off n,
-        refl,
-        refl,
-      )
-        where
-          off : (n : ℕ) → cond (eqb (suc n) 0) (in-front (tape-of p code count) ts) ts ≡ ts
-          off n = ap (λ b. cond b (in-front (tape-of p code count) ts) ts) (ne-eqb (suc n) 0 (λ q. omega arith))
+      let a : flatten-answer p code count (length ts) ≡ refused why = sym (h .answers) ∙ ap flattened-answer e in
+      let k = refused-first (flatten-order p code count (length ts)) (answer 0 (length (tape-of p code count))) refl why a in
+      let l : First why (settle-order p code count (length ts) (length ws)) = first-more (word-check p code count (length ws)) k in
+      let n = first-positive l (answer 0 0) in
+      record {
+        spells = h .leaves;
+        refuses = λ _. (sym (first-answered l (answer 0 0)), refl, refl);
+        fills = λ z. absurd (omega (arith, z, n));
+        reads = λ z. absurd (omega (arith, z, n));
+      }
 
 -- the letters lie inside the tape
 pub laid-room : (p : Pattern) (code : List ℕ) (count : ℕ) (ts us : List ℕ) (n : ℕ) → Laid p code count ts us n → n ≤ length us
@@ -176,50 +186,47 @@ read-bits r n e = sym (ap parsed-answer e)
 pub read-refused : (r : Parsed) (why : Refusal) → r ≡ Not-parsed why → canonicalized-answer (Refused why) ≡ parsed-answer r
 read-refused r why e = sym (ap parsed-answer e)
 
-module _ (p : Pattern) (ls ws vs xs ys : List ℕ) (r : Parsed) (good : obeys p ≡ true) (few : length ls ≤ letter-limit)
-    (letters : length ls ≤ first-bad ls) where
-  read-by : Parses p ls ws vs xs ys r → Read-by (ltb (length ws) (2 * (length ls + 1))) p ls ws vs xs ys (parsed-answer r)
-  unfolding Parses early
-  read-by w = go (ltb (length ws) (2 * (length ls + 1))) refl w
-    where
-      early-is : early p ls (length ws) ≡ cond (ltb (length ws) (2 * (length ls + 1))) (refused (WordsTooShort (2 * (length ls + 1)))) (answer 0 0)
-      early-is = rw (good, le-ltb letter-limit (length ls) few, le-ltb (first-bad ls) (length ls) letters)
+-- reading's checks but the last
+abbrev tape-checks : Pattern → (tape : List ℕ) → List Check
+tape-checks p tape =
+    (not (obeys p), Tree-fault 0) ∷ (ltb letter-limit (length tape), TapeTooLong) ∷ (ltb (first-bad tape) (length tape), TapeByte (first-bad tape)) ∷ []
 
-      go : (b : Bool) → ltb (length ws) (2 * (length ls + 1)) ≡ b
-          → Parses-by (early p ls (length ws) .number) (early p ls (length ws)) p ls ws vs xs ys (parsed-answer r)
-          → Read-by b p ls ws vs xs ys (parsed-answer r)
-      go true e w =
-          let q : early p ls (length ws) ≡ refused (WordsTooShort (2 * (length ls + 1))) =
-          early-is ∙ ap (λ b. cond b (refused (WordsTooShort (2 * (length ls + 1)))) (answer 0 0)) e in
-          subst (λ a. Parses-by (a .number) a p ls ws vs xs ys (parsed-answer r)) q w
-      go false e w =
-          let q : early p ls (length ws) ≡ answer 0 0 = early-is ∙ ap (λ b. cond b (refused (WordsTooShort (2 * (length ls + 1)))) (answer 0 0)) e in
-          subst (λ a. Parses-by (a .number) a p ls ws vs xs ys (parsed-answer r)) q w
+-- what settling refuses before the sweeps is what reading the letters does
+settle-early-is : (p : Pattern) (code : List ℕ) (count size : ℕ) → Spelled p code count size → (n : ℕ)
+    → settle-early p code count size n ≡ early p (tape-of p code count) n
+unfolding settle-early early
+settle-early-is p code count size s n =
+    let few = le-ltb letter-limit (length (tape-of p code count)) (s .few) in
+    let letters = le-ltb (first-bad (tape-of p code count)) (length (tape-of p code count)) (letters-good p code count size s) in
+    clear-more (flatten-order p code count size) (word-check p code count n) (answer 0 0) (spelled-clear p code count size s)
+    ∙ sym (clear-more (tape-checks p (tape-of p code count)) (word-check p code count n) (answer 0 0) (ap not (s .good), (few, (letters, tt))))
 
 pub settle-read :
     (p : Pattern) (code : List ℕ) (count : ℕ) (ts us : List ℕ) (n : ℕ) → Laid p code count ts us n → (ws vs xs ys : List ℕ) (r : Parsed)
     → Parses p (take n us) ws vs xs ys r → (a : Canonicalized) → canonicalized-answer a ≡ parsed-answer r → Canonicalizes p code count ts us ws vs xs ys a
-unfolding Canonicalizes
 settle-read p code count ts us n l ws vs xs ys r w a e =
-    let s = l .it in
     let v : Parses p (tape-of p code count) ws vs xs ys r = subst (λ t. Parses p t ws vs xs ys r) (l .front-is) w in
-    let z = read-by p (tape-of p code count) ws vs xs ys r (s .good) (s .few) (letters-good p code count (length ts) s) v in
-    subst (λ k. Settles-by k (flatten-answer p code count (length ts)) p (tape-of p code count) ts us ws vs xs ys (canonicalized-answer a))
-    (sym (l .number-is))
-    (l .tape-is, subst (λ b. Read-by (ltb (length ws) (2 * (length (tape-of p code count) + 1))) p (tape-of p code count) ws vs xs ys b) (sym e) z)
+    let q = settle-early-is p code count (length ts) (l .it) (length ws) in
+    record {
+      spells = l .tape-is;
+      refuses = λ k. let m = v .refuses (subst (λ x. 1 ≤ x .number) q k) in (e ∙ m .0 ∙ sym q, m .1, m .2);
+      fills = λ z. v .fills (sym (ap (λ x. x .number) q) ∙ z);
+      reads = λ z. subst (λ b. Reads-greedily (root p) (tape-of p code count) xs ys b) (sym e) (v .reads (sym (ap (λ x. x .number) q) ∙ z));
+    }
 
 -- ── what the promise says of a code that is spelled, and has its words ──
 module _ (p : Pattern) (code : List ℕ) (count : ℕ) (ts us ws vs xs ys : List ℕ) (r : Canonicalized) (h : Canonicalizes p code count ts us ws vs xs ys r) where
   pub settles :
       obeys p ≡ true → whole-code (root p) code count ≡ true → length (tape-of p code count) ≤ letter-limit → length (tape-of p code count) ≤ length ts
       → 2 * (length (tape-of p code count) + 1) ≤ length ws
-      → (us ≡ in-front (tape-of p code count) ts) × Read-by false p (tape-of p code count) ws vs xs ys (canonicalized-answer r)
-  unfolding Canonicalizes flatten-answer
+      → (us ≡ in-front (tape-of p code count) ts) × (vs ≡ in-front (words p (tape-of p code count)) ws)
+      × Reads-greedily (root p) (tape-of p code count) xs ys (canonicalized-answer r)
+  unfolding settle-early
   settles good whole few room enough =
-      let f : flatten-answer p code count (length ts) ≡ answer 0 (length (tape-of p code count)) =
-      rw (good, whole, le-leb (length (tape-of p code count)) letter-limit few, le-leb (length (tape-of p code count)) (length ts) room) in
-      let s = subst (λ a. Settles-by (a .number) a p (tape-of p code count) ts us ws vs xs ys (canonicalized-answer r)) f h in (
-        s .0,
-        subst (λ b. Read-by b p (tape-of p code count) ws vs xs ys (canonicalized-answer r))
-            (le-ltb (length ws) (2 * (length (tape-of p code count) + 1)) enough) (s .1),
-      )
+      let short = le-ltb letter-limit (length (tape-of p code count)) few in
+      let fits = le-ltb (length ts) (length (tape-of p code count)) room in
+      let c : Clear (flatten-order p code count (length ts)) = (ap not good, (ap not whole, (short, (fits, tt)))) in
+      let d : Clear (settle-order p code count (length ts) (length ws)) =
+      (ap not good, (ap not whole, (short, (fits, (le-ltb (length ws) (2 * (length (tape-of p code count) + 1)) enough, tt))))) in
+      let z = ap (λ a. a .number) (clear-success (settle-order p code count (length ts) (length ws)) (answer 0 0) d) in
+      (h .spells ∙ flatten-fills p code count ts c, h .fills z, h .reads z)

@@ -1,21 +1,21 @@
 -- Settling a code: the answer and the buffers, for every input. Definitions only.
 use mathlib.Core.Path.{_≡_}
-use mathlib.Core.Bool.{Bool, true, false}
-use mathlib.Core.List.{List}
-use Prim.Native.Nat.{ℕ, zero, suc, _+_, _*_, _≤_, _<_}
+use mathlib.Core.List.{List, [], _∷_, _++_}
+use Prim.Native.Nat.{ℕ, _+_, _*_, _≤_}
 use lib.Dec.{ltb}
 use lib.ListN.{length}
 use Rattle.syntax.specs.declared.Pattern.{Pattern}
 use Rattle.refusals.specs.declared.Refusal.{Refusal}
 use Rattle.refusals.specs.declared.Refusal.the-variants.{WordsTooShort}
 use Rattle.refusals.specs.Refusals.{Answer, answer, refused}
+use Rattle.refusals.specs.Checks.{Check, first-cause}
 use Rattle.syntax.specs.Trees.{root}
 use Rattle.bits.specs.Bits.{in-front}
-use Rattle.first_sweep.specs.StateSets.{words}
+use Rattle.first_sweep.specs.StateSets.{words as state-sets}
 use Rattle.codes.specs.declared.Flattened.{Flattened}
 use Rattle.codes.specs.declared.Flattened.the-variants.{Refused as Not-flattened}
 use Rattle.walks.specs.Whole.{letters-of}
-use Rattle.codes.specs.Flatten.{flatten-answer}
+use Rattle.codes.specs.Flatten.{flatten-order, flatten-tape}
 use Rattle.parser.specs.declared.Parsed.{Parsed}
 use Rattle.parser.specs.declared.Parsed.the-variants.{Refused as Not-parsed}
 use Rattle.parser.specs.Parse.{Reads-greedily}
@@ -33,20 +33,29 @@ Unspelled a why = a ≡ Not-flattened why
 abbrev pub Unread : Parsed → Refusal → Type 0
 Unread a why = a ≡ Not-parsed why
 
--- 01: "Settling a code spells it and reads the result: 2, 8, 3, 9, 6, 5, 7." Of reading's causes 6 is left, then the second sweep's:
--- "6 [..] marks, code [left as they were]; settling has filled the tape".
-abbrev pub Read-by : (short : Bool) → Pattern → (tape words words-now code code-now : List ℕ) → Answer → Type 0
-Read-by true p ls ws us xs ys a = (a ≡ refused (WordsTooShort (2 * (length ls + 1)))) × (us ≡ ws) × (ys ≡ xs)
-Read-by false p ls ws us xs ys a = (us ≡ in-front (words p ls) ws) × Reads-greedily (root p) ls xs ys a
+-- what reading has left to refuse before the sweeps: what a code spells is letters, and at most 3,600 where spelling does not refuse it
+abbrev pub word-check : Pattern → (code : List ℕ) → (count words : ℕ) → List Check
+word-check p code count n =
+    (ltb n (2 * (length (letters-of (root p) code count) + 1)), WordsTooShort (2 * (length (letters-of (root p) code count) + 1))) ∷ []
 
--- a refusal of spelling leaves all as it was
-abbrev pub Settles-by : (flattened : ℕ) → Answer → Pattern → (letters tape tape-now words words-now code code-now : List ℕ) → Answer → Type 0
-Settles-by zero e p ls ts us ws vs xs ys a = (us ≡ in-front ls ts) × Read-by (ltb (length ws) (2 * (length ls + 1))) p ls ws vs xs ys a
-Settles-by (suc n) e p ls ts us ws vs xs ys a = (a ≡ e) × (us ≡ ts) × (vs ≡ ws) × (ys ≡ xs)
+-- 01: "Settling a code spells it and reads the result: 2, 8, 3, 9, 6, 5, 7." Spelling's causes, then 6; 5 and 7 are the second sweep's.
+abbrev pub settle-order : Pattern → (code : List ℕ) → (count size words : ℕ) → List Check
+settle-order p code count size n = flatten-order p code count size ++ word-check p code count n
+
+-- number 0 where none of them holds
+unfoldable pub settle-early : Pattern → (code : List ℕ) → (count size words : ℕ) → Answer
+settle-early p code count size n = first-cause (settle-order p code count size n) (answer 0 0)
 
 -- THE PROMISE of settling, for every table, code as handed in, and lent buffers
-unfoldable pub Canonicalizes : Pattern → (code : List ℕ) → (count : ℕ) → (tape tape-now words words-now canonical canonical-now : List ℕ)
-    → Canonicalized → Type 0
-Canonicalizes p code count ts us ws vs xs ys r =
-    Settles-by (flatten-answer p code count (length ts) .number) (flatten-answer p code count (length ts)) p
-    (letters-of (root p) code count) ts us ws vs xs ys (canonicalized-answer r)
+pub record Canonicalizes (p : Pattern) (code : List ℕ) (count : ℕ) (tape tape-now words words-now canonical canonical-now : List ℕ)
+    (r : Canonicalized) : Type 0 where
+  -- the tape is as spelling leaves it, whatever is answered. 01, of 6: "settling has filled the tape"
+  pub spells : tape-now ≡ flatten-tape p code count tape
+  -- a cause before the sweeps leaves words and code as they were
+  pub refuses : 1 ≤ settle-early p code count (length tape) (length words) .number
+      → (canonicalized-answer r ≡ settle-early p code count (length tape) (length words)) × (words-now ≡ words) × (canonical-now ≡ canonical)
+  -- else the state sets of the letters are filled in, whatever is answered
+  pub fills : settle-early p code count (length tape) (length words) .number ≡ 0
+      → words-now ≡ in-front (state-sets p (letters-of (root p) code count)) words
+  pub reads : settle-early p code count (length tape) (length words) .number ≡ 0
+      → Reads-greedily (root p) (letters-of (root p) code count) canonical canonical-now (canonicalized-answer r)

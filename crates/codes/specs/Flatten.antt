@@ -1,9 +1,9 @@
 -- Spelling a code: the answer and the tape, for every input. Definitions only.
 use mathlib.Core.Path.{_≡_}
-use mathlib.Core.Bool.{cond}
-use mathlib.Core.List.{List}
+use mathlib.Core.Bool.{not, cond}
+use mathlib.Core.List.{List, [], _∷_}
 use Prim.Native.Nat.{ℕ}
-use lib.Dec.{eqb, leb}
+use lib.Dec.{eqb, ltb}
 use lib.ListN.{length}
 use Rattle.syntax.specs.declared.Pattern.{Pattern}
 use Rattle.refusals.specs.declared.Refusal.the-variants.{Tree as Tree-fault, TapeTooLong, NotACode, TapeTooShort}
@@ -11,33 +11,24 @@ use Rattle.syntax.specs.Letter.{letter-limit}
 use Rattle.syntax.specs.Trees.{root}
 use Rattle.syntax.specs.Table.{obeys}
 use Rattle.refusals.specs.Refusals.{Answer, answer, refused}
+use Rattle.refusals.specs.Checks.{Check, first-cause}
 use Rattle.bits.specs.Bits.{in-front}
 use Rattle.walks.specs.Whole.{whole-code, letters-of}
 use Rattle.codes.specs.declared.Flattened.{Flattened}
 use Rattle.codes.specs.declared.Flattened.the-variants.{Letters, Refused}
 
--- 01: "Each service tests the loaded table it is given; any departure from the pattern rules [..] is 2", and beside it, but when loading, 0
-abbrev pub bad-table : Answer
-bad-table = refused (Tree-fault 0)
+-- 01: "Spelling a code: 2, 8, 3, 9. Gives the letters." Of 2: "Each service tests the loaded table it is given", and 0 is returned beside it;
+-- 9: "tape buffer shorter than the spelling", with the "letters needed".
+abbrev pub flatten-order : Pattern → (code : List ℕ) → (count : ℕ) → (size : ℕ) → List Check
+flatten-order p code count size =
+    (not (obeys p), Tree-fault 0)
+    ∷ (not (whole-code (root p) code count), NotACode)
+    ∷ (ltb letter-limit (length (letters-of (root p) code count)), TapeTooLong)
+    ∷ (ltb size (length (letters-of (root p) code count)), TapeTooShort (length (letters-of (root p) code count)))
+    ∷ []
 
-abbrev pub no-code : Answer
-no-code = refused NotACode
-
-abbrev pub too-long : Answer
-too-long = refused TapeTooLong
-
--- 01: cause 9, "tape buffer shorter than the spelling", with the "letters needed"
-abbrev pub room-answer : (letters size : ℕ) → Answer
-room-answer n size = cond (leb n size) (answer 0 n) (refused (TapeTooShort n))
-
--- 01: "Spelling a code: 2, 8, 3, 9. Gives the letters."
 unfoldable pub flatten-answer : Pattern → (code : List ℕ) → (count : ℕ) → (size : ℕ) → Answer
-flatten-answer p code count size =
-    cond (obeys p)
-    (cond (whole-code (root p) code count)
-    (cond (leb (length (letters-of (root p) code count)) letter-limit) (room-answer (length (letters-of (root p) code count)) size) too-long)
-    no-code)
-    bad-table
+flatten-answer p code count size = first-cause (flatten-order p code count size) (answer 0 (length (letters-of (root p) code count)))
 
 -- the letters in front of the buffer, or all "Left as it was"; "Buffer cells past the written ones never change."
 unfoldable pub flatten-tape : Pattern → (code : List ℕ) → (count : ℕ) → (tape : List ℕ) → List ℕ

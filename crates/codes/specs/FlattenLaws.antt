@@ -1,26 +1,30 @@
 -- Spelling a whole code: one law for each way of the service.
 use mathlib.Core.Path.{_≡_, refl, sym, ap, ap₂, subst, _∙_}
-use mathlib.Core.Bool.{true, false, cond}
+use mathlib.Core.Bool.{true, false, not, cond}
 use mathlib.Core.List.{List, _++_}
 use Prim.Native.Nat.{ℕ, suc, _+_, _-_, _≤_, _<_}
 use native.Mathlib.Omega.{arith}
-use lib.Dec.{eqb}
-use borrow.Author.Tests.{le-leb, lt-leb}
+use lib.Dec.{eqb, ltb}
+use borrow.Author.Tests.{lt-ltb, le-ltb, ne-eqb}
 use lib.ListN.{length, drop, getD, set, length-set}
 use lib.Seq.{take-at, paste, paste-zero, paste-suc}
 use Rattle.syntax.specs.declared.Pattern.{Pattern}
+use Rattle.refusals.specs.declared.Refusal.{Refusal}
 use Rattle.refusals.specs.declared.Refusal.the-variants.{Tree as Tree-fault, TapeTooLong, NotACode, TapeTooShort}
 use Rattle.syntax.specs.Letter.{letter-limit}
 use Rattle.syntax.specs.Trees.{root}
 use Rattle.syntax.specs.Table.{obeys}
-use Rattle.refusals.specs.Refusals.{Answer, answer, refused}
+use Rattle.refusals.specs.Refusals.{answer, number}
+use Rattle.refusals.specs.RefusalLaws.{number-positive}
+use Rattle.refusals.specs.Checks.{First, here, past, Clear}
+use Rattle.refusals.specs.CheckLaws.{first-answered, clear-success}
 use Rattle.bits.specs.Bits.{in-front}
 use Rattle.table.specs.Cells.{tree-in, Holds}
 use Rattle.table.specs.CellLaws.{holds-tree}
 use Rattle.codes.specs.declared.Flattened.{Flattened}
 use Rattle.codes.specs.declared.Flattened.the-variants.{Letters, Refused}
 use Rattle.walks.specs.Whole.{whole-code, letters-of}
-use Rattle.codes.specs.Flatten.{room-answer, flatten-answer, flatten-tape, flattened-answer, Flattens}
+use Rattle.codes.specs.Flatten.{flatten-order, flatten-answer, flatten-tape, Flattens}
 use Rattle.entries.specs.declared.Measured.{Measured}
 use Rattle.entries.specs.Measures.{Reads, measured-no, measured-yes, measured-letters}
 use Rattle.entries.specs.WholeLaws.{letters-front}
@@ -61,54 +65,66 @@ paste-front new rest old n e =
     ap₂ (λ xs k. xs ++ drop k old) (take-at new (drop (length new) rest) n e) z
 
 module _ (p : Pattern) (code : List ℕ) (count : ℕ) (tape : List ℕ) where
-  -- a refusal leaves the tape
-  refusal : (r : Flattened) (a : Answer) → flatten-answer p code count (length tape) ≡ a → eqb (a .number) 0 ≡ false
-      → flattened-answer r ≡ a → Flattens p code count tape tape r
-  unfolding flatten-tape
-  refusal r a e z f =
+  -- the first cause that holds is answered, and the tape is left
+  pub flatten-refused : (why : Refusal) → First why (flatten-order p code count (length tape)) → Flattens p code count tape tape (Refused why)
+  unfolding flatten-answer flatten-tape
+  flatten-refused why f =
+      let e = first-answered f (answer 0 (length (letters-of (root p) code count))) in
+      let z = ne-eqb (number why) 0 (λ q. omega (arith, q, number-positive why)) in
       record {
-        answers = f ∙ sym e;
-        leaves = sym (ap (λ b. cond b (in-front (letters-of (root p) code count) tape) tape) (ap (λ x. eqb (x .number) 0) e ∙ z));
+        answers = sym e;
+        leaves = sym (ap (λ b. cond b (in-front (letters-of (root p) code count) tape) tape) (ap (λ a. eqb (a .number) 0) e ∙ z));
       }
 
+  -- where no cause holds, the letters are in front of the tape
+  pub flatten-fills : Clear (flatten-order p code count (length tape)) → flatten-tape p code count tape ≡ in-front (letters-of (root p) code count) tape
+  unfolding flatten-answer flatten-tape
+  flatten-fills c =
+      ap (λ a. cond (eqb (a .number) 0) (in-front (letters-of (root p) code count) tape) tape)
+      (clear-success (flatten-order p code count (length tape)) (answer 0 (length (letters-of (root p) code count))) c)
+
   pub flatten-bad : obeys p ≡ false → Flattens p code count tape tape (Refused (Tree-fault 0))
-  unfolding flatten-answer
-  flatten-bad o = refusal _ (refused (Tree-fault 0)) (rw o) refl refl
+  flatten-bad o = flatten-refused (Tree-fault 0) (here (ap not o))
 
   module _ (o : obeys p ≡ true) {own ys own' ys' : List ℕ} {m : Measured} (k : Reads code (root p) count own ys own' ys' m) where
     pub flatten-not : m .whole ≡ false → Flattens p code count tape tape (Refused NotACode)
-    unfolding flatten-answer
-    flatten-not f = refusal _ (refused NotACode) (rw (o, measured-no (root p) code count m (k .is) f)) refl refl
+    flatten-not f = flatten-refused NotACode (past (ap not o) (here (ap not (measured-no (root p) code count m (k .is) f))))
 
     module _ (f : m .whole ≡ true) where
       whole : whole-code (root p) code count ≡ true
       whole = measured-yes (root p) code count m (k .is) f
 
       pub flatten-long : letter-limit < m .letters → Flattens p code count tape tape (Refused TapeTooLong)
-      unfolding flatten-answer
       flatten-long h =
           let n = measured-letters (root p) code count m (k .is) f in
-          refusal _ (refused TapeTooLong) (rw (o, whole, lt-leb (length (letters-of (root p) code count)) letter-limit (omega arith))) refl refl
+          flatten-refused TapeTooLong
+          (past (ap not o) (past (ap not whole) (here (lt-ltb letter-limit (length (letters-of (root p) code count)) (omega arith)))))
 
       module _ (h : m .letters ≤ letter-limit) where
         exactly : length (letters-of (root p) code count) ≡ m .letters
         exactly = let n = measured-letters (root p) code count m (k .is) f in omega arith
 
-        room : flatten-answer p code count (length tape) ≡ room-answer (m .letters) (length tape)
-        unfolding flatten-answer
-        room = rw (o, whole, exactly, le-leb (m .letters) letter-limit h)
+        few : ltb letter-limit (length (letters-of (root p) code count)) ≡ false
+        few = let n = exactly in le-ltb letter-limit (length (letters-of (root p) code count)) (omega arith)
 
         pub flatten-short : length tape < m .letters → Flattens p code count tape tape (Refused (TapeTooShort (m .letters)))
-        flatten-short g = refusal _ (refused (TapeTooShort (m .letters))) (room ∙ rw (lt-leb (m .letters) (length tape) g)) refl refl
+        flatten-short g =
+            let n = exactly in
+            subst (λ l. Flattens p code count tape tape (Refused (TapeTooShort l))) exactly
+            (flatten-refused (TapeTooShort (length (letters-of (root p) code count)))
+            (past (ap not o) (past (ap not whole) (past few (here (lt-ltb (length tape) (length (letters-of (root p) code count)) (omega arith)))))))
 
         pub flatten-done : m .letters ≤ length tape → length own ≡ letter-limit → {tape' : List ℕ} → tape' ≡ paste tape 0 own' (m .letters)
             → Flattens p code count tape tape' (Letters (m .letters))
-        unfolding flatten-tape
+        unfolding flatten-answer
         flatten-done g long e =
-            let a : flatten-answer p code count (length tape) ≡ answer 0 (m .letters) = room ∙ rw (le-leb (m .letters) (length tape) g) in
+            let n = exactly in
+            let room = le-ltb (length tape) (length (letters-of (root p) code count)) (omega arith) in
+            let clear : Clear (flatten-order p code count (length tape)) = (ap not o, (ap not whole, (few, (room, tt)))) in
             let new = letters-front (root p) code count whole (k .wrote f) (omega (arith, exactly)) in
             record {
-              answers = sym a;
+              answers = ap (answer 0) (sym exactly)
+                  ∙ sym (clear-success (flatten-order p code count (length tape)) (answer 0 (length (letters-of (root p) code count))) clear);
               leaves = e ∙ ap (λ l. paste tape 0 l (m .letters)) new ∙ paste-front (letters-of (root p) code count) own tape (m .letters) exactly
-                  ∙ sym (ap (λ x. cond (eqb (x .number) 0) (in-front (letters-of (root p) code count) tape) tape) a);
+                  ∙ sym (flatten-fills clear);
             }

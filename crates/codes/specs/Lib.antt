@@ -7,3 +7,6 @@ pub mod SpellLaws
 pub mod FlattenLaws
 pub mod Sums
 pub mod TotalsLaws
+-- The promises fix answers and buffers; the order of the causes.
+pub mod Unique
+pub mod Orders

@@ -1,11 +1,11 @@
 -- Totalling a whole code: one law for each way of the service, and that the totals add up to the tape's digits.
 use mathlib.Core.Path.{_≡_, refl, sym, ap, ap₂, subst, _∙_}
-use mathlib.Core.Bool.{true, false, cond}
+use mathlib.Core.Bool.{true, false, not, cond}
 use mathlib.Core.List.{List, [], _∷_, _++_}
 use Prim.Native.Nat.{ℕ, zero, suc, _+_, _-_, _≤_, _<_}
 use native.Mathlib.Omega.{arith}
 use lib.Dec.{leb, eqb}
-use borrow.Author.Tests.{le-leb, lt-leb, leb-true}
+use borrow.Author.Tests.{lt-ltb, le-ltb, ne-eqb, leb-true}
 use lib.ListN.{length, drop}
 use Rattle.syntax.specs.declared.Pattern.{Pattern}
 use Rattle.syntax.specs.declared.Line.{Line}
@@ -20,14 +20,17 @@ use Rattle.syntax.specs.Tree.{Label, Tree}
 use Rattle.syntax.specs.Trees.{made, tree-of, root}
 use Rattle.syntax.specs.TreeLaws.{Below, obeys-iff, tree-line}
 use Rattle.syntax.specs.Table.{obeys, line-at, node-at, node-good, line-good, account-limit}
-use Rattle.refusals.specs.Refusals.{refused}
+use Rattle.refusals.specs.Refusals.{answer, number}
+use Rattle.refusals.specs.RefusalLaws.{number-positive}
+use Rattle.refusals.specs.Checks.{First, here, past}
+use Rattle.refusals.specs.CheckLaws.{first-answered, clear-success}
 use Rattle.bits.specs.Bits.{in-front}
 use Rattle.semantics.specs.Accounts.{accounts, totals, digits}
 use Rattle.semantics.specs.AccountLaws.{Accounts, letters, entries-below, totals-digits}
 use Rattle.semantics.specs.VisitLaws.{All}
-use Rattle.codes.specs.declared.TotalsOutcome.the-variants.{Added, Refused}
+use Rattle.codes.specs.declared.TotalsOutcome.the-variants.{Added}
 use Rattle.walks.specs.Whole.{whole-code, letters-of}
-use Rattle.codes.specs.Totals.{entries-by, entries-of, totals-answer, totals-litres, no-litres, Totals}
+use Rattle.codes.specs.Totals.{entries-by, entries-of, totals-order, totals-answer, totals-litres, no-litres, refused-totals, Totals}
 use Rattle.walks.specs.Measures.{whole-handed, whole-value, spells}
 use Rattle.entries.specs.declared.Measured.{Measured}
 use Rattle.entries.specs.Entries.{accounts-in}
@@ -68,33 +71,33 @@ root-accounts p o =
     (p .count - 1) (omega arith) (omega arith)
 
 module _ (p : Pattern) (code : List ℕ) (count : ℕ) where
-  refusal : (r : Refusal) → totals-answer p code count ≡ refused r → eqb (refused r .number) 0 ≡ false
-      → Totals p code count (record { outcome = Refused r; litres = no-litres })
-  unfolding totals-litres
-  refusal r e z =
+  -- the first cause that holds is answered, and all totals are 0
+  pub totals-refused : (why : Refusal) → First why (totals-order p code count) → Totals p code count (refused-totals why)
+  unfolding totals-answer totals-litres
+  totals-refused why f =
+      let e = first-answered f (answer 0 0) in
+      let z = ne-eqb (number why) 0 (λ q. omega (arith, q, number-positive why)) in
       record {
         answers = sym e;
-        gives = sym (ap (λ b. cond b (totals (entries-of (root p) code count)) no-litres) (ap (λ x. eqb (x .number) 0) e ∙ z));
+        gives = sym (ap (λ b. cond b (totals (entries-of (root p) code count)) no-litres) (ap (λ a. eqb (a .number) 0) e ∙ z));
       }
 
-  pub totals-bad : obeys p ≡ false → Totals p code count (record { outcome = Refused (Tree-fault 0); litres = no-litres })
-  unfolding totals-answer
-  totals-bad o = refusal (Tree-fault 0) (rw o) refl
+  pub totals-bad : obeys p ≡ false → Totals p code count (refused-totals (Tree-fault 0))
+  totals-bad o = totals-refused (Tree-fault 0) (here (ap not o))
 
   module _ (o : obeys p ≡ true) {xs ys xs' ys' : List ℕ} {m : Measured} (r : Reads code (root p) count xs ys xs' ys' m) where
-    pub totals-not : m .whole ≡ false → Totals p code count (record { outcome = Refused NotACode; litres = no-litres })
-    unfolding totals-answer
-    totals-not f = refusal NotACode (rw (o, measured-no (root p) code count m (r .is) f)) refl
+    pub totals-not : m .whole ≡ false → Totals p code count (refused-totals NotACode)
+    totals-not f = totals-refused NotACode (past (ap not o) (here (ap not (measured-no (root p) code count m (r .is) f))))
 
     module _ (f : m .whole ≡ true) where
       whole : whole-code (root p) code count ≡ true
       whole = measured-yes (root p) code count m (r .is) f
 
-      pub totals-long : letter-limit < m .letters → Totals p code count (record { outcome = Refused TapeTooLong; litres = no-litres })
-      unfolding totals-answer
+      pub totals-long : letter-limit < m .letters → Totals p code count (refused-totals TapeTooLong)
       totals-long h =
           let n = measured-letters (root p) code count m (r .is) f in
-          refusal TapeTooLong (rw (o, whole, lt-leb (length (letters-of (root p) code count)) letter-limit (omega arith))) refl
+          totals-refused TapeTooLong
+          (past (ap not o) (past (ap not whole) (here (lt-ltb letter-limit (length (letters-of (root p) code count)) (omega arith)))))
 
       module _ (h : m .letters ≤ letter-limit) (long : length xs ≡ letter-limit) (wide : length ys ≡ letter-limit) where
         exactly : length (letters-of (root p) code count) ≡ m .letters
@@ -147,8 +150,14 @@ module _ (p : Pattern) (code : List ℕ) (count : ℕ) where
         unfolding totals-litres totals-answer
         totals-done s e =
             let few = exactly in
-            let within = le-leb (length (letters-of (root p) code count)) letter-limit (omega arith) in
-            record { answers = rw (o, whole, within); gives = e ∙ ap totals entries-are ∙ rw (o, whole, within) }
+            let within = le-ltb letter-limit (length (letters-of (root p) code count)) (omega arith) in
+            let a : totals-answer p code count ≡ answer 0 0 =
+            clear-success (totals-order p code count) (answer 0 0) (ap not o, (ap not whole, (within, tt))) in
+            record {
+              answers = sym a;
+              gives = e ∙ ap totals entries-are
+                  ∙ sym (ap (λ x. cond (eqb (x .number) 0) (totals (entries-of (root p) code count)) no-litres) a);
+            }
 
 -- ── 01: the totals "add up to the tape's digits" ──
 abbrev pub sum-list : List ℕ → ℕ

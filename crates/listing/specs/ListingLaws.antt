@@ -1,11 +1,12 @@
 -- Laws of the listing: one for each way of the code.
 use mathlib.Core.Path.{_≡_, refl, sym, ap, ap₂, subst, _∙_}
-use mathlib.Core.Bool.{Bool, true, false, not, cond, false≢true}
+use mathlib.Core.Bool.{Bool, true, false, false≢true}
 use mathlib.Core.List.{List, [], _∷_, _++_}
 use Prim.Native.Nat.{ℕ, zero, suc, _+_, _*_, _-_, _≤_, _<_}
 use native.Mathlib.Omega.{arith}
-use borrow.Author.Tests.{le-ltb, ltb-false, le-leb, eq-eqb, ne-eqb}
-use lib.Dec.{ltb, leb, eqb}
+use native.Mathlib.Decide.{decLe}
+use borrow.Author.Tests.{le-ltb, ltb-false, eq-eqb, ne-eqb, not-false}
+use lib.Dec.{ltb, eqb}
 use lib.ListN.{length, take, drop, getD, length-append, length-drop, List·getD-append}
 use lib.Seq.{take-at, take-length}
 use Rattle.syntax.specs.Letter.{first-bad, letter-limit}
@@ -13,9 +14,10 @@ use Rattle.syntax.specs.declared.Pattern.{Pattern}
 use Rattle.loading.specs.declared.Loaded.{Loaded}
 use Rattle.loading.specs.declared.Outcome.the-variants.{Lines, Refused as Not-loaded}
 use Rattle.refusals.specs.declared.Refusal.{Refusal}
-use Rattle.refusals.specs.declared.Refusal.the-variants.{Tree as Tree-fault, TapeTooLong, TapeByte, Unreadable, WordsTooShort}
+use Rattle.refusals.specs.declared.Refusal.the-variants.{Unreadable}
 use Rattle.refusals.specs.Refusals.{answer, refused}
 use Rattle.refusals.specs.RefusalLaws.{number-positive}
+use Rattle.refusals.specs.CheckLaws.{zero-clear}
 use Rattle.syntax.specs.Table.{obeys}
 use Rattle.syntax.specs.Trees.{root}
 use Rattle.loading.specs.Load.{outcome-answer, load-answer, Loads}
@@ -34,7 +36,7 @@ use Rattle.codes.specs.Totals.{entries-by, entries-of, totals-answer, totals-li
 use Rattle.canonical.specs.RoundTrip.{canonical-whole, canonical-spells}
 use Rattle.parser.specs.declared.Parsed.{Parsed}
 use Rattle.parser.specs.declared.Parsed.the-variants.{Bits, Refused}
-use Rattle.parser.specs.Parse.{parsed-answer, early, Reads-greedily, Parses-by, Parses}
+use Rattle.parser.specs.Parse.{parsed-answer, early-order, early, Reads-greedily, Parses}
 use Rattle.parser.specs.ParseLaws.{greedy-few}
 use Rattle.listing.specs.declared.Listed.{Listed}
 use Rattle.listing.specs.declared.Listed.the-variants.{Bytes, TooShort}
@@ -100,7 +102,7 @@ module _ (p : Pattern) (tape ws code : List ℕ) (count : ℕ) (h : Read p tape 
   own-litres =
       let whole = canonical-whole p (h .good) tape (h .few) (greedy (root p) tape) is-canonical in
       let spelled = canonical-spells p (h .good) tape (h .few) (greedy (root p) tape) is-canonical in
-      rw (h .good, whole, spelled, le-leb (length tape) letter-limit (h .few), held-pack 8 (omega arith) (greedy (root p) tape))
+      rw (h .good, whole, spelled, le-ltb letter-limit (length tape) (h .few), held-pack 8 (omega arith) (greedy (root p) tape))
 
   pub litres-are : (r : Totalled) → Totals p code count r → r .litres ≡ totals (entries-by (root p) (value-of (root p) (greedy (root p) tape)))
   litres-are r t = t .gives ∙ ap₂ (totals-litres p) (h .coded) (h .counted) ∙ own-litres
@@ -140,17 +142,13 @@ pub record Passed (p : Pattern) (tape : List ℕ) (n : ℕ) : Type 0 where
 
 passed : (p : Pattern) (tape : List ℕ) (n : ℕ) → early p tape n .number ≡ 0 → Passed p tape n
 unfolding early
-passed p tape n h = go (obeys p) refl (ltb letter-limit (length tape)) refl (ltb (first-bad tape) (length tape)) (ltb n (2 * (length tape + 1))) refl h
-  where
-    go : (o : Bool) → obeys p ≡ o → (f : Bool) → ltb letter-limit (length tape) ≡ f → (b : Bool) → (w : Bool) → ltb n (2 * (length tape + 1)) ≡ w
-        → cond (not o) (refused (Tree-fault 0)) (cond f (refused TapeTooLong) (cond b (refused (TapeByte (first-bad tape)))
-        (cond w (refused (WordsTooShort (2 * (length tape + 1)))) (answer 0 0)))) .number ≡ 0
-        → Passed p tape n
-    go true eo false ef false false ew h = record { good = eo; few = ltb-false letter-limit (length tape) ef; room = ltb-false n (2 * (length tape + 1)) ew }
-    go true eo false ef false true ew h = absurd (omega arith)
-    go true eo false ef true w ew h = absurd (omega arith)
-    go true eo true ef b w ew h = absurd (omega arith)
-    go false eo f ef b w ew h = absurd (omega arith)
+passed p tape n h =
+    let c = zero-clear (early-order p tape n) (answer 0 0) h in
+    record {
+      good = not-false (obeys p) (c .0);
+      few = ltb-false letter-limit (length tape) (c .1 .0);
+      room = ltb-false n (2 * (length tape + 1)) (c .1 .1 .1 .0);
+    }
 
 -- words for the longest tape suffice for every tape that is not too long
 early-same : (p : Pattern) (tape : List ℕ) → early p tape word-limit ≡ early-cause p tape
@@ -198,9 +196,9 @@ Follows p tape us ys (Bits n) = Got p tape us ys n
 Follows p tape us ys (Refused why) = refused-line (refused why) ≡ pattern-listing p tape
 
 module _ (p : Pattern) (tape ws us xs ys : List ℕ) (lw : length ws ≡ word-limit) (lx : length xs ≡ byte-limit) where
-  refused-early : (n : ℕ) → early-cause p tape .number ≡ suc n → (r : Parsed) → parsed-answer r ≡ early-cause p tape → Follows p tape us ys r
-  refused-early n e (Bits k) a = absurd (omega (arith, ap (λ x. x .number) a))
-  refused-early n e (Refused why) a = ap refused-line a ∙ sym (refused-by p tape (λ z. omega arith))
+  refused-early : 1 ≤ early-cause p tape .number → (r : Parsed) → parsed-answer r ≡ early-cause p tape → Follows p tape us ys r
+  refused-early n (Bits k) a = absurd (omega (arith, n, ap (λ x. x .number) a))
+  refused-early n (Refused why) a = ap refused-line a ∙ sym (refused-by p tape (λ z. omega arith))
 
   module _ (z : early-cause p tape .number ≡ 0) (fill : us ≡ in-front (words p tape) ws) where
     clear : Passed p tape word-limit
@@ -247,14 +245,17 @@ module _ (p : Pattern) (tape ws us xs ys : List ℕ) (lw : length ws ≡ word-li
     swept false e r g = not-readable e r (g .unreadable (λ v q. false≢true (sym e ∙ readable-iff (root p) tape .1 (v, q))) .0)
 
   follows : (r : Parsed) → Parses p tape ws us xs ys r → Follows p tape us ys r
-  unfolding Parses
-  follows r w =
-      go (early-cause p tape .number) refl (subst (λ a. Parses-by (a .number) a p tape ws us xs ys (parsed-answer r)) (ap (early p tape) lw
-      ∙ early-same p tape) w)
+  follows r w = go (decLe 1 (early-cause p tape .number))
     where
-      go : (n : ℕ) → early-cause p tape .number ≡ n → Parses-by n (early-cause p tape) p tape ws us xs ys (parsed-answer r) → Follows p tape us ys r
-      go zero e g = swept e (g .0) (readable (root p) tape) refl r (g .1)
-      go (suc n) e g = refused-early n e r (g .0)
+      same : early p tape (length ws) ≡ early-cause p tape
+      same = ap (early p tape) lw ∙ early-same p tape
+
+      go : Dec (1 ≤ early-cause p tape .number) → Follows p tape us ys r
+      go (yes n) = refused-early n r (w .refuses (subst (λ a. 1 ≤ a .number) (sym same) n) .0 ∙ same)
+      go (no n) =
+          let z : early-cause p tape .number ≡ 0 = omega arith in
+          let e : early p tape (length ws) .number ≡ 0 = ap (λ a. a .number) same ∙ z in
+          swept z (w .fills e) (readable (root p) tape) refl r (w .reads e)
 
   pub parse-refused : (r : Parsed) (why : Refusal) → r ≡ Refused why → Parses p tape ws us xs ys r → refused-line (refused why) ≡ pattern-listing p tape
   parse-refused r why e w = follows (Refused why) (subst (Parses p tape ws us xs ys) e w)

@@ -1,17 +1,21 @@
 -- Laws of reading a tape: one for each way of the code.
 use mathlib.Core.Path.{_≡_, refl, sym, ap, subst, _∙_}
-use mathlib.Core.Bool.{Bool, true, false, true≢false, false≢true}
+use mathlib.Core.Bool.{Bool, true, false, not, true≢false, false≢true}
 use mathlib.Core.Logic.{_↔_}
 use mathlib.Core.List.{List, [], _∷_, _++_, append-nil}
 use Prim.Native.Nat.{ℕ, zero, suc, _+_, _*_, _-_, _/_, _≤_, _<_}
 use native.Mathlib.Omega.{arith}
 use native.Mathlib.Decide.{decLe, decLt}
 use borrow.Author.Tests.{lt-ltb, le-ltb}
+use lib.Dec.{ltb}
 use lib.ListN.{length, getD, drop, length-append, length-drop, List·getD-append}
 use Rattle.syntax.specs.declared.Pattern.{Pattern}
+use Rattle.refusals.specs.declared.Refusal.{Refusal}
 use Rattle.refusals.specs.declared.Refusal.the-variants.{Tree as Tree-fault, TapeTooLong, TapeByte, Unreadable, WordsTooShort, CodeTooShort}
 use Rattle.syntax.specs.Letter.{first-bad, letter-limit}
-use Rattle.refusals.specs.Refusals.{refused}
+use Rattle.refusals.specs.Refusals.{answer, refused}
+use Rattle.refusals.specs.Checks.{First, here, past}
+use Rattle.refusals.specs.CheckLaws.{first-answered, first-positive, clear-success}
 use Rattle.syntax.specs.Table.{obeys, line-at}
 use Rattle.syntax.specs.Tree.{Tree, nothing, letter, range, seq, alt, star, index}
 use Rattle.syntax.specs.Trees.{root, tree-of}
@@ -38,7 +42,7 @@ use Rattle.second_sweep.specs.Parts.{Sweeps}
 use Rattle.second_sweep.specs.Sweeping.{Own, Knows, Wrote}
 use Rattle.parser.specs.declared.Parsed.{Parsed}
 use Rattle.parser.specs.declared.Parsed.the-variants.{Bits, Refused}
-use Rattle.parser.specs.Parse.{parsed-answer, early, Reads-greedily, Parses-by, Parses}
+use Rattle.parser.specs.Parse.{parsed-answer, early-order, early, Reads-greedily, Parses}
 use Rattle.parser.specs.Writing.{First-swept, missing, Writable, Writes}
 
 -- ── the state sets of a position ──
@@ -220,27 +224,41 @@ module _ (p : Pattern) (tape ws : List ℕ) (h : First-swept p tape ws) where
 
 -- ── the ways of reading ──
 module _ (p : Pattern) (tape ws xs : List ℕ) where
+  -- the first cause that holds before the sweeps is answered, and everything is left as it was
+  pub parse-refused : (why : Refusal) → First why (early-order p tape (length ws)) → Parses p tape ws ws xs xs (Refused why)
+  unfolding early
+  parse-refused why f =
+      let n = first-positive f (answer 0 0) in
+      record {
+        refuses = λ _. (sym (first-answered f (answer 0 0)), refl, refl);
+        fills = λ z. absurd (omega (arith, z, n));
+        reads = λ z. absurd (omega (arith, z, n));
+      }
+
   pub parse-rules : obeys p ≡ false → Parses p tape ws ws xs xs (Refused (Tree-fault 0))
-  unfolding Parses early
-  parse-rules e = rw e (refl, refl, refl)
+  parse-rules e = parse-refused (Tree-fault 0) (here (ap not e))
 
   module _ (good : obeys p ≡ true) where
     pub parse-long : letter-limit < length tape → Parses p tape ws ws xs xs (Refused TapeTooLong)
-    unfolding Parses early
-    parse-long h = rw (good, lt-ltb letter-limit (length tape) h) (refl, refl, refl)
+    parse-long h = parse-refused TapeTooLong (past (ap not good) (here (lt-ltb letter-limit (length tape) h)))
 
     module _ (few : length tape ≤ letter-limit) where
+      short : ltb letter-limit (length tape) ≡ false
+      short = le-ltb letter-limit (length tape) few
+
       pub parse-byte : (bad : ℕ) → bad ≡ first-bad tape → bad < length tape → Parses p tape ws ws xs xs (Refused (TapeByte bad))
-      unfolding Parses early
-      parse-byte bad e h = rw (good, le-ltb letter-limit (length tape) few, ← e, lt-ltb bad (length tape) h) (refl, refl, refl)
+      parse-byte bad e h =
+          subst (λ i. Parses p tape ws ws xs xs (Refused (TapeByte i))) (sym e)
+          (parse-refused (TapeByte (first-bad tape))
+          (past (ap not good) (past short (here (lt-ltb (first-bad tape) (length tape) (omega (arith, e, h)))))))
 
       module _ (letters : length tape ≤ first-bad tape) where
         pub parse-words : (needed : ℕ) → needed ≡ 2 * (length tape + 1) → length ws < needed → Parses p tape ws ws xs xs (Refused (WordsTooShort needed))
-        unfolding Parses early
         parse-words needed e h =
-            let few-test = le-ltb letter-limit (length tape) few in
-            let letter-test = le-ltb (first-bad tape) (length tape) letters in
-            rw (good, few-test, letter-test, ← e, lt-ltb (length ws) needed h) (refl, refl, refl)
+            subst (λ n. Parses p tape ws ws xs xs (Refused (WordsTooShort n))) (sym e)
+            (parse-refused (WordsTooShort (2 * (length tape + 1)))
+            (past (ap not good) (past short (past (le-ltb (first-bad tape) (length tape) letters)
+            (here (lt-ltb (length ws) (2 * (length tape + 1)) (omega (arith, e, h))))))))
 
 -- the tests in front of the first sweep are passed
 pub record Tested (p : Pattern) (tape ws : List ℕ) : Type 0 where
@@ -253,13 +271,27 @@ module _ {p : Pattern} {tape ws : List ℕ} (d : Tested p tape ws) where
   pub fillable : Fillable p tape ws
   fillable = record { rules = obeys-iff p .0 (d .good); few = d .few; letters = all-letters tape (d .letters); room = d .room }
 
+  -- no cause before the sweeps holds
+  pub tested-zero : early p tape (length ws) .number ≡ 0
+  unfolding early
+  tested-zero =
+      ap (λ a. a .number)
+      (clear-success (early-order p tape (length ws)) (answer 0 0) (
+        ap not (d .good),
+        (
+          le-ltb letter-limit (length tape) (d .few),
+          (
+            le-ltb (first-bad tape) (length tape) (d .letters),
+            (le-ltb (length ws) (2 * (length tape + 1)) (d .room), tt),
+          ),
+        ),
+      ))
+
   on : (us xs ys : List ℕ) (a : Parsed) → us ≡ in-front (words p tape) ws → Reads-greedily (root p) tape xs ys (parsed-answer a) →
       Parses p tape ws us xs ys a
-  unfolding Parses early
   on us xs ys a e r =
-      let few = le-ltb letter-limit (length tape) (d .few) in
-      let letters = le-ltb (first-bad tape) (length tape) (d .letters) in
-      rw (d .good, few, letters, le-ltb (length ws) (2 * (length tape + 1)) (d .room)) (e, r)
+      let z = tested-zero in
+      record { refuses = λ n. absurd (omega (arith, z, n)); fills = λ _. e; reads = λ _. r }
 
   module _ {us : List ℕ} (filled : us ≡ in-front (words p tape) ws) where
     pub filled-long : length us ≡ length ws
@@ -307,26 +339,18 @@ obeys-few p h = let r = obeys-iff p .0 h in (r .one, r .few)
 module _ (p : Pattern) (tape ws us xs ys : List ℕ) (r : Parsed) (h : Parses p tape ws us xs ys r) where
   -- 5 is answered exactly if the checks before it pass and no value of the pattern, with or without an empty round, spells the tape
   pub unreadable-iff : early p tape (length ws) .number ≡ 0 → (parsed-answer r ≡ refused Unreadable) ↔ ((v : Value (root p)) → flat (root p) v ≡ tape → ⊥)
-  unfolding Parses
-  unreadable-iff e = go (early p tape (length ws) .number) e h
+  unreadable-iff e = (λ a v f. other (h .reads e) a v f, λ n. h .reads e .unreadable n .0)
     where
-      go : (n : ℕ) → n ≡ 0 → Parses-by n (early p tape (length ws)) p tape ws us xs ys (parsed-answer r) →
-          (parsed-answer r ≡ refused Unreadable) ↔ ((v : Value (root p)) → flat (root p) v ≡ tape → ⊥)
-      go zero q w = (λ a v f. other (w .1) a v f, λ n. w .1 .unreadable n .0)
+      other : Reads-greedily (root p) tape xs ys (parsed-answer r) → parsed-answer r ≡ refused Unreadable →
+          (v : Value (root p)) → flat (root p) v ≡ tape → ⊥
+      other g a v f = fit (decLe (cell-count 8 (length (greedy (root p) tape))) (length xs))
         where
-          other : Reads-greedily (root p) tape xs ys (parsed-answer r) → parsed-answer r ≡ refused Unreadable →
-              (v : Value (root p)) → flat (root p) v ≡ tape → ⊥
-          other g a v f =
+          fit : Dec (cell-count 8 (length (greedy (root p) tape)) ≤ length xs) → ⊥
+          fit (yes l) =
               let k = greedy-canonical (root p) tape (readable-iff (root p) tape .1 (v, f)) in
-              fit (decLe (cell-count 8 (length (greedy (root p) tape))) (length xs))
-            where
-              fit : Dec (cell-count 8 (length (greedy (root p) tape)) ≤ length xs) → ⊥
-              fit (yes l) =
-                  let k = greedy-canonical (root p) tape (readable-iff (root p) tape .1 (v, f)) in
-                  let z = ap (λ x. x .number) (sym (g .fits (greedy (root p) tape) k l .0) ∙ a) in
-                  omega arith
-              fit (no l) =
-                  let k = greedy-canonical (root p) tape (readable-iff (root p) tape .1 (v, f)) in
-                  let z = ap (λ x. x .number) (sym (g .short (greedy (root p) tape) k (omega arith) .0) ∙ a) in
-                  omega arith
-      go (suc n) q w = absurd (omega arith)
+              let z = ap (λ x. x .number) (sym (g .fits (greedy (root p) tape) k l .0) ∙ a) in
+              omega arith
+          fit (no l) =
+              let k = greedy-canonical (root p) tape (readable-iff (root p) tape .1 (v, f)) in
+              let z = ap (λ x. x .number) (sym (g .short (greedy (root p) tape) k (omega arith) .0) ∙ a) in
+              omega arith

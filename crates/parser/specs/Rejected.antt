@@ -5,7 +5,6 @@ use mathlib.Core.Bool.{true, false}
 use mathlib.Core.List.{List, [], _∷_}
 use Prim.Native.Nat.{ℕ, _+_, _*_, _≤_}
 use native.Mathlib.Omega.{arith}
-use borrow.Author.Tests.{le-ltb}
 use lib.ListN.{length, getD, replicate}
 use Rattle.syntax.specs.declared.Leaf.the-variants.{Letter}
 use Rattle.syntax.specs.declared.Node.the-variants.{Leaf as Leaf-node, Star}
@@ -19,19 +18,17 @@ use Rattle.bits.specs.Bits.{cell-count, pack, in-front}
 use Rattle.semantics.specs.Sweeps.{readable, greedy}
 use Rattle.semantics.specs.GreedyLaws.{greedy-canonical}
 use Rattle.parser.specs.declared.Parsed.{Parsed}
-use Rattle.parser.specs.Parse.{parsed-answer, early, Parses}
+use Rattle.parser.specs.Parse.{parsed-answer, Parses}
+use Rattle.parser.specs.ParseLaws.{Tested, tested-zero}
 
 -- what reading answers and leaves where a tape is readable and the buffers suffice
 pub reads-greedy : (p : Pattern) (tape ws us xs ys : List ℕ) (r : Parsed) → Parses p tape ws us xs ys r →
     obeys p ≡ true → length tape ≤ letter-limit → length tape ≤ first-bad tape → 2 * (length tape + 1) ≤ length ws →
     readable (root p) tape ≡ true → cell-count 8 (length (greedy (root p) tape)) ≤ length xs →
     (parsed-answer r ≡ answer 0 (length (greedy (root p) tape))) × (ys ≡ in-front (pack 8 (greedy (root p) tape)) xs)
-unfolding Parses early
 reads-greedy p tape ws us xs ys r h good few letters room reads fit =
-    let few-test = le-ltb letter-limit (length tape) few in
-    let letter-test = le-ltb (first-bad tape) (length tape) letters in
-    let w = rw (good, few-test, letter-test, le-ltb (length ws) (2 * (length tape + 1)) room) at h in
-    w .1 .fits (greedy (root p) tape) (greedy-canonical (root p) tape reads) fit
+    let d : Tested p tape ws = record { good = good; few = few; letters = letters; room = room } in
+    h .reads (tested-zero d) .fits (greedy (root p) tape) (greedy-canonical (root p) tape reads) fit
 
 -- the pattern a*, as a table of 64 lines
 abbrev pub rounds : Pattern

@@ -2,7 +2,7 @@
 use mathlib.Core.Path.{_≡_, refl, sym, ap, _∙_}
 use mathlib.Core.Bool.{Bool, true, false, true≢false}
 use mathlib.Core.List.{List}
-use Prim.Native.Nat.{ℕ, zero, suc, _≤_}
+use Prim.Native.Nat.{ℕ, _≤_}
 use native.Mathlib.Omega.{arith}
 use native.Mathlib.Decide.{decLe}
 use lib.ListN.{length}
@@ -10,13 +10,14 @@ use Rattle.syntax.specs.declared.Pattern.{Pattern}
 use Rattle.refusals.specs.Refusals.{Answer, answer, refused}
 use Rattle.refusals.specs.RefusalLaws.{refused-same, number-positive}
 use Rattle.syntax.specs.Tree.{Tree}
+use Rattle.syntax.specs.Trees.{root}
 use Rattle.bits.specs.Bits.{cell-count}
 use Rattle.semantics.specs.Value.{Value, flat}
 use Rattle.semantics.specs.Sweeps.{readable, greedy}
 use Rattle.semantics.specs.GreedyLaws.{greedy-canonical, readable-iff}
 use Rattle.parser.specs.declared.Parsed.{Parsed}
 use Rattle.parser.specs.declared.Parsed.the-variants.{Bits, Refused}
-use Rattle.parser.specs.Parse.{parsed-answer, early, Reads-greedily, Parses-by, Parses}
+use Rattle.parser.specs.Parse.{parsed-answer, early, Reads-greedily, Parses}
 
 -- there is no third case: the tape is unreadable, or its greedy code fits, or it does not
 pub greedily-one : (t : Tree) (tape xs ys zs : List ℕ) (a b : Answer) → Reads-greedily t tape xs ys a → Reads-greedily t tape xs zs b → (a ≡ b) × (ys ≡ zs)
@@ -42,12 +43,17 @@ parsed-same (Bits n) (Refused s) e = let z : 0 ≡ refused s .number = ap (λ a.
 parsed-same (Refused r) (Bits m) e = let z : refused r .number ≡ 0 = ap (λ a. a .number) e in absurd (omega (arith, number-positive r))
 parsed-same (Refused r) (Refused s) e = ap Refused (refused-same r s e)
 
-pub parses-one : (p : Pattern) (tape ws us vs xs ys zs : List ℕ) (r s : Parsed) → Parses p tape ws us xs ys r → Parses p tape ws vs xs zs s →
-    (r ≡ s) × (us ≡ vs) × (ys ≡ zs)
-unfolding Parses
-parses-one p tape ws us vs xs ys zs r s = go (early p tape (length ws) .number)
+pub parses-one : (p : Pattern) (tape words words-now words-too code code-now code-too : List ℕ) (r s : Parsed)
+    → Parses p tape words words-now code code-now r → Parses p tape words words-too code code-too s
+    → (r ≡ s) × (words-now ≡ words-too) × (code-now ≡ code-too)
+parses-one p tape words words-now words-too code code-now code-too r s f g = go (decLe 1 (early p tape (length words) .number))
   where
-    go : (n : ℕ) → Parses-by n (early p tape (length ws)) p tape ws us xs ys (parsed-answer r) →
-        Parses-by n (early p tape (length ws)) p tape ws vs xs zs (parsed-answer s) → (r ≡ s) × (us ≡ vs) × (ys ≡ zs)
-    go zero f g = let e = greedily-one _ tape xs ys zs (parsed-answer r) (parsed-answer s) (f .1) (g .1) in (parsed-same r s (e .0), f .0 ∙ sym (g .0), e .1)
-    go (suc n) f g = (parsed-same r s (f .0 ∙ sym (g .0)), f .1 ∙ sym (g .1), f .2 ∙ sym (g .2))
+    go : Dec (1 ≤ early p tape (length words) .number) → (r ≡ s) × (words-now ≡ words-too) × (code-now ≡ code-too)
+    go (yes n) =
+        let a = f .refuses n in
+        let b = g .refuses n in
+        (parsed-same r s (a .0 ∙ sym (b .0)), a .1 ∙ sym (b .1), a .2 ∙ sym (b .2))
+    go (no n) =
+        let z : early p tape (length words) .number ≡ 0 = omega arith in
+        let e = greedily-one (root p) tape code code-now code-too (parsed-answer r) (parsed-answer s) (f .reads z) (g .reads z) in
+        (parsed-same r s (e .0), f .fills z ∙ sym (g .fills z), e .1)

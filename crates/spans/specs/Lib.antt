@@ -9,4 +9,6 @@ pub mod SpanLaws
 pub mod Pieces
 -- A node outside the table has no visit.
 pub mod Outside
+-- The promise fixes the answer; the order of the causes.
 pub mod Unique
+pub mod Orders

@@ -1,37 +1,20 @@
 -- The part of the tape that a visit covers: it lies in the tape, and is what the definition gives.
 use mathlib.Core.Path.{_≡_, refl, sym, ap, ap₂, _∙_}
-use mathlib.Core.Bool.{Bool, true, false, cond}
-use mathlib.Core.Option.{Option, none, some, Option·none-ne-some}
+use mathlib.Core.Option.{Option, none, some}
 use mathlib.Core.List.{List}
 use Prim.Native.Nat.{ℕ, _+_, _-_, _≤_}
 use native.Mathlib.Omega.{arith}
-use lib.Dec.{leb, ltb, eqb}
+use borrow.Author.Tests.{not-false}
 use lib.ListN.{length, take, drop}
 use Rattle.syntax.specs.declared.Pattern.{Pattern}
-use Rattle.refusals.specs.declared.Refusal.the-variants.{TapeByte}
-use Rattle.syntax.specs.Letter.{first-bad, letter-limit}
 use Rattle.syntax.specs.Trees.{root}
-use Rattle.syntax.specs.Table.{obeys}
-use Rattle.refusals.specs.Refusals.{number, refused}
 use Rattle.semantics.specs.Visits.{Visit}
 use Rattle.semantics.specs.VisitLaws.{visit-shows}
 use Rattle.codes.specs.Spells.{code-of-tape}
 use Rattle.spans.specs.declared.Spanned.{Spanned}
-use Rattle.codes.specs.Flatten.{bad-table, no-code, too-long}
 use Rattle.walks.specs.Measures.{whole-handed, whole-value, spells}
-use Rattle.spans.specs.Spans.{visit-by, span-visit, visit-answer, span-answer, start-of, size-of, span-shown, piece-of, Spans}
-use Rattle.spans.specs.SpanLaws.{tape-whole, tape-letters}
-
--- a visit is shown only where no cause refuses it
-shown-from : (o h b : Bool) (i : ℕ) (w : Bool) (v : Option Visit) (x : Visit)
-    → cond (eqb ((cond o (cond h (cond b (refused (TapeByte i)) (cond w (visit-answer v) no-code)) too-long) bad-table) .number) 0) v none ≡ some x
-    → (w ≡ true) × (v ≡ some x)
-shown-from false h b i w v x e = absurd (Option·none-ne-some x e)
-shown-from true false b i w v x e = absurd (Option·none-ne-some x e)
-shown-from true true true i w v x e = absurd (Option·none-ne-some x e)
-shown-from true true false i false v x e = absurd (Option·none-ne-some x e)
-shown-from true true false i true none x e = absurd (Option·none-ne-some x e)
-shown-from true true false i true (some y) x e = (refl, e)
+use Rattle.spans.specs.Spans.{visit-by, span-visit, start-of, size-of, span-shown, piece-of, Spans}
+use Rattle.spans.specs.SpanLaws.{tape-whole, tape-letters, shown-clear}
 
 module _ (p : Pattern) (tape code : List ℕ) (count l k : ℕ) where
   pub record Part (r : Spanned) : Type 0 where
@@ -39,11 +22,10 @@ module _ (p : Pattern) (tape code : List ℕ) (count l k : ℕ) where
     pub is : take ((r .start + r .length) - r .start) (drop (r .start) tape) ≡ piece-of (span-shown p tape code count l k) tape
 
   shown-fits : (x : Visit) → span-shown p tape code count l k ≡ some x → x .start + x .size ≤ length tape
-  unfolding span-shown span-answer span-visit
+  unfolding span-visit
   shown-fits x e =
-      let (w, q) =
-      shown-from (obeys p) (leb (length tape) letter-limit) (ltb (first-bad tape) (length tape)) (first-bad tape) (code-of-tape (root p) tape code count)
-      (span-visit p code count l k) x e in
+      let (clear, q) = shown-clear p tape code count l k x e in
+      let w = not-false (code-of-tape (root p) tape code count) (clear .1 .1 .1 .0) in
       let c = tape-whole (root p) tape code count w in
       let (v, g) = whole-value (root p) code count c in
       let s = spells (root p) code count (whole-handed (root p) code count c) v g in

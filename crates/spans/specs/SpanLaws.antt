@@ -1,17 +1,20 @@
 -- Spans of a whole code: one law for each way of the service.
 use mathlib.Core.Path.{_≡_, refl, sym, ap, subst, _∙_}
-use mathlib.Core.Bool.{Bool, true, false, cond, false≢true}
-use mathlib.Core.Option.{Option, none, some}
+use mathlib.Core.Bool.{Bool, true, false, not, cond, true≢false, false≢true}
+use mathlib.Core.Option.{Option, none, some, Option·none-ne-some}
 use mathlib.Core.List.{List}
 use Prim.Native.Nat.{ℕ, _+_, _*_, _-_, _≤_, _<_}
 use native.Mathlib.Omega.{arith}
-use lib.Dec.{eqb}
-use borrow.Author.Tests.{lt-ltb, le-ltb, le-leb, lt-leb}
+use lib.Dec.{eqb, ltb}
+use borrow.Author.Tests.{lt-ltb, le-ltb, eqb-true, ne-eqb}
 use lib.ListN.{length}
 use Rattle.syntax.specs.declared.Pattern.{Pattern}
 use Rattle.refusals.specs.declared.Refusal.{Refusal}
 use Rattle.refusals.specs.declared.Refusal.the-variants.{Tree as Tree-fault, TapeTooLong, TapeByte, NotACode, NoSuchVisit}
-use Rattle.refusals.specs.Refusals.{answer, refused}
+use Rattle.refusals.specs.Refusals.{answer, number}
+use Rattle.refusals.specs.RefusalLaws.{number-positive}
+use Rattle.refusals.specs.Checks.{First, here, past, Clear}
+use Rattle.refusals.specs.CheckLaws.{first-answered, clear-success, zero-clear}
 use Rattle.syntax.specs.Bools.{and-fst, and-snd}
 use Rattle.syntax.specs.Letter.{first-bad, letter-limit}
 use Rattle.syntax.specs.Tree.{Tree}
@@ -31,7 +34,8 @@ use Rattle.codes.specs.SpellLaws.{same-length}
 use Rattle.spans.specs.declared.SpanOutcome.the-variants.{Shown}
 use Rattle.spans.specs.declared.Spanned.{Spanned}
 use Rattle.spans.specs.declared.find.Found.{Found}
-use Rattle.spans.specs.Spans.{visit-by, span-visit, visit-answer, span-answer, start-of, size-of, span-shown, span-outcome, refused-span, Spans}
+use Rattle.spans.specs.Spans.{visit-by, span-visit, unvisited, span-order, span-answer}
+use Rattle.spans.specs.Spans.{start-of, size-of, span-shown, span-outcome, refused-span, Spans}
 use Rattle.spans.specs.Traces.{trace, trace-visits, trace-at, found-by, found-in}
 use Rattle.spans.specs.Seeks.{Seeking, Finds, same-trace}
 
@@ -61,6 +65,10 @@ module _ (t : Tree) (tape code : List ℕ) (count : ℕ) (w : code-of-tape t tap
         room = omega (arith, ap (λ z. z .1) (trace-visits t v 0), ap length s, tape-letters);
       }
 
+pub visited : (v : Option Visit) → unvisited v ≡ false → (x : Visit) × (v ≡ some x)
+visited none e = absurd (true≢false e)
+visited (some x) e = (x, refl)
+
 -- ── at the last line of a table that holds the pattern ──
 module _ (p : Pattern) (table : List ℕ) (o : obeys p ≡ true) (h : Holds p table) (code : List ℕ) (count : ℕ) where
   pub tape-root : (tape : List ℕ) (b : Bool) → b ≡ code-of-tape (tree-in table (p .count - 1)) tape code count → code-of-tape (root p) tape code count ≡ b
@@ -75,9 +83,12 @@ module _ (p : Pattern) (tape code : List ℕ) (count l k : ℕ) where
   abbrev Refuses : Refusal → Type 0
   Refuses why = (s : Spanned) → s ≡ refused-span why → Spans p tape code count l k s
 
-  refusal : (why : Refusal) → span-answer p tape code count l k ≡ refused why → eqb (refused why .number) 0 ≡ false → Refuses why
-  unfolding span-shown
-  refusal why e z s es =
+  -- the first cause that holds is answered, and the piece is empty
+  pub span-refused : (why : Refusal) → First why (span-order p tape code count l k) → Refuses why
+  unfolding span-answer span-shown
+  span-refused why f s es =
+      let e = first-answered f (answer 0 0) in
+      let z = ne-eqb (number why) 0 (λ q. omega (arith, q, number-positive why)) in
       let q = ap (λ b. cond b (span-visit p code count l k) none) (ap (λ x. eqb (x .number) 0) e ∙ z) in
       record {
         answers = ap (λ x. span-outcome (x .outcome)) es ∙ sym e;
@@ -90,29 +101,46 @@ module _ (p : Pattern) (tape code : List ℕ) (count l k : ℕ) where
   unfolding span-shown
   shown-at x a e = ap (λ y. cond (eqb (y .number) 0) (span-visit p code count l k) none) a ∙ e
 
+  -- a visit is shown only where no cause holds
+  pub shown-clear : (x : Visit) → span-shown p tape code count l k ≡ some x
+      → Clear (span-order p tape code count l k) × (span-visit p code count l k ≡ some x)
+  unfolding span-shown span-answer
+  shown-clear x e = go (eqb (span-answer p tape code count l k .number) 0) refl e
+    where
+      go : (b : Bool) → eqb (span-answer p tape code count l k .number) 0 ≡ b → cond b (span-visit p code count l k) none ≡ some x
+          → Clear (span-order p tape code count l k) × (span-visit p code count l k ≡ some x)
+      go true z q = (zero-clear (span-order p tape code count l k) (answer 0 0) (eqb-true (span-answer p tape code count l k .number) 0 z), q)
+      go false z q = absurd (Option·none-ne-some x q)
+
   pub span-bad : obeys p ≡ false → Refuses (Tree-fault 0)
-  unfolding span-answer
-  span-bad o = refusal (Tree-fault 0) (rw o) refl
+  span-bad o = span-refused (Tree-fault 0) (here (ap not o))
 
   module _ (o : obeys p ≡ true) where
     pub span-long : letter-limit < length tape → Refuses TapeTooLong
-    unfolding span-answer
-    span-long h = refusal TapeTooLong (rw (o, lt-leb (length tape) letter-limit h)) refl
+    span-long h = span-refused TapeTooLong (past (ap not o) (here (lt-ltb letter-limit (length tape) h)))
 
     module _ (h : length tape ≤ letter-limit) where
+      few : ltb letter-limit (length tape) ≡ false
+      few = le-ltb letter-limit (length tape) h
+
       pub span-byte : (bad : ℕ) → bad ≡ first-bad tape → bad < length tape → Refuses (TapeByte bad)
-      unfolding span-answer
-      span-byte bad e b = refusal (TapeByte bad) (rw (o, le-leb (length tape) letter-limit h, ← e, lt-ltb bad (length tape) b)) refl
+      span-byte bad e b =
+          subst (λ i. Refuses (TapeByte i)) (sym e)
+          (span-refused (TapeByte (first-bad tape)) (past (ap not o) (past few (here (lt-ltb (first-bad tape) (length tape) (omega (arith, b, e)))))))
 
       module _ (bad : ℕ) (e : bad ≡ first-bad tape) (b : length tape ≤ bad) where
+        letters : ltb (first-bad tape) (length tape) ≡ false
+        letters = le-ltb (first-bad tape) (length tape) (omega (arith, b, e))
+
         pub span-not : code-of-tape (root p) tape code count ≡ false → Refuses NotACode
-        unfolding span-answer
-        span-not c = refusal NotACode (rw (o, le-leb (length tape) letter-limit h, ← e, le-ltb bad (length tape) b, c)) refl
+        span-not c = span-refused NotACode (past (ap not o) (past few (past letters (here (ap not c)))))
 
         module _ (w : code-of-tape (root p) tape code count ≡ true) where
-          given : span-answer p tape code count l k ≡ visit-answer (span-visit p code count l k)
+          given : (x : Visit) → span-visit p code count l k ≡ some x → span-answer p tape code count l k ≡ answer 0 0
           unfolding span-answer
-          given = rw (o, le-leb (length tape) letter-limit h, ← e, le-ltb bad (length tape) b, w)
+          given x e =
+              clear-success (span-order p tape code count l k) (answer 0 0)
+              (ap not o, (few, (letters, (ap not w, (ap unvisited e, tt)))))
 
           module _ (r : Found) (fi : Finds (trace-at code count (root p) 0) 0 l k r) where
             -- what was found is the visit of layer 1
@@ -135,7 +163,8 @@ module _ (p : Pattern) (tape code : List ℕ) (count l k : ℕ) where
             span-none t = go (span-visit p code count l k) refl
               where
                 go : (x : Option Visit) → span-visit p code count l k ≡ x → Refuses NoSuchVisit
-                go none e = refusal NoSuchVisit (given ∙ ap visit-answer e) refl
+                go none e =
+                    span-refused NoSuchVisit (past (ap not o) (past few (past letters (past (ap not w) (here (ap unvisited e))))))
                 go (some x) e = let (j, n, i, q) = found-visit in absurd (false≢true (sym t ∙ ap (λ z. z .hit) (q ∙ ap (found-by n j i) e)))
 
             pub span-found : r .hit ≡ true → Spans p tape code count l k (record { outcome = Shown; start = r .start; length = r .size })
@@ -147,6 +176,6 @@ module _ (p : Pattern) (tape code : List ℕ) (count l k : ℕ) where
                 go (some x) e =
                     let (j, n, i, q) = found-visit in
                     let g = q ∙ ap (found-by n j i) e in
-                    let a = given ∙ ap visit-answer e in
+                    let a = given x e in
                     let s = shown-at x a e in
                     record { answers = sym a; starts = ap (λ z. z .start) g ∙ sym (ap start-of s); lengths = ap (λ z. z .size) g ∙ sym (ap size-of s) }

@@ -1,19 +1,20 @@
 -- Showing the piece of a visit: the answer, start and length, for every input. Definitions only.
 use mathlib.Core.Path.{_≡_}
-use mathlib.Core.Bool.{cond}
+use mathlib.Core.Bool.{Bool, true, false, not, cond}
 use mathlib.Core.Option.{Option, none, some}
-use mathlib.Core.List.{List, []}
+use mathlib.Core.List.{List, [], _∷_}
 use Prim.Native.Nat.{ℕ}
-use lib.Dec.{eqb, ltb, leb}
+use lib.Dec.{eqb, ltb}
 use lib.ListN.{length, take, drop}
 use Rattle.syntax.specs.declared.Pattern.{Pattern}
 use Rattle.refusals.specs.declared.Refusal.{Refusal}
-use Rattle.refusals.specs.declared.Refusal.the-variants.{TapeByte, NoSuchVisit}
+use Rattle.refusals.specs.declared.Refusal.the-variants.{Tree as Tree-fault, TapeTooLong, TapeByte, NotACode, NoSuchVisit}
 use Rattle.syntax.specs.Letter.{first-bad, letter-limit}
 use Rattle.syntax.specs.Tree.{Tree}
 use Rattle.syntax.specs.Trees.{root}
 use Rattle.syntax.specs.Table.{obeys}
 use Rattle.refusals.specs.Refusals.{Answer, answer, refused}
+use Rattle.refusals.specs.Checks.{Check, first-cause}
 use Rattle.bits.specs.Bits.{held}
 use Rattle.semantics.specs.Value.{Value}
 use Rattle.semantics.specs.Visits.{Visit, visit}
@@ -21,7 +22,6 @@ use Rattle.semantics.specs.Decode.{value-of}
 use Rattle.spans.specs.declared.SpanOutcome.{SpanOutcome}
 use Rattle.spans.specs.declared.SpanOutcome.the-variants.{Shown, Refused}
 use Rattle.spans.specs.declared.Spanned.{Spanned}
-use Rattle.codes.specs.Flatten.{bad-table, no-code, too-long}
 use Rattle.codes.specs.Spells.{code-of-tape}
 
 abbrev pub visit-by : (t : Tree) → (node k : ℕ) → Option (Value t) → Option Visit
@@ -32,19 +32,23 @@ visit-by t l k (some v) = visit t v l k
 unfoldable pub span-visit : Pattern → (code : List ℕ) → (count node k : ℕ) → Option Visit
 span-visit p code count l k = visit-by (root p) l k (value-of (root p) (held 8 code count))
 
-abbrev pub visit-answer : Option Visit → Answer
-visit-answer none = refused NoSuchVisit
-visit-answer (some x) = answer 0 0
+-- 01, cause 10: "node outside the table or visited at most k times"
+abbrev pub unvisited : Option Visit → Bool
+unvisited none = true
+unvisited (some x) = false
 
 -- 01: "Showing the piece [..]: 2, 3, 4, 8, 10."
+abbrev pub span-order : Pattern → (tape code : List ℕ) → (count node k : ℕ) → List Check
+span-order p tape code count l k =
+    (not (obeys p), Tree-fault 0)
+    ∷ (ltb letter-limit (length tape), TapeTooLong)
+    ∷ (ltb (first-bad tape) (length tape), TapeByte (first-bad tape))
+    ∷ (not (code-of-tape (root p) tape code count), NotACode)
+    ∷ (unvisited (span-visit p code count l k), NoSuchVisit)
+    ∷ []
+
 unfoldable pub span-answer : Pattern → (tape code : List ℕ) → (count node k : ℕ) → Answer
-span-answer p tape code count l k =
-    cond (obeys p)
-    (cond (leb (length tape) letter-limit)
-    (cond (ltb (first-bad tape) (length tape)) (refused (TapeByte (first-bad tape)))
-    (cond (code-of-tape (root p) tape code count) (visit-answer (span-visit p code count l k)) no-code))
-    too-long)
-    bad-table
+span-answer p tape code count l k = first-cause (span-order p tape code count l k) (answer 0 0)
 
 abbrev pub start-of : Option Visit → ℕ
 start-of none = 0

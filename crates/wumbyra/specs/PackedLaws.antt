@@ -1,32 +1,31 @@
 -- Laws of packed answers: one for each way of the code.
 use mathlib.Core.Path.{_≡_, refl, sym, ap, ap₂, subst, _∙_}
-use mathlib.Core.Bool.{Bool, true, false, cond}
-use mathlib.Core.Option.{Option, none, some}
+use mathlib.Core.Bool.{false, cond}
+use mathlib.Core.Option.{none, some}
 use mathlib.Core.List.{List}
 use Prim.Native.Nat.{ℕ, _+_, _*_, _/_, _%_, _≤_, _<_}
 use native.Mathlib.Omega.{arith}
-use borrow.Author.Tests.{leb-true, ne-eqb}
-use lib.Dec.{leb, ltb, eqb}
+use borrow.Author.Tests.{ltb-false, ne-eqb}
+use lib.Dec.{eqb}
 use lib.ListN.{length, getD}
 use Rattle.syntax.specs.declared.Pattern.{Pattern}
 use Rattle.refusals.specs.declared.Refusal.{Refusal}
-use Rattle.refusals.specs.declared.Refusal.the-variants.{TapeByte}
 use Rattle.loading.specs.declared.Loaded.{Loaded}
-use Rattle.syntax.specs.Letter.{first-bad, letter-limit}
+use Rattle.syntax.specs.Letter.{letter-limit}
 use Rattle.refusals.specs.Refusals.{answer, refused, number}
 use Rattle.refusals.specs.RefusalLaws.{number-positive}
-use Rattle.syntax.specs.Table.{obeys}
-use Rattle.syntax.specs.Trees.{root}
+use Rattle.refusals.specs.Checks.{Clear}
+use Rattle.refusals.specs.CheckLaws.{zero-clear}
 use Rattle.loading.specs.Load.{load-table, load-answer, outcome-answer, Loads}
 use Rattle.semantics.specs.Visits.{Visit}
 use Rattle.codes.specs.declared.Flattened.{Flattened}
 use Rattle.codes.specs.declared.Totalled.{Totalled}
-use Rattle.codes.specs.Flatten.{bad-table, no-code, too-long, flattened-answer, Flattens}
+use Rattle.codes.specs.Flatten.{flattened-answer, Flattens}
 use Rattle.codes.specs.Totals.{totals-outcome, Totals}
-use Rattle.codes.specs.Spells.{code-of-tape}
 use Rattle.spans.specs.declared.Spanned.{Spanned}
 use Rattle.spans.specs.declared.SpanOutcome.the-variants.{Shown, Refused}
-use Rattle.spans.specs.Spans.{span-visit, visit-answer, span-answer, start-of, size-of, span-shown, span-outcome, Spans}
+use Rattle.spans.specs.Spans.{span-visit, span-order, span-answer, start-of, size-of, span-shown, span-outcome, Spans}
+use Rattle.spans.specs.SpanLaws.{visited}
 use Rattle.spans.specs.Pieces.{part}
 use Rattle.parser.specs.declared.Parsed.{Parsed}
 use Rattle.parser.specs.Parse.{parsed-answer, Parses}
@@ -89,36 +88,23 @@ module _ (text : List ℕ) (l : Loaded) (h : Loads text l) where
       record { answers = f ∙ q .answers; leaves = e ∙ ap (λ ls. in-cells ls cells) (q .gives) }
 
 -- ── spans ──
--- number 0 is answered only for a visit that there is, of a tape that is not too long
-answered : (o h b : Bool) (i : ℕ) (w : Bool) (v : Option Visit)
-    → (cond o (cond h (cond b (refused (TapeByte i)) (cond w (visit-answer v) no-code)) too-long) bad-table) .number ≡ 0
-    → (h ≡ true) × ((x : Visit) × (v ≡ some x))
-answered false h b i w v e = absurd (omega arith)
-answered true false b i w v e = absurd (omega arith)
-answered true true true i w v e = absurd (omega arith)
-answered true true false i false v e = absurd (omega arith)
-answered true true false i true none e = absurd (omega arith)
-answered true true false i true (some x) e = (refl, (x, refl))
-
 module _ (p : Pattern) (tape code : List ℕ) (count l k : ℕ) (s : Spanned) (h : Spans p tape code count l k s) where
   shown-zero : s .outcome ≡ Shown → span-answer p tape code count l k .number ≡ 0
   shown-zero e = sym (ap (λ a. a .number) (h .answers)) ∙ ap (λ o. span-outcome o .number) e
 
+  -- so no cause holds
+  shown-clear : s .outcome ≡ Shown → Clear (span-order p tape code count l k)
+  unfolding span-answer
+  shown-clear e = zero-clear (span-order p tape code count l k) (answer 0 0) (shown-zero e)
+
   -- start and length fit 16 bits each
   pub shown-small : s .outcome ≡ Shown → s .start + s .length ≤ letter-limit
-  unfolding span-answer
-  shown-small e =
-      let (a, v) =
-      answered (obeys p) (leb (length tape) letter-limit) (ltb (first-bad tape) (length tape)) (first-bad tape)
-      (code-of-tape (root p) tape code count) (span-visit p code count l k) (shown-zero e) in
-      omega (arith, part p tape code count l k s h .fits, leb-true (length tape) letter-limit a)
+  shown-small e = omega (arith, part p tape code count l k s h .fits, ltb-false letter-limit (length tape) (shown-clear e .1 .0))
 
   span-some : s .outcome ≡ Shown → (x : Visit) × (span-shown p tape code count l k ≡ some x)
-  unfolding span-answer span-shown
+  unfolding span-shown
   span-some e =
-      let (a, (x, q)) =
-      answered (obeys p) (leb (length tape) letter-limit) (ltb (first-bad tape) (length tape)) (first-bad tape)
-      (code-of-tape (root p) tape code count) (span-visit p code count l k) (shown-zero e) in
+      let (x, q) = visited (span-visit p code count l k) (shown-clear e .1 .1 .1 .1 .0) in
       (x, ap (λ n. cond (eqb n 0) (span-visit p code count l k) none) (shown-zero e) ∙ q)
 
   span-shows : s .outcome ≡ Shown

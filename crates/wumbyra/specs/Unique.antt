@@ -4,12 +4,12 @@ use mathlib.Core.List.{List}
 use Prim.Native.Nat.{ℕ, _/_, _%_}
 use native.Mathlib.Omega.{arith}
 use Rattle.refusals.specs.Refusals.{answer}
-use Rattle.loading.specs.Load.{load-table}
+use Rattle.loading.specs.Load.{load-answer, load-table}
 use Rattle.parser.specs.Parse.{parsed-answer}
 use Rattle.parser.specs.Unique.{parses-one}
 use Rattle.canonical.specs.Canonicalize.{canonicalized-answer}
 use Rattle.canonical.specs.Unique.{canonicalizes-one}
-use Rattle.wumbyra.specs.Packed.{unpacked, Parses-text, Flattens-text, Totals-text, Canonicalizes-text}
+use Rattle.wumbyra.specs.Packed.{unpacked, Parses-text, Flattens-text, Totals-text, Canonicalizes-text, span-text, total-text}
 
 pub unpacked-same : (r s : ℕ) → unpacked r ≡ unpacked s → r ≡ s
 unpacked-same r s e =
@@ -18,6 +18,17 @@ unpacked-same r s e =
     omega (arith, q, m)
 
 module _ (text : List ℕ) where
+  pub loads-text-one : (r s : ℕ) → unpacked r ≡ load-answer text → unpacked s ≡ load-answer text → r ≡ s
+  loads-text-one r s f g = unpacked-same r s (f ∙ sym g)
+
+  pub spans-text-one : (tape code : List ℕ) (count l k r s : ℕ) → unpacked r ≡ span-text text tape code count l k
+      → unpacked s ≡ span-text text tape code count l k → r ≡ s
+  spans-text-one tape code count l k r s f g = unpacked-same r s (f ∙ sym g)
+
+  pub total-text-one : (code : List ℕ) (count account r s : ℕ) → unpacked r ≡ total-text text code count account
+      → unpacked s ≡ total-text text code count account → r ≡ s
+  total-text-one code count account r s f g = unpacked-same r s (f ∙ sym g)
+
   pub parses-text-one : (tape ws us vs xs ys zs : List ℕ) (r s : ℕ) → Parses-text text tape ws us xs ys r → Parses-text text tape ws vs xs zs s
       → (r ≡ s) × (us ≡ vs) × (ys ≡ zs)
   parses-text-one tape ws us vs xs ys zs r s f g =

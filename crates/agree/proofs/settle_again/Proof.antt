@@ -1,5 +1,5 @@
 -- `agree::settle_again` meets its contract.
-use Rattle.agree.specs.AgreeLaws.{refusal-canonicalized, left-end, tape-length, again-first, again-second, again-both}
+use Rattle.agree.specs.AgreeLaws.{refusal-canonicalized, left-end, tape-length, words-kept, again-first, again-second, again-both}
 use lib.Seq.{length-take-le}
 use mathlib.Core.Path.{sym, _∙_}
 use borrow.Author.Needs.{needs}
@@ -115,7 +115,13 @@ same-length-7 c =
     ∙ tape-length _ _ _ _ _ _ _ _ _ _ _ (c30 .canonicalize .ensures) (c22 .third .given .1)
 
 same-length-8 : tie.Need-same-length-8
-same-length-8 c = search needs
+same-length-8 c =
+    let c6 = c .before .before .before .before .before .before in
+    let c14 = c6 .before .before .before .before .before .before .before .before in
+    let c22 = c14 .before .before .before .before .before .before .before .before in
+    let c30 = c22 .before .before .before .before .before .before .before .before in
+    words-kept _ _ _ _ _ _ _ _ _ _ _ (c14 .canonicalize2 .ensures) (c6 .fourth .given .1)
+    ∙ words-kept _ _ _ _ _ _ _ _ _ _ _ (c30 .canonicalize .ensures) (c22 .third .given .1)
 
 same-length-9 : tie.Need-same-length-9
 same-length-9 c = search needs

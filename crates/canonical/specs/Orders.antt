@@ -1,0 +1,93 @@
+-- Settling a code: the first cause that holds is answered, whatever later causes hold, and leaves what 01's table says.
+use mathlib.Core.Path.{_≡_, refl, sym, ap, _∙_}
+use mathlib.Core.Bool.{Bool, true, false, not}
+use mathlib.Core.List.{List, [], _∷_}
+use Prim.Native.Nat.{ℕ, _+_, _*_, _≤_, _<_}
+use borrow.Author.Tests.{lt-ltb, le-ltb}
+use lib.ListN.{length}
+use Rattle.syntax.specs.declared.Pattern.{Pattern}
+use Rattle.syntax.specs.Letter.{letter-limit}
+use Rattle.syntax.specs.Table.{obeys}
+use Rattle.syntax.specs.Trees.{root}
+use Rattle.refusals.specs.declared.Refusal.{Refusal}
+use Rattle.refusals.specs.declared.Refusal.the-variants.{Tree as Tree-fault, TapeTooLong, WordsTooShort, CodeTooShort, NotACode, TapeTooShort}
+use Rattle.refusals.specs.Refusals.{answer}
+use Rattle.refusals.specs.Checks.{numbers, First, here, past, Clear}
+use Rattle.refusals.specs.CheckLaws.{first-answered, first-positive, first-more}
+use Rattle.bits.specs.Bits.{cell-count, in-front}
+use Rattle.semantics.specs.Code.{Canonical}
+use Rattle.first_sweep.specs.StateSets.{words as state-sets}
+use Rattle.walks.specs.Whole.{whole-code}
+use Rattle.codes.specs.Flatten.{flatten-order}
+use Rattle.codes.specs.FlattenLaws.{flatten-refused, flatten-fills}
+use Rattle.canonical.specs.declared.Canonicalized.{Canonicalized}
+use Rattle.canonical.specs.declared.Canonicalized.the-variants.{Refused}
+use Rattle.canonical.specs.Canonicalize.{word-check, settle-order, settle-early, Canonicalizes}
+use Rattle.canonical.specs.CanonicalLaws.{settles}
+use Rattle.canonical.specs.Demand.{tape-of}
+use Rattle.canonical.specs.Unique.{canonicalized-same}
+
+-- 01: "Settling a code spells it and reads the result: 2, 8, 3, 9, 6, 5, 7."
+pub settle-numbers : (p : Pattern) (code : List ℕ) (count size n : ℕ) → numbers (settle-order p code count size n) ≡ 2 ∷ 8 ∷ 3 ∷ 9 ∷ 6 ∷ []
+settle-numbers p code count size n = refl
+
+module _ (p : Pattern) (code : List ℕ) (count : ℕ) (tape tape-now words words-now canonical canonical-now : List ℕ) (r : Canonicalized)
+    (h : Canonicalizes p code count tape tape-now words words-now canonical canonical-now r) where
+  abbrev letters : ℕ
+  letters = length (tape-of p code count)
+
+  pub only : (why : Refusal) → First why (settle-order p code count (length tape) (length words))
+      → (r ≡ Refused why) × (words-now ≡ words) × (canonical-now ≡ canonical)
+  unfolding settle-early
+  only why f =
+      let q = h .refuses (first-positive f (answer 0 0)) in
+      (canonicalized-same r (Refused why) (q .0 ∙ first-answered f (answer 0 0)), q .1, q .2)
+
+  -- a cause of spelling leaves the tape too
+  abbrev All-left : Refusal → Type 0
+  All-left why = (r ≡ Refused why) × (tape-now ≡ tape) × (words-now ≡ words) × (canonical-now ≡ canonical)
+
+  pub only-spelling : (why : Refusal) → First why (flatten-order p code count (length tape)) → All-left why
+  only-spelling why f =
+      let q = only why (first-more (word-check p code count (length words)) f) in
+      (q .0, h .spells ∙ sym (flatten-refused p code count tape why f .leaves), q .1, q .2)
+
+  pub only-2 : obeys p ≡ false → All-left (Tree-fault 0)
+  only-2 o = only-spelling (Tree-fault 0) (here (ap not o))
+
+  module _ (o : obeys p ≡ true) where
+    pub only-8 : whole-code (root p) code count ≡ false → All-left NotACode
+    only-8 w = only-spelling NotACode (past (ap not o) (here (ap not w)))
+
+    module _ (w : whole-code (root p) code count ≡ true) where
+      pub only-3 : letter-limit < letters → All-left TapeTooLong
+      only-3 l = only-spelling TapeTooLong (past (ap not o) (past (ap not w) (here (lt-ltb letter-limit letters l))))
+
+      module _ (f : letters ≤ letter-limit) where
+        pub only-9 : length tape < letters → All-left (TapeTooShort letters)
+        only-9 l =
+            only-spelling (TapeTooShort letters)
+            (past (ap not o) (past (ap not w) (past (le-ltb letter-limit letters f) (here (lt-ltb (length tape) letters l)))))
+
+        module _ (g : letters ≤ length tape) where
+          -- 6: "marks, code; settling has filled the tape"
+          pub only-6 : length words < 2 * (letters + 1)
+              → (r ≡ Refused (WordsTooShort (2 * (letters + 1)))) × (tape-now ≡ in-front (tape-of p code count) tape)
+              × (words-now ≡ words) × (canonical-now ≡ canonical)
+          only-6 l =
+              let few = le-ltb letter-limit letters f in
+              let room = le-ltb (length tape) letters g in
+              let q = only (WordsTooShort (2 * (letters + 1)))
+              (past (ap not o) (past (ap not w) (past few (past room (here (lt-ltb (length words) (2 * (letters + 1)) l)))))) in
+              let c : Clear (flatten-order p code count (length tape)) = (ap not o, (ap not w, (few, (room, tt)))) in
+              (q .0, h .spells ∙ flatten-fills p code count tape c, q .1, q .2)
+
+          -- 7: "code; the rest is filled". 5 never holds: what a code spells can be read.
+          pub only-7 : 2 * (letters + 1) ≤ length words → (bits : List Bool) → Canonical (root p) (tape-of p code count) bits
+              → length canonical < cell-count 8 (length bits)
+              → (r ≡ Refused (CodeTooShort (cell-count 8 (length bits)))) × (tape-now ≡ in-front (tape-of p code count) tape)
+              × (words-now ≡ in-front (state-sets p (tape-of p code count)) words) × (canonical-now ≡ canonical)
+          only-7 k bits b l =
+              let s = settles p code count tape tape-now words words-now canonical canonical-now r h o w f g k in
+              let m = s .2 .short bits b l in
+              (canonicalized-same r (Refused (CodeTooShort (cell-count 8 (length bits)))) (m .0), s .0, s .1, m .1)

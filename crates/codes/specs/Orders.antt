@@ -1,0 +1,85 @@
+-- Spelling and totalling a code: the first cause that holds is answered, whatever later causes hold, and all is left as it was.
+use mathlib.Core.Path.{_≡_, refl, sym, ap, _∙_}
+use mathlib.Core.Bool.{true, false, not}
+use mathlib.Core.List.{List, [], _∷_}
+use Prim.Native.Nat.{ℕ, _≤_, _<_}
+use borrow.Author.Tests.{lt-ltb, le-ltb}
+use lib.ListN.{length}
+use Rattle.syntax.specs.declared.Pattern.{Pattern}
+use Rattle.syntax.specs.Letter.{letter-limit}
+use Rattle.syntax.specs.Table.{obeys}
+use Rattle.syntax.specs.Trees.{root}
+use Rattle.refusals.specs.declared.Refusal.{Refusal}
+use Rattle.refusals.specs.declared.Refusal.the-variants.{Tree as Tree-fault, TapeTooLong, NotACode, TapeTooShort}
+use Rattle.refusals.specs.Refusals.{answer}
+use Rattle.refusals.specs.Checks.{numbers, First, here, past}
+use Rattle.refusals.specs.CheckLaws.{refused-first}
+use Rattle.walks.specs.Whole.{whole-code, letters-of}
+use Rattle.codes.specs.declared.Flattened.{Flattened}
+use Rattle.codes.specs.declared.Flattened.the-variants.{Refused}
+use Rattle.codes.specs.declared.TotalsOutcome.the-variants.{Refused as No-totals}
+use Rattle.codes.specs.declared.Totalled.{Totalled}
+use Rattle.codes.specs.Flatten.{flatten-order, flatten-answer, flattened-answer, Flattens}
+use Rattle.codes.specs.Totals.{totals-order, totals-answer, totals-outcome, no-litres, refused-totals, Totals}
+use Rattle.codes.specs.FlattenLaws.{flatten-refused}
+use Rattle.codes.specs.TotalsLaws.{totals-refused}
+use Rattle.codes.specs.Unique.{flattens-one, totals-one}
+
+-- 01: "Spelling a code: 2, 8, 3, 9."
+pub flatten-numbers : (p : Pattern) (code : List ℕ) (count size : ℕ) → numbers (flatten-order p code count size) ≡ 2 ∷ 8 ∷ 3 ∷ 9 ∷ []
+flatten-numbers p code count size = refl
+
+-- 01: "Totalling litres: 2, 8, 3."
+pub totals-numbers : (p : Pattern) (code : List ℕ) (count : ℕ) → numbers (totals-order p code count) ≡ 2 ∷ 8 ∷ 3 ∷ []
+totals-numbers p code count = refl
+
+module _ (p : Pattern) (code : List ℕ) (count : ℕ) where
+  abbrev letters : ℕ
+  letters = length (letters-of (root p) code count)
+
+  module _ (tape tape-now : List ℕ) (r : Flattened) (h : Flattens p code count tape tape-now r) where
+    abbrev Only : Refusal → Type 0
+    Only why = (r ≡ Refused why) × (tape-now ≡ tape)
+
+    pub flatten-only : (why : Refusal) → First why (flatten-order p code count (length tape)) → Only why
+    flatten-only why f = flattens-one p code count tape tape-now tape r (Refused why) h (flatten-refused p code count tape why f)
+
+    -- "and never otherwise"
+    pub flatten-first : (why : Refusal) → r ≡ Refused why → First why (flatten-order p code count (length tape))
+    unfolding flatten-answer
+    flatten-first why e = refused-first (flatten-order p code count (length tape)) (answer 0 letters) refl why (sym (h .answers) ∙ ap flattened-answer e)
+
+    pub flatten-only-2 : obeys p ≡ false → Only (Tree-fault 0)
+    flatten-only-2 o = flatten-only (Tree-fault 0) (here (ap not o))
+
+    pub flatten-only-8 : obeys p ≡ true → whole-code (root p) code count ≡ false → Only NotACode
+    flatten-only-8 o w = flatten-only NotACode (past (ap not o) (here (ap not w)))
+
+    pub flatten-only-3 : obeys p ≡ true → whole-code (root p) code count ≡ true → letter-limit < letters → Only TapeTooLong
+    flatten-only-3 o w l = flatten-only TapeTooLong (past (ap not o) (past (ap not w) (here (lt-ltb letter-limit letters l))))
+
+    pub flatten-only-9 : obeys p ≡ true → whole-code (root p) code count ≡ true → letters ≤ letter-limit → length tape < letters
+        → Only (TapeTooShort letters)
+    flatten-only-9 o w f l =
+        flatten-only (TapeTooShort letters)
+        (past (ap not o) (past (ap not w) (past (le-ltb letter-limit letters f) (here (lt-ltb (length tape) letters l)))))
+
+  module _ (r : Totalled) (h : Totals p code count r) where
+    abbrev No-litres : Refusal → Type 0
+    No-litres why = (r .outcome ≡ No-totals why) × (r .litres ≡ no-litres)
+
+    pub totals-only : (why : Refusal) → First why (totals-order p code count) → No-litres why
+    totals-only why f = totals-one p code count r (refused-totals why) h (totals-refused p code count why f)
+
+    pub totals-first : (why : Refusal) → r .outcome ≡ No-totals why → First why (totals-order p code count)
+    unfolding totals-answer
+    totals-first why e = refused-first (totals-order p code count) (answer 0 0) refl why (sym (h .answers) ∙ ap totals-outcome e)
+
+    pub totals-only-2 : obeys p ≡ false → No-litres (Tree-fault 0)
+    totals-only-2 o = totals-only (Tree-fault 0) (here (ap not o))
+
+    pub totals-only-8 : obeys p ≡ true → whole-code (root p) code count ≡ false → No-litres NotACode
+    totals-only-8 o w = totals-only NotACode (past (ap not o) (here (ap not w)))
+
+    pub totals-only-3 : obeys p ≡ true → whole-code (root p) code count ≡ true → letter-limit < letters → No-litres TapeTooLong
+    totals-only-3 o w l = totals-only TapeTooLong (past (ap not o) (past (ap not w) (here (lt-ltb letter-limit letters l))))
