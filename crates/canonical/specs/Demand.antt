@@ -12,7 +12,7 @@ use Rattle.refusals.specs.Refusals.{answer}
 use Rattle.syntax.specs.Table.{obeys}
 use Rattle.syntax.specs.Trees.{root}
 use Rattle.bits.specs.Bits.{Small, cell-count, held}
-use Rattle.semantics.specs.Code.{NoEmptyRound, Canonical, before}
+use Rattle.semantics.specs.Code.{Spells, NoEmptyRound, Canonical, before}
 use Rattle.walks.specs.Whole.{whole-code, letters-of}
 use Rattle.canonical.specs.declared.Canonicalized.{Canonicalized}
 use Rattle.canonical.specs.Canonicalize.{canonicalized-answer, Canonicalizes}
@@ -63,13 +63,14 @@ bytes-of x s = take (cell-count 8 (s .count)) (x .out-now)
 abbrev pub Equal : (bytes other : List ℕ) → (count count' : ℕ) → Type 0
 Equal xs ys n m = (n ≡ m) × (xs ≡ ys)
 
--- a code of the pattern that spells the tape, without an empty round, before every other such code
+-- a code of the pattern that spells the tape, without an empty round, before every other such code. That it spells the tape is said of the
+-- value whose code it is (01: a code "spells what the reading spells"), not of what is decoded.
 pub record Earliest (p : Pattern) (tape bytes : List ℕ) (count : ℕ) : Type 0 where
   pub is : Is-code p bytes count
-  pub spells-it : tape-of p bytes count ≡ tape
+  pub spells-it : Spells (root p) (held 8 bytes count) tape
   pub solid : NoEmptyRound (root p) (held 8 bytes count)
   pub first :
-      (xs : List ℕ) (n : ℕ) → Is-code p xs n → tape-of p xs n ≡ tape → NoEmptyRound (root p) (held 8 xs n) → (Equal xs bytes n count → ⊥)
+      (xs : List ℕ) (n : ℕ) → Is-code p xs n → Spells (root p) (held 8 xs n) tape → NoEmptyRound (root p) (held 8 xs n) → (Equal xs bytes n count → ⊥)
       → before (held 8 bytes count) (held 8 xs n) ≡ true
 
 -- one code and its run: settled, to the earliest code, and settled again it is itself

@@ -1,11 +1,13 @@
 -- The third demand is met: from the contract of `canonicalize` and the theory only.
 use mathlib.Core.Path.{_≡_, refl, sym, ap, ap₂, subst, _∙_}
 use mathlib.Core.Bool.{Bool, true}
+use mathlib.Core.Logic.{_↔_}
 use mathlib.Core.List.{List}
-use Prim.Native.Nat.{ℕ}
+use Prim.Native.Nat.{ℕ, _≤_}
 use native.Mathlib.Omega.{arith}
 use lib.ListN.{length, take}
 use Rattle.syntax.specs.declared.Pattern.{Pattern}
+use Rattle.syntax.specs.Letter.{letter-limit}
 use Rattle.syntax.specs.Bools.{and-fst, and-snd}
 use Rattle.syntax.specs.Table.{obeys}
 use Rattle.syntax.specs.Tree.{Tree}
@@ -14,9 +16,9 @@ use Rattle.bits.specs.Bits.{cell-count, pack, held, in-front, handed-good}
 use Rattle.bits.specs.Packing.{length-pack, pack-small}
 use Rattle.bits.specs.Writing.{take-in-front}
 use Rattle.bits.specs.Handed.{held-pack, handed-iff}
-use Rattle.semantics.specs.Code.{NoEmptyRound, Canonical}
-use Rattle.semantics.specs.Decode.{is-code, spelled}
-use Rattle.semantics.specs.CodeLaws.{is-code-iff, solid-iff}
+use Rattle.semantics.specs.Code.{Spells, NoEmptyRound, Canonical}
+use Rattle.semantics.specs.Decode.{is-code}
+use Rattle.semantics.specs.CodeLaws.{is-code-iff, spells-iff, solid-iff}
 use Rattle.semantics.specs.Sweeps.{readable, greedy}
 use Rattle.semantics.specs.GreedyLaws.{greedy-canonical, hollow-greedy}
 use Rattle.semantics.specs.Promised.{greedy-code-iff}
@@ -26,13 +28,52 @@ use Rattle.canonical.specs.CanonicalLaws.{settles}
 use Rattle.canonical.specs.RoundTrip.{canonical-code, canonical-whole, canonical-spells, letters-readable}
 use Rattle.canonical.specs.Demand.{Is-code, tape-of, Code, spells, Run, Settled, bytes-of, Equal, Earliest, Settles-well, Third-demand}
 
+-- what a whole code spells, by decoding and by its value
+module _ (p : Pattern) (bytes : List ℕ) (count : ℕ) (i : Is-code p bytes count) (tape : List ℕ) where
+  coded : is-code (root p) (held 8 bytes count) ≡ true
+  unfolding whole-code
+  coded = and-snd (handed-good bytes count) (is-code (root p) (held 8 bytes count)) (i .whole)
+
+  pub spells-same : (tape-of p bytes count ≡ tape) ↔ Spells (root p) (held 8 bytes count) tape
+  unfolding letters-of
+  spells-same = let q = spells-iff (root p) (held 8 bytes count) tape in (λ e. q .0 (coded, e), λ s. q .1 s .1)
+
 module _ (p : Pattern) (good : obeys p ≡ true) where
   abbrev t : Tree
   t = root p
 
-  coded : (bytes : List ℕ) (count : ℕ) → whole-code t bytes count ≡ true → is-code t (held 8 bytes count) ≡ true
-  unfolding whole-code
-  coded bytes count w = and-snd (handed-good bytes count) (is-code t (held 8 bytes count)) w
+  -- ── the greedy code of a tape, as bytes, is the earliest code of that tape ──
+  module _ (tape : List ℕ) (few : length tape ≤ letter-limit) (reads : readable t tape ≡ true) where
+    abbrev best : List Bool
+    best = greedy t tape
+
+    canonical-best : Canonical t tape best
+    canonical-best = greedy-canonical t tape reads
+
+    pub greedy-is : Is-code p (pack 8 (greedy (root p) tape)) (length (greedy (root p) tape))
+    greedy-is = record { small = pack-small 8 best; whole = canonical-whole p good tape few best canonical-best }
+
+    pub greedy-spells : tape-of p (pack 8 (greedy (root p) tape)) (length (greedy (root p) tape)) ≡ tape
+    greedy-spells = canonical-spells p good tape few best canonical-best
+
+    pub greedy-earliest : Earliest p tape (pack 8 (greedy (root p) tape)) (length (greedy (root p) tape))
+    greedy-earliest = record {
+      is = greedy-is;
+      spells-it = spells-same p (pack 8 best) (length best) greedy-is tape .0 greedy-spells;
+      solid =
+          rw (held-pack 8 (omega arith) best) (solid-iff t best .0
+          (is-code-iff t best .1 (canonical-code p good tape few best canonical-best), hollow-greedy t tape reads));
+      first = λ xs n d s e other.
+          let q = greedy-code-iff t tape (root-choices p good) few best .1 canonical-best in
+          let k = spells-iff t (held 8 xs n) tape .1 s in
+          rw (held-pack 8 (omega arith) best)
+          (q .first (held 8 xs n) (k .0) (k .1) (solid-iff t (held 8 xs n) .1 e .1) (λ i. other (same-bytes xs n d i)));
+    }
+      where
+        same-bytes : (xs : List ℕ) (n : ℕ) → Is-code p xs n → held 8 xs n ≡ best → Equal xs (pack 8 best) n (length best)
+        same-bytes xs n d i =
+            let h = handed-iff xs n (d .small) .0 (unfold whole-code in and-fst (handed-good xs n) (is-code t (held 8 xs n)) (d .whole)) in
+            (sym (h .1) ∙ ap length i, h .0 ∙ ap (pack 8) i)
 
   module _ (c : Code p) where
     abbrev g : List Bool
@@ -43,35 +84,6 @@ module _ (p : Pattern) (good : obeys p ≡ true) where
 
     canonical-tape : Canonical t (spells c) g
     canonical-tape = greedy-canonical t (spells c) readable-tape
-
-    -- the greedy code as bytes
-    packed-is : Is-code p (pack 8 g) (length g)
-    packed-is = record { small = pack-small 8 g; whole = canonical-whole p good (spells c) (c .few) g canonical-tape }
-
-    packed-spells : tape-of p (pack 8 g) (length g) ≡ spells c
-    packed-spells = canonical-spells p good (spells c) (c .few) g canonical-tape
-
-    earliest : Earliest p (spells c) (pack 8 g) (length g)
-    earliest = record {
-      is = packed-is;
-      spells-it = packed-spells;
-      solid =
-          rw (held-pack 8 (omega arith) g) (solid-iff t g .0
-          (is-code-iff t g .1 (canonical-code p good (spells c) (c .few) g canonical-tape), hollow-greedy t (spells c) readable-tape));
-      first = λ xs n d s e other.
-          let q = greedy-code-iff t (spells c) (root-choices p good) (c .few) g .1 canonical-tape in
-          let k = coded xs n (d .whole) in
-          rw (held-pack 8 (omega arith) g)
-          (q .first (held 8 xs n) k (letters-same xs n s) (solid-iff t (held 8 xs n) .1 e .1) (λ i. other (same-bytes xs n d i)));
-    }
-      where
-        letters-same : (xs : List ℕ) (n : ℕ) → tape-of p xs n ≡ spells c → spelled t (held 8 xs n) ≡ spells c
-        letters-same xs n s = unfold letters-of in s
-
-        same-bytes : (xs : List ℕ) (n : ℕ) → Is-code p xs n → held 8 xs n ≡ g → Equal xs (pack 8 g) n (length g)
-        same-bytes xs n d i =
-            let h = handed-iff xs n (d .small) .0 (unfold whole-code in and-fst (handed-good xs n) (is-code t (held 8 xs n)) (d .whole)) in
-            (sym (h .1) ∙ ap length i, h .0 ∙ ap (pack 8) i)
 
     -- what a run leaves
     module _ (x : Run p c) where
@@ -102,10 +114,12 @@ module _ (p : Pattern) (good : obeys p ≡ true) where
           settled = r .settled;
           earliest =
               subst (λ k. Earliest p (spells c) (bytes-of x (r .settled)) k) (sym (r .count-is))
-              (subst (λ l. Earliest p (spells c) l (length (g c))) (sym (r .bytes-are)) (earliest c));
+              (subst (λ l. Earliest p (spells c) l (length (g c))) (sym (r .bytes-are))
+              (greedy-earliest (spells c) (c .few) (readable-tape c)));
           again = λ d eb en y.
               let q = ran d y in
-              let e : spells d ≡ spells c = ap₂ (tape-of p) (eb ∙ r .bytes-are) (en ∙ r .count-is) ∙ packed-spells c in (
+              let e : spells d ≡ spells c = ap₂ (tape-of p) (eb ∙ r .bytes-are) (en ∙ r .count-is) 
+              ∙ greedy-spells (spells c) (c .few) (readable-tape c) in (
                 q .settled,
                 (
                   q .count-is ∙ ap (λ w. length (greedy t w)) e ∙ sym (r .count-is),
@@ -113,6 +127,10 @@ module _ (p : Pattern) (good : obeys p ≡ true) where
                 ),
               );
         }
+
+-- the settled code spells the tape, by decoding
+tape-is : (p : Pattern) (c : Code p) (x : Run p c) (w : Settles-well p c x) → tape-of p (bytes-of x (w .settled)) (w .settled .count) ≡ spells c
+tape-is p c x w = spells-same p (bytes-of x (w .settled)) (w .settled .count) (w .earliest .is) (spells c) .1 (w .earliest .spells-it)
 
 -- THE THIRD DEMAND
 pub third-demand : Third-demand
@@ -126,7 +144,7 @@ third-demand p good a b x y =
       one = one;
       two = two;
       equal = (
-        λ e. sym (one .earliest .spells-it) ∙ ap₂ (tape-of p) (e .1) (e .0) ∙ two .earliest .spells-it,
+        λ e. sym (tape-is p a x one) ∙ ap₂ (tape-of p) (e .1) (e .0) ∙ tape-is p b y two,
         λ e. (
           r .count-is ∙ ap (λ w. length (greedy (root p) w)) e ∙ sym (q .count-is),
           r .bytes-are ∙ ap (λ w. pack 8 (greedy (root p) w)) e ∙ sym (q .bytes-are),

@@ -20,7 +20,7 @@ use Rattle.semantics.specs.Decode.{value-of, is-code, spelled, hollow}
 use Rattle.semantics.specs.CodeLaws.{solid-iff}
 use Rattle.walks.specs.Whole.{whole-code, letters-of}
 use Rattle.canonical.specs.Demand.{Is-code, Code, Run, Settled, bytes-of, Equal}
-use Rattle.canonical.specs.Demanded.{handed-back, empty-round-kept}
+use Rattle.canonical.specs.Demanded.{spells-same, handed-back, empty-round-kept}
 
 abbrev pub line : Node → Line
 line k = record { account = 0; node = k }
@@ -98,6 +98,9 @@ spells-00 : letters-of (root P4) (0 ∷ []) 2 ≡ 97 ∷ 98 ∷ []
 unfolding letters-of held bits-of spelled value-of root tree-of is-letter
 spells-00 = refl
 
+is-00 : Is-code P4 (0 ∷ []) 2
+is-00 = record { small = small-byte 0 (omega arith); whole = whole-00 }
+
 solid-00 : NoEmptyRound (root P4) (held 8 (0 ∷ []) 2)
 unfolding hollow held bits-of is-code value-of root tree-of is-letter
 solid-00 = solid-iff (root P4) (held 8 (0 ∷ []) 2) .0 (refl, refl)
@@ -111,5 +114,5 @@ C6-not-handed-back x s e =
     let other : Equal (0 ∷ []) (192 ∷ []) 2 2 → ⊥ = λ q. let z : _≡_ {A = ℕ} 0 192 = ap (λ l. getD l 0 0) (q .1) in omega arith in
     false≢true
     (sym later-C6
-    ∙ handed-back P4 obeys-P4 C6 x s e .first (0 ∷ []) 2 (record { small = small-byte 0 (omega arith); whole = whole-00 })
-    (spells-00 ∙ sym spells-C6) solid-00 other)
+    ∙ handed-back P4 obeys-P4 C6 x s e .first (0 ∷ []) 2 is-00
+    (spells-same P4 (0 ∷ []) 2 is-00 (letters-of (root P4) (192 ∷ []) 2) .0 (spells-00 ∙ sym spells-C6)) solid-00 other)
