@@ -118,7 +118,7 @@ module _ (p : Pattern) (good : obeys p ≡ true) where
               (greedy-earliest (spells c) (c .few) (readable-tape c)));
           again = λ d eb en y.
               let q = ran d y in
-              let e : spells d ≡ spells c = ap₂ (tape-of p) (eb ∙ r .bytes-are) (en ∙ r .count-is) 
+              let e : spells d ≡ spells c = ap₂ (tape-of p) (eb ∙ r .bytes-are) (en ∙ r .count-is)
               ∙ greedy-spells (spells c) (c .few) (readable-tape c) in (
                 q .settled,
                 (

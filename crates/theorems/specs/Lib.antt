@@ -1,0 +1,20 @@
+-- The laws of the documents, over the promises of the services. Nothing here is used by a program, so a change of a law proves no program
+-- anew, and each law rests on public definitions and laws only.
+-- What the promises come to: a tape that is read, and a whole code that no cause refuses.
+pub mod Read
+pub mod Passed
+-- What reading answers and leaves, handed on to the other services; for tables and for the calls from C.
+pub mod RoundTrip
+pub mod RoundTripText
+-- The third demand for pattern texts and the call from C.
+pub mod ThirdDemand
+pub mod ThirdDemanded
+-- The statements of document 03 over pattern texts, under 03's names, by the definitions of this repository.
+pub mod Paper03Pattern
+pub mod Paper03Codes
+pub mod Numbers
+pub mod Paper03
+pub mod Paper03Laws
+-- The same by 03's own definitions.
+pub mod Paper03Read
+pub mod Paper03Same
