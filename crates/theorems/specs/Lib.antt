@@ -18,3 +18,5 @@ pub mod Paper03Laws
 -- The same by 03's own definitions.
 pub mod Paper03Read
 pub mod Paper03Same
+pub mod Paper03Load
+pub mod Paper03Tree
