@@ -1,0 +1,31 @@
+-- The texts write the patterns that 01 writes short: what is loaded is the tree of crate semantics' table, but for places and accounts.
+use mathlib.Core.Path.{_≡_, refl}
+use mathlib.Core.List.{List, [], _∷_, map}
+use Prim.Native.Nat.{ℕ}
+use Rattle.syntax.specs.Letter.{is-letter}
+use Rattle.syntax.specs.Table.{wrongly-names, unnamed, tree-fault}
+use Rattle.syntax.specs.Tree.{Label, Tree, nothing, letter, range, seq, alt, star}
+use Rattle.syntax.specs.Trees.{root, tree-of}
+use Rattle.loading.specs.Text.{rows, digit, one-digit, two-digits, place, single, account}
+use Rattle.loading.specs.Text.{node-of-none, node-of-one, range-of, parts-of, node-of-two, node-of, line-of, row-line, forms}
+use Rattle.loading.specs.Load.{table, load-table}
+use Rattle.semantics.specs.Examples as short
+use Rattle.worked_examples.specs.Texts.{P1, P2, P3, P4, P5}
+
+-- a tree whose nodes all have place 0 and no account
+abbrev plain : Label
+plain = record { index = 0; account = 0 }
+
+abbrev pub bare : Tree → Tree
+bare (nothing m) = nothing plain
+bare (letter m c) = letter plain c
+bare (range m low high) = range plain low high
+bare (seq m t u) = seq plain (bare t) (bare u)
+bare (alt m t u) = alt plain (bare t) (bare u)
+bare (star m again t) = star plain again (bare t)
+
+-- "P1: (a|e)*. P2: (e|a)*. P3: (a*b*)*. P4: (a|ab)(b|e). P5: a*a."
+pub texts-write : map (λ text. bare (root (load-table text))) (P1 ∷ P2 ∷ P3 ∷ P4 ∷ P5 ∷ []) ≡ short.P1 ∷ short.P2 ∷ short.P3 ∷ short.P4 ∷ short.P5 ∷ []
+unfolding P1 P2 P3 P4 P5 rows digit one-digit two-digits place single account node-of-none node-of-one range-of parts-of node-of-two node-of line-of
+    row-line forms table load-table is-letter wrongly-names unnamed tree-fault root tree-of
+texts-write = refl
