@@ -1,4 +1,5 @@
 // The third demand on one run: two codes are settled, each settled code again, and the two are compared.
+// Nothing is built on it. It is apart because each of its edits costs a whole check, which would be settling's too.
 ghost use mathlib.Core.Path.{_≡_};
 ghost use mathlib.Core.Bool.{true};
 ghost use mathlib.Core.Logic.{_↔_};

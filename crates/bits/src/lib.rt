@@ -1,6 +1,9 @@
 // Bits of codes and of state-set words. 01: "Codes fill bytes from the highest bit." Each function's contract sets what it returns, or leaves
 // in the buffer, equal to a definition of specs/Bits.antt. An index that a caller must keep inside is a `requires`; the two tests that
 // services call on whatever they are handed, `handed_good` and `open_nodes`, have none.
+// A write clears the rest of its last byte, so that a code written bit after bit has its unused bits 0 whatever the buffer held: nobody clears
+// first, and two writes in a row are one (law `write-write`). Indices and counts have 32 bits, since a good code has at most 524,288 bits. There
+// are no loops: each function touches at most two bytes.
 ghost use mathlib.Core.Path.{_≡_};
 ghost use mathlib.Core.List.{[], _∷_};
 ghost use Prim.Native.Nat.{_+_, _*_, _<_, _≤_};

@@ -1,4 +1,5 @@
 // Settling a code: it is spelled, and what it spells is read. 01: the settled code; here: the canonical code.
+// The third demand (specs/Demand) rests on the contracts of the two stages and on the theory, never on this text.
 ghost use Prim.Native.Nat.{_≤_};
 ghost use Rattle.codes.specs.Flatten.{flattened-answer};
 ghost use Rattle.parser.specs.Parse.{parsed-answer};

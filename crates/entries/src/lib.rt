@@ -1,5 +1,9 @@
 // The entries of a code: each letter that it spells, with the account that its litres go to. One walk tests a code and writes them into two
 // lent slices.
+// The walk is not handed the bit count: over a whole code it stops behind the last bit, whatever bits follow, since no code begins another. It
+// writes into arrays of the service's own, so that no cell of the caller's is touched before the code is known to be whole; where it is not, they
+// hold anything and nobody reads them. Spelling and comparing lend no cells for accounts. Totals are a loop over what is written, and later
+// terms and tariffs are too.
 ghost use mathlib.Core.Path.{_≡_};
 ghost use mathlib.Core.Bool.{true};
 ghost use Prim.Native.Nat.{_+_, _*_, _≤_, _<_};

@@ -2,6 +2,8 @@
 // zero[x], one[x]  nodes that reach leaf x by empty steps, entered with flag 0 / flag 1
 // takers[c]        leaves that accept letter c
 // They are made once a pattern, by loops over the lines of its table.
+// Loops, since a recursion for each leaf would copy the table for each node. Lent arrays of plain numbers, since arrays that go by value or hold
+// structs are copied at each call. Over the table and its count, since a pattern by value in each loop doubles the time of the check.
 ghost use Prim.Native.Nat.{_-_};
 ghost use Rattle.syntax.specs.Trees.{tree-of};
 ghost use Rattle.table.specs.Cells.{line-in};

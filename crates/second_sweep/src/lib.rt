@@ -1,4 +1,6 @@
 // The second sweep: the bits of the greedy parse, from the state sets of the first. It asks the state sets only and never backs up.
+// Its promise speaks of the letters and bits of the best value, not of the value, whose type changes with the tree. It asks of the words only
+// that the bits of the nodes below are the first sweep's (`Knows`), so that no place in the root's tree is carried through the recursion.
 ghost use mathlib.Core.Path.{_≡_};
 ghost use mathlib.Core.Bool.{_||_};
 ghost use lib.Dec.{ltb};

@@ -1,4 +1,6 @@
 // Services on codes: the spans of a code's visits.
+// They are apart from crate codes because no other service needs their walk and its laws. Whether the code is the tape's is asked of
+// `codes::spells`, so that a code is tested once and `find` goes over one that is known to be whole.
 ghost use mathlib.Core.Path.{_≡_};
 ghost use Rattle.spans.specs.Spans.{Spans, refused-span, span-shown, piece-of};
 

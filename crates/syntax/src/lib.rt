@@ -1,4 +1,6 @@
 // Patterns: the table of nodes, the test of the pattern rules, and letters.
+// Everything else speaks of patterns, and this crate needs nothing. A table can be made by hand, so every service asks `obeys_rules`; its
+// promise is one truth value for the code, and law `obeys-iff` gives proofs the rules as facts.
 ghost use mathlib.Core.Path.{_≡_};
 ghost use Rattle.syntax.specs.Letter.{is-letter, first-bad};
 ghost use Rattle.syntax.specs.Table.{no-lines, obeys};

@@ -1,6 +1,8 @@
 // The table of a pattern, packed: a line a cell, its numbers one above the other in 64 bits. From the lowest: kind, first, second, account
 // and follower, 8 bits each, and a bit that is 1 where the follower is a star above. Walks and sweeps read it thousands of times by one
 // reference, where a table by value would be copied at each call.
+// Every kind's number from 5 on means a star, so that each cell has a node and no reader needs a fault case. Followers are handed down from the
+// last line to the first, by one law (specs/HandDown) that also gives the follow sets of crate masks.
 ghost use mathlib.Core.Path.{_≡_};
 ghost use Prim.Native.Nat.{_-_, _≤_, _<_, _/_, _%_};
 ghost use lib.ListN.{length, replicate};

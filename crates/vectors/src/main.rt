@@ -3,6 +3,7 @@
 // and settles a code, `s` shows a visit's piece. The pattern's text in hexadecimal comes next; the fields behind it stand in
 // the kind's module, here or in crate vector_codes. Fields are parted by spaces. Byte 10 ends each line of the input; what
 // stands after the last one is left out.
+// Asked for more cells than its arrays have, the program lends all of them; no such case is stored.
 mod load_cases; // load_cases.rt: loading a text
 mod parse_cases; // parse_cases.rt: reading a tape
 

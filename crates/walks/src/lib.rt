@@ -1,4 +1,6 @@
 // One walk over a code, into parts. Rounds are a loop, so that calls go no deeper than the tree, however many rounds there are.
+// What a whole code is (specs/Whole) is said here for every service on codes. Letters are counted up to 3,601: a letter takes no bit, so that
+// their number has no bound that is linear in the code. A walk that fails answers one value, which its caller hands on.
 ghost use mathlib.Core.Path.{_≡_};
 ghost use mathlib.Core.Bool.{true, cond};
 ghost use Prim.Native.Nat.{ℕ, _+_, _*_, _≤_, _<_};

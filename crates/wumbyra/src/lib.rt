@@ -1,5 +1,7 @@
 // The services for callers from C, each on a pattern's text. An answer is one number: the cause's number (0: none) in its
 // upper 32 bits, the value beside it in the lower 32. A slice is passed as a pointer and a length. include/wumbyra.h declares the calls.
+// Contracts unpack an answer, as a caller does: quotient and remainder need no condition. Load, flatten, span and totals are equations; parse and
+// canonicalize hand on the promise of their service, so that nothing is said twice.
 ghost use mathlib.Core.Path.{_≡_};
 ghost use Prim.Native.Nat.{min};
 ghost use lib.ListN.{getD};
