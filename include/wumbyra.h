@@ -1,9 +1,10 @@
 /* Wumbyra: a verified reader of water meter tapes, for C and C++ (x86-64 Linux).
  *
- * Link with target/staticlib/libwumbyra.a, which `rt staticlib wumbyra` writes; it needs memcpy and memset and nothing else.
+ * Link with -lwumbyra where it is installed (`pkg-config --cflags --libs wumbyra` says from where), or with the archive
+ * target/staticlib/libwumbyra.a, which `rt staticlib wumbyra` writes. It needs memcpy and memset and nothing else.
  * Every function is proved to answer, and to leave in every buffer, what the definitions of the services give on the table
  * that its pattern text loads as (crates/wumbyra, specs/Packed). What is not proved: this header, the compiler's back end, and
- * how deep the stack goes; recursion follows the pattern's tree, at most 64 calls, and never the tape's length.
+ * how deep the stack goes and how long a call takes, which are below.
  *
  * Rules for every call
  *  - A buffer is passed as a pointer and a length in elements. No pointer is NULL, even where the length is 0.
@@ -12,6 +13,8 @@
  *  - Whatever bytes the arguments hold, the call returns an answer. It keeps no pointer and has no state: calls on different
  *    buffers may run at the same time.
  *  - Buffer cells past the written ones never change.
+ *  - The answer is looked at: a refusal leaves buffers as they were, so whoever goes on without looking bills from old cells.
+ *    gcc and clang warn where an answer is dropped (WUMBYRA_CHECK_ANSWER).
  *
  * Answers
  *  An answer is number << 32 | value. Number 0 is success; any other is the cause of a refusal:
@@ -35,7 +38,16 @@
  *
  * Codes
  *  A code is bytes and a bit count. Bits fill bytes from the highest; the bytes are exactly enough for the count, unused bits
- *  are 0, and there are at most 65,536 bytes. */
+ *  are 0, and there are at most 65,536 bytes.
+ *
+ * Stack and time
+ *  No call takes memory from the heap. Calls inside a call go as deep as the pattern's tree, at most 64, and never with the
+ *  tape or the code, so the stack is bounded: WUMBYRA_STACK_BYTES suffice on the deepest patterns, by measurement.
+ *  Reading a tape takes at most letters * lines steps: well below a millisecond. The calls that take a code walk it, and so take
+ *  at most (bits + 1) * lines steps: bits may stand for empty rounds, or for more letters than a tape may have, and all of them
+ *  are walked before the code is accepted or refused. The worst, 65,536 bytes of empty rounds over 31 empty parts, takes
+ *  about half a second. Whoever takes codes from others bounds the time by the bytes that it accepts: a code that this library
+ *  wrote for n letters has at most WUMBYRA_CODE_BYTES(n). `bench/run` measures both; docs/PERFORMANCE.md has the figures. */
 #ifndef WUMBYRA_H
 #define WUMBYRA_H
 
@@ -68,19 +80,58 @@ enum {
     WUMBYRA_NO_SUCH_VISIT = 10
 };
 
-/* Limits: lines of a pattern, letters of a tape, bytes of a code, accounts 0 to 9. */
-#define WUMBYRA_MAX_LINES 64
-#define WUMBYRA_MAX_LETTERS 3600
-#define WUMBYRA_MAX_CODE_BYTES 65536
-#define WUMBYRA_ACCOUNTS 10
+/* ---- limits */
 
-/* Words that a tape of n letters takes. */
+/* Lines of a pattern text, which are the nodes of the pattern: 1 to 64. */
+#define WUMBYRA_MAX_LINES 64
+
+/* Bytes of a pattern text. None that is longer than the first loads: 31 sequences or alternatives, 32 ranges and a star, in 64
+ * lines, have 745 bytes. Whatever a text holds, its first 1,025 bytes are answered as all of it is, so a caller that reads a file
+ * need hold no more of it. */
+#define WUMBYRA_MAX_TEXT_BYTES 745
+#define WUMBYRA_DECISIVE_TEXT_BYTES 1025
+
+/* Letters of a tape: 0 to 3,600, each a byte from 33 to 126. A longer tape is refused for its length, so a caller that reads a
+ * file need hold no more than one byte above that. */
+#define WUMBYRA_MAX_LETTERS 3600
+#define WUMBYRA_FIRST_LETTER 33
+#define WUMBYRA_LAST_LETTER 126
+
+/* Bytes and bits of any code that is handed in. */
+#define WUMBYRA_MAX_CODE_BYTES 65536
+#define WUMBYRA_MAX_CODE_BITS 524288
+
+/* Accounts, 0 to 9, and the litres of all of them together at most: nine for each letter. */
+#define WUMBYRA_ACCOUNTS 10
+#define WUMBYRA_MAX_LITRES 32400
+
+/* Stack that suffices for any call, in bytes. The most that was measured is 30 KB, totals of 63 nested stars; tests/guard runs
+ * every call on a stack of this size. */
+#define WUMBYRA_STACK_BYTES 32768
+
+/* ---- sizes of buffers; n is a number of letters, bits a bit count */
+
+/* Words that a tape of n letters takes, and the longest tape. */
 #define WUMBYRA_WORDS(n) (2 * ((size_t)(n) + 1))
+#define WUMBYRA_MAX_WORDS WUMBYRA_WORDS(WUMBYRA_MAX_LETTERS)
 
 /* Bytes that suffice for the code that wumbyra_parse or wumbyra_canonicalize writes for n letters, whatever the pattern: it has
  * at most 64 bits if n is 0, and at most 2 * 64 * n + 8 * n otherwise. With so many bytes the bits are not counted before they are
- * written. The code itself is mostly far shorter. */
+ * written. The code itself is mostly far shorter. The second is for the longest tape, 61,208. */
 #define WUMBYRA_CODE_BYTES(n) (17 * (size_t)(n) + 8)
+#define WUMBYRA_MAX_WRITTEN_CODE_BYTES WUMBYRA_CODE_BYTES(WUMBYRA_MAX_LETTERS)
+
+/* Bytes that a code of so many bits has: those that are written, and those that are handed in with the count. */
+#define WUMBYRA_BYTES_OF_BITS(bits) (((size_t)(bits) + 7) / 8)
+
+/* ---- answers */
+
+/* Before a call whose answer must be looked at; empty where a compiler knows no such warning. */
+#if defined(__GNUC__) && __GNUC__ >= 4
+#define WUMBYRA_CHECK_ANSWER __attribute__((warn_unused_result))
+#else
+#define WUMBYRA_CHECK_ANSWER
+#endif
 
 /* The parts of an answer. */
 static inline uint32_t wumbyra_number(uint64_t answer)
@@ -104,6 +155,8 @@ static inline uint32_t wumbyra_span_length(uint64_t answer)
     return wumbyra_value(answer) & 0xffffu;
 }
 
+/* ---- calls */
+
 /* The version of the library: major * 10000 + minor * 100 + patch, as WUMBYRA_VERSION_NUMBER is of the header's. */
 uint32_t wumbyra_version(void);
 
@@ -115,16 +168,18 @@ uint32_t wumbyra_version(void);
  *   2  value: the first line that names a part wrongly; if none does, the lowest place that no line names
  *
  * No buffer is written. */
+WUMBYRA_CHECK_ANSWER
 uint64_t wumbyra_load(const uint8_t *text, size_t text_len);
 
 /* The code of the greedy reading of a tape.
  *
  * Order: 2, 3, 4, 6, 5, 7. Value: the code's bit count.
  * Written: words[0] to words[2 * n + 1], where bit l of words[2 * i + b] says that the letters from i on can be read from
- * node l on with flag b; and the code's bytes, (bits + 7) / 8 of them.
+ * node l on with flag b; and the code's bytes, WUMBYRA_BYTES_OF_BITS(value) of them.
  *
  *   2, 3, 4, 6  words and code are left as they were
  *   5, 7        code is left as it was; words are filled */
+WUMBYRA_CHECK_ANSWER
 uint64_t wumbyra_parse(const uint8_t *text, size_t text_len, const uint8_t *tape, size_t tape_len, uint64_t *words,
                        size_t words_len, uint8_t *code, size_t code_len);
 
@@ -134,6 +189,7 @@ uint64_t wumbyra_parse(const uint8_t *text, size_t text_len, const uint8_t *tape
  * Written: the letters, from tape[0] on.
  *
  *   2, 8, 3, 9  tape is left as it was */
+WUMBYRA_CHECK_ANSWER
 uint64_t wumbyra_flatten(const uint8_t *text, size_t text_len, const uint8_t *code, size_t code_len, uint32_t count,
                          uint8_t *tape, size_t tape_len);
 
@@ -147,6 +203,7 @@ uint64_t wumbyra_flatten(const uint8_t *text, size_t text_len, const uint8_t *co
  *   6           words and canonical are left as they were; tape is filled
  *   7           canonical is left as it was; tape and words are filled
  *   5           does not occur: the code is itself a reading of what it spells */
+WUMBYRA_CHECK_ANSWER
 uint64_t wumbyra_canonicalize(const uint8_t *text, size_t text_len, const uint8_t *code, size_t code_len, uint32_t count,
                               uint8_t *tape, size_t tape_len, uint64_t *words, size_t words_len, uint8_t *canonical,
                               size_t canonical_len);
@@ -156,6 +213,7 @@ uint64_t wumbyra_canonicalize(const uint8_t *text, size_t text_len, const uint8_
  *
  * Order: 2, 3, 4, 8, 10. Value: start << 16 | length; at a refusal that of the table of causes.
  * No buffer is written. */
+WUMBYRA_CHECK_ANSWER
 uint64_t wumbyra_span(const uint8_t *text, size_t text_len, const uint8_t *tape, size_t tape_len, const uint8_t *code,
                       size_t code_len, uint32_t count, uint32_t node, uint32_t visit);
 
@@ -163,6 +221,7 @@ uint64_t wumbyra_span(const uint8_t *text, size_t text_len, const uint8_t *tape,
  *
  * Order: 2, 8, 3. Value: the litres; at a refusal 0.
  * No buffer is written. */
+WUMBYRA_CHECK_ANSWER
 uint64_t wumbyra_total(const uint8_t *text, size_t text_len, const uint8_t *code, size_t code_len, uint32_t count,
                        uint32_t account);
 
@@ -173,6 +232,7 @@ uint64_t wumbyra_total(const uint8_t *text, size_t text_len, const uint8_t *code
  * WUMBYRA_ACCOUNTS; fewer cells are no refusal. Cells behind the last account are left as they were.
  *
  *   2, 8, 3  the same cells are written, and all with 0 */
+WUMBYRA_CHECK_ANSWER
 uint64_t wumbyra_totals(const uint8_t *text, size_t text_len, const uint8_t *code, size_t code_len, uint32_t count,
                         uint32_t *litres, size_t litres_len);
 

@@ -1,0 +1,41 @@
+/* The header's sizes: they are constants, they fit each other, and the longest pattern text that it names loads. It is C11. */
+#include "wumbyra.h"
+
+#include <assert.h>
+#include <stdio.h>
+
+static_assert(WUMBYRA_MAX_WORDS == 7202, "words of the longest tape");
+static_assert(WUMBYRA_WORDS(0) == 2, "words of no letter");
+static_assert(WUMBYRA_MAX_WRITTEN_CODE_BYTES == 61208, "bytes of the longest code that is written");
+static_assert(WUMBYRA_MAX_WRITTEN_CODE_BYTES <= WUMBYRA_MAX_CODE_BYTES, "what is written can be handed in");
+static_assert(WUMBYRA_BYTES_OF_BITS(WUMBYRA_MAX_CODE_BITS) == WUMBYRA_MAX_CODE_BYTES, "bits of the longest code");
+static_assert(WUMBYRA_BYTES_OF_BITS(0) == 0 && WUMBYRA_BYTES_OF_BITS(1) == 1, "bytes of few bits");
+static_assert(WUMBYRA_BYTES_OF_BITS(8) == 1 && WUMBYRA_BYTES_OF_BITS(9) == 2, "bytes of a byte's bits");
+static_assert(WUMBYRA_BYTES_OF_BITS(UINT32_MAX) == 536870912, "bytes of as many bits as can be counted");
+static_assert(WUMBYRA_MAX_LITRES == 9 * WUMBYRA_MAX_LETTERS, "nine litres a letter");
+static_assert(WUMBYRA_MAX_TEXT_BYTES < WUMBYRA_DECISIVE_TEXT_BYTES, "a text that loads is decided whole");
+
+/* 32 ranges, 31 sequences over them and a star over all: no 64 lines that load are longer. */
+static size_t write_longest(char *text)
+{
+    char *end = text;
+    unsigned place = 0, named = 0;
+    for (; place < 32; place++)
+        end += sprintf(end, "%u\tR\t%u\t0\t9\n", place, 1 + place % 9);
+    for (; place < WUMBYRA_MAX_LINES - 1; place++, named += 2)
+        end += sprintf(end, "%u\tS\t1\t%u\t%u\n", place, named, named + 1);
+    end += sprintf(end, "%u\tK\t1\t%u\n", place, named);
+    return (size_t)(end - text);
+}
+
+int main(void)
+{
+    char text[WUMBYRA_MAX_TEXT_BYTES + 1];
+    size_t size = write_longest(text);
+    uint64_t answer = wumbyra_load((const uint8_t *)text, size);
+    if (size != WUMBYRA_MAX_TEXT_BYTES || wumbyra_number(answer) != WUMBYRA_OK || wumbyra_value(answer) != WUMBYRA_MAX_LINES) {
+        printf("the longest text has %zu bytes, and loading it gives %u with %u\n", size, wumbyra_number(answer), wumbyra_value(answer));
+        return 1;
+    }
+    return 0;
+}
