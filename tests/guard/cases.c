@@ -1,0 +1,235 @@
+/* See cases.h. Nothing here knows the library: what a parse spells and costs follows from the way it is drawn. */
+#include "cases.h"
+
+#include <stdio.h>
+#include <string.h>
+
+/* Splitmix: any start is good, so that each case has its own. */
+uint32_t draw(struct source *source, uint32_t below)
+{
+    uint64_t mixed = source->state += 0x9e3779b97f4a7c15u;
+    mixed = (mixed ^ mixed >> 30) * 0xbf58476d1ce4e5b9u;
+    mixed = (mixed ^ mixed >> 27) * 0x94d049bb133111ebu;
+    return (uint32_t)((mixed ^ mixed >> 31) % below);
+}
+
+bool chance(struct source *source, uint32_t of)
+{
+    return draw(source, of) == 0;
+}
+
+/* ---- patterns */
+
+/* Few letters, so that leaves of a pattern share them and a tape has several parses. */
+static uint8_t draw_letter(struct source *source)
+{
+    static const char usual[] = "0123456789ab";
+    if (chance(source, 12))
+        return (uint8_t)(WUMBYRA_FIRST_LETTER + draw(source, WUMBYRA_LAST_LETTER - WUMBYRA_FIRST_LETTER + 1));
+    return (uint8_t)usual[chance(source, 2) ? draw(source, 12) : 9 + draw(source, 3)];
+}
+
+/* Whether a line of this kind may stand here, with `trees` trees before it that none names and `left` lines behind it: those must
+ * be able to join all trees to one. */
+static bool fits(char kind, uint32_t trees, uint32_t left)
+{
+    switch (kind) {
+    case 'S':
+    case 'A': return trees >= 2;
+    case 'K': return trees >= 1 && left + 1 >= trees;
+    default: return left >= trees;
+    }
+}
+
+/* Takes one of the trees that none names: often the last, for deep patterns. */
+static uint32_t take(struct source *source, uint32_t *tree, uint32_t *trees)
+{
+    uint32_t at = chance(source, 3) ? draw(source, *trees) : *trees - 1;
+    uint32_t place = tree[at];
+    *trees -= 1;
+    memmove(tree + at, tree + at + 1, (*trees - at) * sizeof *tree);
+    return place;
+}
+
+static void write_text(struct pattern *pattern)
+{
+    char *end = (char *)pattern->text;
+    for (uint32_t i = 0; i < pattern->count; i++) {
+        const struct node *node = &pattern->node[i];
+        end += sprintf(end, "%u\t%c\t%c", i, node->kind, node->account == 0 ? '-' : (int)('0' + node->account));
+        switch (node->kind) {
+        case 'L': end += sprintf(end, "\t%c", node->low); break;
+        case 'R': end += sprintf(end, "\t%c\t%c", node->low, node->high); break;
+        case 'K': end += sprintf(end, "\t%u", node->first); break;
+        case 'S':
+        case 'A': end += sprintf(end, "\t%u\t%u", node->first, node->second); break;
+        default: break;
+        }
+        *end++ = '\n';
+    }
+    pattern->size = (size_t)(end - (char *)pattern->text);
+}
+
+void draw_pattern(struct source *source, struct pattern *pattern, bool endless)
+{
+    static const char *const mixes[] = {"ELLRRSSAAK", "ELRSAKKKK", "EEELSSSSAK", "ELAAAAASK", "RRRRSSSSK", "ELRSAK"};
+    const char *mix = endless ? "EEKSA" : mixes[draw(source, 6)];
+    const uint32_t kinds = (uint32_t)strlen(mix);
+    uint32_t tree[WUMBYRA_MAX_LINES], trees = 0;
+
+    pattern->count = chance(source, 3) ? 1 + draw(source, WUMBYRA_MAX_LINES) : 2 + draw(source, 12);
+    for (uint32_t i = 0; i < pattern->count; i++) {
+        struct node *node = &pattern->node[i];
+        do
+            node->kind = mix[draw(source, kinds)];
+        while (!fits(node->kind, trees, pattern->count - i - 1));
+        node->account = chance(source, 3) ? 1 + draw(source, 9) : 0;
+        node->low = draw_letter(source);
+        node->high = draw_letter(source);
+        if (node->high < node->low)
+            node->high = node->low;
+        if (strchr("SAK", node->kind) != NULL)
+            node->first = take(source, tree, &trees);
+        if (strchr("SA", node->kind) != NULL)
+            node->second = take(source, tree, &trees);
+        tree[trees++] = i;
+    }
+    write_text(pattern);
+}
+
+/* ---- parses */
+
+struct walk {
+    struct source *source;
+    const struct pattern *pattern;
+    struct parse *parse;
+    uint32_t rounds, on;
+};
+
+static void put_bits(struct parse *parse, uint32_t bits, uint32_t count)
+{
+    while (count-- > 0) {
+        uint32_t at = parse->bits++;
+        if (at % 8 == 0)
+            parse->code[at / 8] = 0;
+        parse->code[at / 8] |= (uint8_t)((bits >> count & 1) << (7 - at % 8));
+    }
+}
+
+static void put_letter(struct parse *parse, uint8_t letter, uint32_t account)
+{
+    parse->letters[parse->count++] = letter;
+    if (letter >= '0' && letter <= '9')
+        parse->litres[account] += (uint32_t)(letter - '0');
+}
+
+/* Whether another round may be gone through. Behind the last one at most 64 more lines are visited, for which there is room. */
+static bool another_round(struct walk *walk)
+{
+    return walk->rounds > 0 && walk->parse->count < LETTER_ROOM - 128 && walk->parse->bits < BIT_ROOM - 1024 &&
+           !chance(walk->source, walk->on + 1);
+}
+
+static void visit(struct walk *walk, uint32_t place, uint32_t account);
+
+static void visit_rounds(struct walk *walk, uint32_t place, uint32_t account)
+{
+    struct parse *parse = walk->parse;
+    while (another_round(walk)) {
+        uint32_t before = parse->count;
+        walk->rounds--;
+        put_bits(parse, 0, 1);
+        visit(walk, place, account);
+        parse->empty_round = parse->empty_round || parse->count == before;
+    }
+    put_bits(parse, 1, 1);
+}
+
+static void visit_kind(struct walk *walk, const struct node *node, uint32_t account)
+{
+    uint32_t drawn;
+    switch (node->kind) {
+    case 'L': put_letter(walk->parse, node->low, account); break;
+    case 'R':
+        drawn = node->low + draw(walk->source, (uint32_t)(node->high - node->low) + 1);
+        put_bits(walk->parse, drawn, 8);
+        put_letter(walk->parse, (uint8_t)drawn, account);
+        break;
+    case 'S':
+        visit(walk, node->first, account);
+        visit(walk, node->second, account);
+        break;
+    case 'A':
+        drawn = draw(walk->source, 2);
+        put_bits(walk->parse, drawn, 1);
+        visit(walk, drawn == 0 ? node->first : node->second, account);
+        break;
+    case 'K': visit_rounds(walk, node->first, account); break;
+    default: break;
+    }
+}
+
+static void visit(struct walk *walk, uint32_t place, uint32_t account)
+{
+    const struct node *node = &walk->pattern->node[place];
+    struct parse *parse = walk->parse;
+    const uint32_t before = parse->count;
+    uint32_t number = 0;
+    if (place == parse->watched) {
+        number = parse->visits++;
+        parse->start[number] = (uint16_t)before;
+    }
+    visit_kind(walk, node, node->account == 0 ? account : node->account);
+    if (place == parse->watched)
+        parse->length[number] = (uint16_t)(parse->count - before);
+}
+
+void draw_parse(struct source *source, const struct pattern *pattern, struct parse *parse, uint32_t rounds, uint32_t on)
+{
+    struct walk walk = {source, pattern, parse, rounds, on};
+    parse->bits = parse->count = parse->visits = 0;
+    parse->empty_round = false;
+    memset(parse->litres, 0, sizeof parse->litres);
+    parse->watched = draw(source, pattern->count);
+    visit(&walk, pattern->count - 1, 0);
+}
+
+/* ---- damage */
+
+static uint8_t draw_byte(struct source *source)
+{
+    static const uint8_t telling[] = {0, 9, 10, 13, 32, 33, 126, 127, 255, '-', '0', '1', 'E', 'K'};
+    return chance(source, 2) ? telling[draw(source, sizeof telling)] : (uint8_t)draw(source, 256);
+}
+
+size_t damage(struct source *source, uint8_t *bytes, size_t size, size_t room)
+{
+    const size_t at = draw(source, (uint32_t)size + 1);
+    const size_t behind = size - at;
+    switch (draw(source, 6)) {
+    case 0: return at;
+    case 1: return 0;
+    case 2:
+        if (behind == 0)
+            return size;
+        memmove(bytes + at, bytes + at + 1, behind - 1);
+        return size - 1;
+    case 3:
+        if (size == room)
+            return size;
+        memmove(bytes + at + 1, bytes + at, behind);
+        bytes[at] = draw_byte(source);
+        return size + 1;
+    case 4:
+        if (size + behind > room)
+            return size;
+        memmove(bytes + size, bytes + at, behind);
+        return size + behind;
+    default:
+        if (behind > 0 && chance(source, 2))
+            bytes[at] = draw_byte(source);
+        else if (behind > 0)
+            bytes[at] ^= (uint8_t)(1u << draw(source, 8));
+        return size;
+    }
+}

@@ -1,0 +1,59 @@
+/* What the guard test draws: patterns, parses of them as code and letters, and damage to bytes. All of it comes from one number. */
+#ifndef CASES_H
+#define CASES_H
+
+#include "wumbyra.h"
+
+#include <stdbool.h>
+
+enum {
+    TEXT_ROOM = 2048,                                                    /* of a text, with room for damage */
+    LETTER_ROOM = 4096,                                                  /* of a tape that may be too long */
+    BIT_ROOM = WUMBYRA_MAX_CODE_BITS + 4096,                             /* of a code that may be too long */
+    CODE_ROOM = BIT_ROOM / 8
+};
+
+struct source {
+    uint64_t state;
+};
+
+/* A number below `below`, and whether one chance in `of` is met. */
+uint32_t draw(struct source *source, uint32_t below);
+bool chance(struct source *source, uint32_t of);
+
+struct node {
+    char kind;
+    uint32_t account; /* 0: none */
+    uint32_t first, second;
+    uint8_t low, high;
+};
+
+struct pattern {
+    uint32_t count;
+    struct node node[WUMBYRA_MAX_LINES];
+    uint8_t text[TEXT_ROOM];
+    size_t size;
+};
+
+/* A parse of a pattern: its code, its letters, its litres, and the visits of one node, which is watched. */
+struct parse {
+    uint8_t code[CODE_ROOM];
+    uint32_t bits;
+    uint8_t letters[LETTER_ROOM];
+    uint32_t count; /* of letters */
+    uint32_t litres[WUMBYRA_ACCOUNTS];
+    bool empty_round;
+    uint32_t watched, visits;
+    uint16_t start[BIT_ROOM], length[BIT_ROOM];
+};
+
+/* A pattern that loads. `endless` patterns have empty leaves only, so that a code of any length spells nothing. */
+void draw_pattern(struct source *source, struct pattern *pattern, bool endless);
+
+/* A parse, which may have empty rounds. It goes through `rounds` rounds at most, and on while `on` of `on + 1` chances say so. */
+void draw_parse(struct source *source, const struct pattern *pattern, struct parse *parse, uint32_t rounds, uint32_t on);
+
+/* Bytes after some damage: changed, lost, added, cut, doubled. There is room for `room` of them; the answer is how many there are. */
+size_t damage(struct source *source, uint8_t *bytes, size_t size, size_t room);
+
+#endif

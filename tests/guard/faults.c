@@ -1,0 +1,137 @@
+/* Stand-ins for the library's calls, each with one fault, to show that the guard test finds it. FAULT in the environment has its number;
+ * 0 is none. The linker puts them before the calls (--wrap); a fault is in what they do beside the proved call. */
+#include "wumbyra.h"
+
+#include <stdlib.h>
+#include <string.h>
+
+uint64_t __real_wumbyra_load(const uint8_t *text, size_t text_len);
+uint64_t __real_wumbyra_parse(const uint8_t *text, size_t text_len, const uint8_t *tape, size_t tape_len, uint64_t *words,
+                              size_t words_len, uint8_t *code, size_t code_len);
+uint64_t __real_wumbyra_flatten(const uint8_t *text, size_t text_len, const uint8_t *code, size_t code_len, uint32_t count,
+                                uint8_t *tape, size_t tape_len);
+uint64_t __real_wumbyra_canonicalize(const uint8_t *text, size_t text_len, const uint8_t *code, size_t code_len, uint32_t count,
+                                     uint8_t *tape, size_t tape_len, uint64_t *words, size_t words_len, uint8_t *canonical,
+                                     size_t canonical_len);
+uint64_t __real_wumbyra_span(const uint8_t *text, size_t text_len, const uint8_t *tape, size_t tape_len, const uint8_t *code,
+                             size_t code_len, uint32_t count, uint32_t node, uint32_t visit);
+uint64_t __real_wumbyra_totals(const uint8_t *text, size_t text_len, const uint8_t *code, size_t code_len, uint32_t count,
+                               uint32_t *litres, size_t litres_len);
+uint64_t __wrap_wumbyra_load(const uint8_t *text, size_t text_len);
+uint64_t __wrap_wumbyra_parse(const uint8_t *text, size_t text_len, const uint8_t *tape, size_t tape_len, uint64_t *words,
+                              size_t words_len, uint8_t *code, size_t code_len);
+uint64_t __wrap_wumbyra_flatten(const uint8_t *text, size_t text_len, const uint8_t *code, size_t code_len, uint32_t count,
+                                uint8_t *tape, size_t tape_len);
+uint64_t __wrap_wumbyra_canonicalize(const uint8_t *text, size_t text_len, const uint8_t *code, size_t code_len, uint32_t count,
+                                     uint8_t *tape, size_t tape_len, uint64_t *words, size_t words_len, uint8_t *canonical,
+                                     size_t canonical_len);
+uint64_t __wrap_wumbyra_span(const uint8_t *text, size_t text_len, const uint8_t *tape, size_t tape_len, const uint8_t *code,
+                             size_t code_len, uint32_t count, uint32_t node, uint32_t visit);
+uint64_t __wrap_wumbyra_totals(const uint8_t *text, size_t text_len, const uint8_t *code, size_t code_len, uint32_t count,
+                               uint32_t *litres, size_t litres_len);
+
+static int fault(void)
+{
+    const char *number = getenv("FAULT");
+    return number == NULL ? 0 : atoi(number);
+}
+
+static volatile uint8_t seen; /* so that what is read too much is read */
+static uint8_t kept[WUMBYRA_MAX_LETTERS]; /* state between calls */
+
+uint64_t __wrap_wumbyra_load(const uint8_t *text, size_t text_len)
+{
+    switch (fault()) {
+    case 1: seen = text[text_len]; break;
+    case 2: seen = text[-1]; break;
+    case 3:
+        if (text_len > 0)
+            *(volatile uint8_t *)text = *text; /* writes what is there already */
+        break;
+    default: break;
+    }
+    return __real_wumbyra_load(text, text_len);
+}
+
+uint64_t __wrap_wumbyra_parse(const uint8_t *text, size_t text_len, const uint8_t *tape, size_t tape_len, uint64_t *words,
+                              size_t words_len, uint8_t *code, size_t code_len)
+{
+    uint64_t answer = __real_wumbyra_parse(text, text_len, tape, tape_len, words, words_len, code, code_len);
+    const uint32_t number = wumbyra_number(answer), value = wumbyra_value(answer);
+    switch (fault()) {
+    case 4: words[words_len] = 1; break;
+    case 5:
+        if (number == 0 && code_len > WUMBYRA_BYTES_OF_BITS(value))
+            code[WUMBYRA_BYTES_OF_BITS(value)] ^= 1;
+        break;
+    case 6:
+        if (number == 7 && code_len > 0)
+            code[0] ^= 1;
+        break;
+    case 7: return number == 7 ? answer + 1 : answer;
+    case 8:
+        if (number == 0 && value > 1)
+            code[(value - 1) / 8] ^= (uint8_t)(1 << (7 - (value - 1) % 8)); /* another last bit */
+        break;
+    case 9: return number == 5 ? (uint64_t)6 << 32 : answer;
+    default: break;
+    }
+    return answer;
+}
+
+uint64_t __wrap_wumbyra_flatten(const uint8_t *text, size_t text_len, const uint8_t *code, size_t code_len, uint32_t count,
+                                uint8_t *tape, size_t tape_len)
+{
+    uint64_t answer;
+    if (fault() == 10 && tape_len <= sizeof kept) {
+        answer = __real_wumbyra_flatten(text, text_len, code, code_len, count, kept, tape_len);
+        if (wumbyra_number(answer) == 0)
+            memcpy(tape, kept, wumbyra_value(answer));
+        return answer;
+    }
+    answer = __real_wumbyra_flatten(text, text_len, code, code_len, count, tape, tape_len);
+    if (fault() == 11 && wumbyra_number(answer) == 9 && tape_len > 0)
+        tape[0] ^= 1;
+    return fault() == 12 && wumbyra_number(answer) == 8 ? (uint64_t)3 << 32 : answer;
+}
+
+uint64_t __wrap_wumbyra_canonicalize(const uint8_t *text, size_t text_len, const uint8_t *code, size_t code_len, uint32_t count,
+                                     uint8_t *tape, size_t tape_len, uint64_t *words, size_t words_len, uint8_t *canonical,
+                                     size_t canonical_len)
+{
+    uint64_t answer = __real_wumbyra_canonicalize(text, text_len, code, code_len, count, tape, tape_len, words, words_len, canonical,
+                                                  canonical_len);
+    const uint32_t number = wumbyra_number(answer);
+    if (fault() == 13 && number == 6 && words_len > 0)
+        words[0] ^= 1;
+    if (fault() == 14 && number == 0 && code_len <= canonical_len) { /* the code as it came */
+        memcpy(canonical, code, code_len);
+        return count;
+    }
+    return answer;
+}
+
+uint64_t __wrap_wumbyra_span(const uint8_t *text, size_t text_len, const uint8_t *tape, size_t tape_len, const uint8_t *code,
+                             size_t code_len, uint32_t count, uint32_t node, uint32_t visit)
+{
+    uint64_t answer = __real_wumbyra_span(text, text_len, tape, tape_len, code, code_len, count, node, visit);
+    if (fault() == 15 && wumbyra_number(answer) == 0 && wumbyra_span_length(answer) > 0)
+        return answer - 1;
+    return fault() == 16 && wumbyra_number(answer) == 10 ? 0 : answer;
+}
+
+uint64_t __wrap_wumbyra_totals(const uint8_t *text, size_t text_len, const uint8_t *code, size_t code_len, uint32_t count,
+                               uint32_t *litres, size_t litres_len)
+{
+    uint64_t answer = __real_wumbyra_totals(text, text_len, code, code_len, count, litres, litres_len);
+    if (fault() == 17 && litres_len > 1) { /* to another account */
+        uint32_t first = litres[0];
+        litres[0] = litres[1];
+        litres[1] = first;
+    }
+    if (fault() == 18 && litres_len > WUMBYRA_ACCOUNTS)
+        litres[WUMBYRA_ACCOUNTS] ^= 1;
+    if (fault() == 19 && wumbyra_number(answer) != 0 && litres_len > 0)
+        litres[0] = 1;
+    return answer;
+}

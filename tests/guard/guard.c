@@ -1,0 +1,353 @@
+/* guard CALLS SEED [CASE]: calls the library from four threads, on drawn patterns, tapes and codes, whole and damaged, and compares its
+ * answers with what was drawn and with each other. With CASE, that case alone. What calls.h guards is guarded in every call. */
+#include "calls.h"
+
+#include <inttypes.h>
+#include <pthread.h>
+#include <stdio.h>
+#include <stdlib.h>
+#include <string.h>
+
+enum { THREADS = 4 };
+
+/* A case as far as it is known. */
+struct scene {
+    struct caller caller;
+    struct pattern pattern;
+    struct parse parse;
+    bool whole_text, whole_code; /* as drawn, without damage */
+    bool loads;
+    uint32_t refusal; /* what the code is refused with, or 0 */
+    uint8_t code[CODE_ROOM], tape[LETTER_ROOM];
+    uint32_t letters; /* that the code spells */
+    uint32_t bits; /* of the parse of the tape */
+    uint8_t parsed[WUMBYRA_MAX_WRITTEN_CODE_BYTES];
+    uint64_t words[WUMBYRA_MAX_WORDS];
+};
+
+static size_t smaller(struct source *source, size_t than)
+{
+    return draw(source, (uint32_t)than);
+}
+
+/* ---- pattern and code */
+
+static void try_text(struct scene *s)
+{
+    struct caller *c = &s->caller;
+    struct answer answer;
+    s->whole_text = !chance(&c->source, 8);
+    while (!s->whole_text && s->pattern.size < TEXT_ROOM) {
+        s->pattern.size = damage(&c->source, s->pattern.text, s->pattern.size, TEXT_ROOM);
+        if (!chance(&c->source, 3))
+            break;
+    }
+    hand(c, &c->text, s->pattern.text, s->pattern.size);
+    answer = call_load(c);
+    s->loads = answer.number == WUMBYRA_OK;
+    expect(c, answer.value <= WUMBYRA_MAX_LINES, "load: a line or the line count");
+    expect(c, !s->loads || s->pattern.size <= WUMBYRA_MAX_TEXT_BYTES, "load: no longer text loads");
+    if (s->whole_text)
+        expect_answer(c, answer, WUMBYRA_OK, s->pattern.count, "load: the line count");
+}
+
+/* Rounds by tens and thousands; where every leaf is empty, about as many as make the longest code. */
+static void draw_code(struct scene *s, bool endless)
+{
+    static const uint32_t rounds[] = {0, 1, 4, 20, 20, 100, 4000};
+    struct caller *c = &s->caller;
+    size_t size;
+    if (endless)
+        draw_parse(&c->source, &s->pattern, &s->parse, WUMBYRA_MAX_CODE_BITS - 8 + draw(&c->source, 16), UINT32_MAX - 1);
+    else
+        draw_parse(&c->source, &s->pattern, &s->parse, rounds[draw(&c->source, 7)], 1 + draw(&c->source, 60));
+    size = WUMBYRA_BYTES_OF_BITS(s->parse.bits);
+    memcpy(s->code, s->parse.code, size);
+    c->count = s->parse.bits;
+    s->whole_code = !chance(&c->source, 4);
+    if (!s->whole_code && chance(&c->source, 2))
+        size = damage(&c->source, s->code, size, CODE_ROOM);
+    else if (!s->whole_code)
+        c->count = chance(&c->source, 4) ? draw(&c->source, UINT32_MAX) : c->count + draw(&c->source, 17) - 8;
+    hand(c, &c->code, s->code, size);
+}
+
+/* What a code is refused with, as far as that follows from how it was drawn. */
+static void expect_refusal(const struct scene *s, const char *what)
+{
+    uint32_t due = s->refusal;
+    if (!s->loads)
+        due = WUMBYRA_TREE;
+    else if (s->caller.code.size > WUMBYRA_MAX_CODE_BYTES || s->caller.code.size != WUMBYRA_BYTES_OF_BITS(s->caller.count))
+        due = WUMBYRA_NOT_A_CODE;
+    else if (s->whole_text && s->whole_code)
+        due = s->parse.count > WUMBYRA_MAX_LETTERS ? WUMBYRA_TAPE_TOO_LONG : WUMBYRA_OK;
+    expect(&s->caller, s->refusal == due, what);
+}
+
+static void try_flatten(struct scene *s)
+{
+    struct caller *c = &s->caller;
+    struct answer answer = call_flatten(c, WUMBYRA_MAX_LETTERS);
+    s->refusal = answer.number;
+    s->letters = answer.number == WUMBYRA_OK ? answer.value : 0;
+    expect(c, answer.number == WUMBYRA_OK || answer.value == 0, "flatten: no value");
+    expect_refusal(s, "flatten: the refusal is due");
+    if (s->refusal != WUMBYRA_OK)
+        return;
+    memcpy(s->tape, c->letters.at, s->letters);
+    if (s->whole_text && s->whole_code)
+        expect(c, s->letters == s->parse.count && memcmp(s->tape, s->parse.letters, s->letters) == 0, "flatten: the letters");
+    expect_answer(c, call_flatten(c, s->letters), WUMBYRA_OK, s->letters, "flatten: as many cells as letters");
+    expect(c, memcmp(s->tape, c->letters.at, s->letters) == 0, "flatten: the same again");
+    if (s->letters > 0)
+        expect_answer(c, call_flatten(c, smaller(&c->source, s->letters)), WUMBYRA_TAPE_TOO_SHORT, s->letters, "flatten: fewer cells");
+}
+
+static void try_totals(struct scene *s)
+{
+    struct caller *c = &s->caller;
+    uint32_t litres[WUMBYRA_ACCOUNTS], sum = 0, account;
+    size_t cells;
+    expect_answer(c, call_totals(c, WUMBYRA_ACCOUNTS), s->refusal, 0, "totals: refused as flatten is");
+    memcpy(litres, c->litres.at, sizeof litres);
+    for (size_t i = 0; i < s->letters; i++)
+        sum += s->tape[i] >= '0' && s->tape[i] <= '9' ? (uint32_t)(s->tape[i] - '0') : 0;
+    for (size_t i = 0; i < WUMBYRA_ACCOUNTS; i++)
+        sum -= litres[i];
+    expect(c, sum == 0, "totals: they add up to the digits");
+    if (s->whole_text && s->whole_code && s->refusal == WUMBYRA_OK)
+        expect(c, memcmp(litres, s->parse.litres, sizeof litres) == 0, "totals: litres by account");
+    cells = draw(&c->source, 20);
+    expect_answer(c, call_totals(c, cells), s->refusal, 0, "totals: any number of cells");
+    expect(c, memcmp(litres, c->litres.at, (cells < WUMBYRA_ACCOUNTS ? cells : WUMBYRA_ACCOUNTS) * sizeof *litres) == 0, "totals: the first");
+    account = chance(&c->source, 8) ? draw(&c->source, UINT32_MAX) : draw(&c->source, 12);
+    expect_answer(c, call_total(c, account), s->refusal, account < WUMBYRA_ACCOUNTS ? litres[account] : 0, "total: one of the totals");
+}
+
+/* ---- tapes */
+
+/* The refusal of a tape that follows from its bytes, with its value. */
+static struct answer tape_fault(const struct scene *s)
+{
+    const struct input *tape = &s->caller.tape;
+    if (!s->loads)
+        return (struct answer){WUMBYRA_TREE, 0};
+    if (tape->size > WUMBYRA_MAX_LETTERS)
+        return (struct answer){WUMBYRA_TAPE_TOO_LONG, 0};
+    for (uint32_t i = 0; i < tape->size; i++)
+        if (tape->at[i] < WUMBYRA_FIRST_LETTER || tape->at[i] > WUMBYRA_LAST_LETTER)
+            return (struct answer){WUMBYRA_TAPE_BYTE, i};
+    return (struct answer){WUMBYRA_OK, 0};
+}
+
+/* The tape is what the code spells: reads it, in buffers that suffice and in shorter ones. */
+static void try_parse(struct scene *s)
+{
+    struct caller *c = &s->caller;
+    const size_t words = WUMBYRA_WORDS(s->letters);
+    struct answer answer;
+    size_t need;
+    hand(c, &c->tape, s->tape, s->letters);
+    answer = call_parse(c, words, WUMBYRA_CODE_BYTES(s->letters));
+    expect(c, answer.number == WUMBYRA_OK, "parse: what a code spells has a parse");
+    s->bits = answer.value;
+    need = WUMBYRA_BYTES_OF_BITS(s->bits);
+    memcpy(s->parsed, c->written.at, need);
+    memcpy(s->words, c->words.at, words * sizeof *s->words);
+    expect_answer(c, call_parse(c, words + draw(&c->source, 4), need), WUMBYRA_OK, s->bits, "parse: as many bytes as the code has");
+    expect(c, memcmp(s->parsed, c->written.at, need) == 0, "parse: the same code again");
+    expect(c, memcmp(s->words, c->words.at, words * sizeof *s->words) == 0, "parse: the same words again");
+    if (need > 0)
+        expect_answer(c, call_parse(c, words, smaller(&c->source, need)), WUMBYRA_CODE_TOO_SHORT, (uint32_t)need, "parse: fewer bytes");
+    expect_answer(c, call_parse(c, smaller(&c->source, words), need), WUMBYRA_WORDS_TOO_SHORT, (uint32_t)words, "parse: fewer words");
+}
+
+static void try_spans(struct scene *s)
+{
+    struct caller *c = &s->caller;
+    const struct parse *parse = &s->parse;
+    uint32_t visit;
+    (void)call_span(c, draw(&c->source, WUMBYRA_MAX_LINES), draw(&c->source, 4));
+    expect_answer(c, call_span(c, WUMBYRA_MAX_LINES + draw(&c->source, 1000), 0), WUMBYRA_NO_SUCH_VISIT, 0, "span: no such node");
+    if (s->letters > 0) {
+        uint32_t at = draw(&c->source, s->letters);
+        s->tape[at] ^= 1;
+        hand(c, &c->tape, s->tape, s->letters);
+        (void)call_span(c, draw(&c->source, WUMBYRA_MAX_LINES), 0);
+        if (tape_fault(s).number == WUMBYRA_OK)
+            expect_answer(c, call_span(c, 0, 0), WUMBYRA_NOT_A_CODE, 0, "span: a code of another tape");
+        s->tape[at] ^= 1;
+        hand(c, &c->tape, s->tape, s->letters);
+    }
+    if (!s->whole_text || !s->whole_code)
+        return;
+    expect_answer(c, call_span(c, s->pattern.count - 1, 0), WUMBYRA_OK, s->letters, "span: the root has the whole tape");
+    expect_answer(c, call_span(c, parse->watched, parse->visits), WUMBYRA_NO_SUCH_VISIT, 0, "span: no such visit");
+    if (parse->visits == 0)
+        return;
+    visit = draw(&c->source, parse->visits);
+    expect_answer(c, call_span(c, parse->watched, visit), WUMBYRA_OK, (uint32_t)parse->start[visit] << 16 | parse->length[visit],
+                  "span: the piece of a visit");
+}
+
+/* ---- canonical codes */
+
+static void try_short_settling(struct scene *s, struct room room)
+{
+    struct caller *c = &s->caller;
+    struct room less = room;
+    switch (draw(&c->source, 3)) {
+    case 0:
+        if (s->letters == 0)
+            return;
+        less.cells = smaller(&c->source, room.cells);
+        expect_answer(c, call_canonicalize(c, less, s->letters), WUMBYRA_TAPE_TOO_SHORT, s->letters, "canonicalize: fewer cells");
+        break;
+    case 1:
+        less.words = smaller(&c->source, room.words);
+        expect_answer(c, call_canonicalize(c, less, s->letters), WUMBYRA_WORDS_TOO_SHORT, (uint32_t)room.words, "canonicalize: fewer words");
+        expect(c, memcmp(s->tape, c->letters.at, s->letters) == 0, "canonicalize: letters beside 6");
+        break;
+    default:
+        if (room.bytes == 0)
+            return;
+        less.bytes = smaller(&c->source, room.bytes);
+        expect_answer(c, call_canonicalize(c, less, s->letters), WUMBYRA_CODE_TOO_SHORT, (uint32_t)room.bytes, "canonicalize: fewer bytes");
+        expect(c, memcmp(s->words, c->words.at, room.words * sizeof *s->words) == 0, "canonicalize: words beside 7");
+    }
+}
+
+static void expect_settled(struct scene *s, struct room room)
+{
+    struct caller *c = &s->caller;
+    expect_answer(c, call_canonicalize(c, room, s->letters), WUMBYRA_OK, s->bits, "canonicalize: as many bits as the parse");
+    expect(c, memcmp(s->parsed, c->written.at, room.bytes) == 0, "canonicalize: the code of the parse");
+    expect(c, memcmp(s->tape, c->letters.at, room.cells) == 0, "canonicalize: the letters");
+    expect(c, memcmp(s->words, c->words.at, room.words * sizeof *s->words) == 0, "canonicalize: the words of the parse");
+}
+
+static void try_settling(struct scene *s)
+{
+    struct caller *c = &s->caller;
+    const struct room room = {s->letters, WUMBYRA_WORDS(s->letters), WUMBYRA_BYTES_OF_BITS(s->bits)};
+    const size_t common = room.bytes < c->code.size ? room.bytes : c->code.size;
+    expect_settled(s, room);
+    try_short_settling(s, room);
+    if (s->whole_text && s->whole_code && !s->parse.empty_round)
+        expect(c, memcmp(s->parsed, s->code, common) <= 0, "canonicalize: no earlier code of the tape");
+    hand(c, &c->code, s->parsed, room.bytes);
+    c->count = s->bits;
+    expect_settled(s, room);
+    expect_answer(c, call_flatten(c, s->letters), WUMBYRA_OK, s->letters, "flatten of parse: the number of letters");
+    expect(c, memcmp(s->tape, c->letters.at, s->letters) == 0, "flatten of parse: the tape");
+    s->whole_code = false; /* from here on the code is another one */
+    try_totals(s);
+    expect_answer(c, call_span(c, 0, UINT32_MAX), WUMBYRA_NO_SUCH_VISIT, 0, "span: not so many visits");
+}
+
+/* ---- what is refused */
+
+static void try_damaged_tape(struct scene *s)
+{
+    struct caller *c = &s->caller;
+    const size_t words = chance(&c->source, 4) ? draw(&c->source, 40) : WUMBYRA_MAX_WORDS;
+    size_t size = damage(&c->source, s->parse.letters, s->parse.count, LETTER_ROOM);
+    struct answer answer, fault;
+    hand(c, &c->tape, s->parse.letters, size);
+    fault = tape_fault(s);
+    answer = call_parse(c, words, draw(&c->source, 2) * WUMBYRA_MAX_WRITTEN_CODE_BYTES);
+    if (fault.number != WUMBYRA_OK)
+        expect_answer(c, answer, fault.number, fault.value, "parse: the first fault of the tape");
+    else if (words < WUMBYRA_WORDS(size))
+        expect_answer(c, answer, WUMBYRA_WORDS_TOO_SHORT, (uint32_t)WUMBYRA_WORDS(size), "parse: too few words");
+    else
+        expect(c, answer.number == 0 || answer.number == 5 || answer.number == 7, "parse: read or not");
+    answer = call_span(c, draw(&c->source, 70), draw(&c->source, 70));
+    if (fault.number != WUMBYRA_OK)
+        expect_answer(c, answer, fault.number, fault.value, "span: the first fault of the tape");
+    else if (s->refusal != WUMBYRA_OK)
+        expect_answer(c, answer, WUMBYRA_NOT_A_CODE, 0, "span: no code of this tape");
+}
+
+static void try_refused_code(struct scene *s)
+{
+    struct caller *c = &s->caller;
+    const struct room room = {draw(&c->source, 9), draw(&c->source, 9), draw(&c->source, 9)};
+    expect_answer(c, call_canonicalize(c, room, 0), s->refusal, 0, "canonicalize: refused as flatten is");
+    expect_answer(c, call_flatten(c, room.cells), s->refusal, 0, "flatten: refused in any cells");
+}
+
+static void try_case(struct scene *s, uint64_t seed, uint64_t number)
+{
+    struct caller *c = &s->caller;
+    bool endless;
+    c->seed = seed;
+    c->number = number;
+    c->source.state = (seed << 32 ^ number) * 0x2545f4914f6cdd1du;
+    endless = chance(&c->source, 2000);
+    draw_pattern(&c->source, &s->pattern, endless);
+    draw_code(s, endless);
+    try_text(s);
+    try_flatten(s);
+    try_totals(s);
+    try_damaged_tape(s);
+    if (s->refusal != WUMBYRA_OK) {
+        try_refused_code(s);
+        return;
+    }
+    try_parse(s);
+    try_spans(s);
+    try_settling(s);
+}
+
+/* ---- threads */
+
+struct work {
+    pthread_t thread;
+    uint64_t seed, first, step, calls, done, cases;
+};
+
+/* Cases first, first + step, .. until so many calls are made, so that a seed gives the same cases however threads run. */
+static void *run_cases(void *argument)
+{
+    struct work *work = argument;
+    struct scene *scene = calloc(1, sizeof *scene);
+    if (scene == NULL)
+        exit(2);
+    open_caller(&scene->caller);
+    do
+        try_case(scene, work->seed, work->first + work->step * work->cases++);
+    while (scene->caller.calls < work->calls);
+    work->done = scene->caller.calls;
+    close_caller(&scene->caller);
+    free(scene);
+    return NULL;
+}
+
+int main(int count, char **arguments)
+{
+    struct work work[THREADS];
+    uint64_t calls = 0, cases = 0;
+    if (count < 3 || count > 4) {
+        fprintf(stderr, "usage: guard CALLS SEED [CASE]\n");
+        return 2;
+    }
+    for (uint64_t i = 0; i < THREADS; i++) {
+        work[i] = (struct work){.seed = strtoull(arguments[2], NULL, 10), .first = i, .step = THREADS};
+        work[i].calls = strtoull(arguments[1], NULL, 10) / THREADS;
+        if (count == 4) { /* every thread tries that one case */
+            work[i].first = strtoull(arguments[3], NULL, 10);
+            work[i].calls = 1;
+        }
+        if (pthread_create(&work[i].thread, NULL, run_cases, &work[i]) != 0)
+            return 2;
+    }
+    for (int i = 0; i < THREADS; i++) {
+        pthread_join(work[i].thread, NULL);
+        calls += work[i].done;
+        cases += work[i].cases;
+    }
+    printf("seed %s: %" PRIu64 " calls in %" PRIu64 " cases, %d threads: all as due\n", arguments[2], calls, cases, THREADS);
+    return 0;
+}
