@@ -1,0 +1,47 @@
+"""The worked example, and a refusal that comes back from another process, by a program outside the tree."""
+
+import multiprocessing
+from concurrent.futures import ProcessPoolExecutor
+
+from wumbyra import Pattern, Refused
+
+PATTERN = b"0\tR\t-\t0\t9\n1\tL\t-\tW\n2\tS\t9\t1\t0\n3\tR\t1\t0\t9\n4\tA\t-\t2\t3\n5\tK\t-\t4\n"
+SECONDS = 30  # a refusal that cannot be pickled would be waited for without end
+
+
+def totals(tape):
+    pattern = Pattern(PATTERN)
+    code, bits, _ = pattern.parse(tape)
+    return pattern.totals(code, bits)
+
+
+def refused(result):
+    try:
+        return result(timeout=SECONDS)
+    except Refused as why:
+        return why.number, why.value
+
+
+def pools():
+    """What both kinds of pool answer for a tape and for one that is refused."""
+    with ProcessPoolExecutor(2) as pool:
+        yield pool.submit(totals, b"3W2").result(timeout=SECONDS), refused(pool.submit(totals, b"3 2").result)
+    with multiprocessing.Pool(2) as pool:
+        yield pool.apply_async(totals, (b"3W2",)).get(timeout=SECONDS), refused(pool.apply_async(totals, (b"3 2",)).get)
+
+
+def main():
+    pattern = Pattern(PATTERN)
+    code, bits, _ = pattern.parse(b"3W2")
+    print("tape", 3, bits, code.hex(), sep="\t")
+    litres = pattern.totals(code, bits)
+    for account, amount in enumerate(litres):
+        if amount > 0:
+            print("account", account, amount, sep="\t")
+    print("span", *pattern.span(b"3W2", code, bits, 2, 0), sep="\t")
+    for answers in pools():
+        assert answers == (litres, (4, 1)), answers
+
+
+if __name__ == "__main__":
+    main()
