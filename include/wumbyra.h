@@ -43,11 +43,13 @@
  * Stack and time
  *  No call takes memory from the heap. Calls inside a call go as deep as the pattern's tree, at most 64, and never with the
  *  tape or the code, so the stack is bounded: WUMBYRA_STACK_BYTES suffice on the deepest patterns, by measurement.
- *  Reading a tape takes at most letters * lines steps: well below a millisecond. The calls that take a code walk it, and so take
- *  at most (bits + 1) * lines steps: bits may stand for empty rounds, or for more letters than a tape may have, and all of them
- *  are walked before the code is accepted or refused. The worst, 65,536 bytes of empty rounds over 31 empty parts, takes
- *  about half a second. Whoever takes codes from others bounds the time by the bytes that it accepts: a code that this library
- *  wrote for n letters has at most WUMBYRA_CODE_BYTES(n). `bench/run` measures both; docs/PERFORMANCE.md has the figures. */
+ *  wumbyra_parse takes at most letters * lines steps, and twice that where the code buffer has fewer than WUMBYRA_CODE_BYTES(n)
+ *  bytes: below 3 milliseconds on the worst that was measured. The calls that take a code take at most (bits + 1) * lines steps:
+ *  bits may stand for empty rounds, or for more letters than a tape may have, and all of them are walked before the code is
+ *  accepted or refused. The worst is a code of 65,536 bytes, each bit a round of 63 lines: a quarter of a second, and in
+ *  wumbyra_span twice that. Whoever takes codes from others bounds the time by the bytes that it accepts: a code that this library
+ *  wrote for n letters has at most WUMBYRA_CODE_BYTES(n). bench/README.md has the worst of each call, docs/PERFORMANCE.md
+ *  usual tapes and the stack. */
 #ifndef WUMBYRA_H
 #define WUMBYRA_H
 
