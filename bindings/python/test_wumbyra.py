@@ -1,17 +1,26 @@
-"""The worked examples of the scope, refusals, totals in any number of cells, and the version."""
+"""The worked examples of the scope, refusals, numbers of any size, totals in any number of cells, and the version."""
 
+import concurrent.futures
+import copy
 import ctypes
+import inspect
+import multiprocessing
 import pathlib
+import pickle
 import re
+import typing
 import unittest
+from array import array
 
-from wumbyra import ACCOUNTS, Pattern, Refused, version
+import wumbyra
+from wumbyra import ACCOUNTS, CAUSES, Pattern, Refused, version
+from wumbyra._library import LIBRARY
 
 LISTING = b"0\tR\t-\t0\t9\n1\tL\t-\tW\n2\tS\t9\t1\t0\n3\tR\t1\t0\t9\n4\tA\t-\t2\t3\n5\tK\t-\t4\n"
 P1 = b"0\tL\t-\ta\n1\tE\t-\n2\tA\t-\t0\t1\n3\tK\t-\t2\n"
 P3 = b"0\tL\t-\ta\n1\tK\t-\t0\n2\tL\t-\tb\n3\tK\t-\t2\n4\tS\t-\t1\t3\n5\tK\t-\t4\n"
-HEADER = pathlib.Path(__file__).resolve().parents[2] / "include/wumbyra.h"
 P5 = b"0\tL\t-\ta\n1\tK\t-\t0\n2\tL\t-\ta\n3\tS\t-\t1\t2\n"
+REPOSITORY = pathlib.Path(__file__).resolve().parents[2]
 
 
 def code(bits):
@@ -20,12 +29,19 @@ def code(bits):
     return int(bits.ljust(8 * size, "0") or "0", 2).to_bytes(size, "big"), len(bits)
 
 
-class Services(unittest.TestCase):
+def read(tape):
+    """For a process pool, which sends a function by its name."""
+    return Pattern(LISTING).parse(tape)
+
+
+class Case(unittest.TestCase):
     def refused(self, number, value, call, *arguments):
         with self.assertRaises(Refused) as caught:
             call(*arguments)
         self.assertEqual((caught.exception.number, caught.exception.value), (number, value))
 
+
+class Services(Case):
     def test_tapes_to_try(self):
         for text, tape, bits in [
             (P1, b"", "1"),
@@ -50,7 +66,43 @@ class Services(unittest.TestCase):
         self.assertEqual(litres, [0, 3, 0, 0, 0, 0, 0, 0, 0, 2, 0])
         self.assertEqual(pattern.totals(found, bits), litres[:10])
         self.assertEqual(pattern.span(b"3W2", found, bits, 2, 0), (1, 2))
+        self.assertEqual(pattern.piece(b"3W2", found, bits, 2, 0), b"W2")
+        self.assertEqual(pattern.piece(bytearray(b"3W2"), found, bits, 4, 0), b"3")
 
+    def test_words_are_an_array(self):
+        parsed = Pattern(LISTING).parse(b"3W2")
+        self.assertIsInstance(parsed.words, array)
+        self.assertEqual((parsed.words.typecode, parsed.words.itemsize, len(parsed.words)), ("Q", 8, 8))
+        self.assertEqual(parsed.words.tolist(), [0x39, 0x39, 0x36, 0x36, 0x39, 0x39, 0, 0x20])
+
+    def test_whatever_holds_bytes_is_taken(self):
+        pattern = Pattern(bytearray(LISTING))
+        for tape in [bytearray(b"3W2"), memoryview(b"3W2"), array("B", b"3W2"), memoryview(b"-3-W-2")[1::2]]:
+            parsed = pattern.parse(tape)
+            self.assertEqual(pattern.flatten(memoryview(parsed.code), parsed.bits), b"3W2")
+        self.assertRaises(TypeError, Pattern, LISTING.decode())
+        self.assertRaises(TypeError, pattern.parse, "3W2")
+        self.assertRaises(TypeError, pattern.parse, 3)
+
+    def test_totals_in_any_number_of_cells(self):
+        found, bits, _ = Pattern(LISTING).parse(b"3W2")
+        for cells in range(13):
+            written = min(cells, ACCOUNTS)
+            # The library sees the first cells only, those behind them are canaries.
+            for count, number, totals in [(bits, 0, [0, 3, 0, 0, 0, 0, 0, 0, 0, 2]), (bits + 1, 8, 10 * [0])]:
+                litres = (ctypes.c_uint32 * 16)(*(16 * [77]))
+                answer = LIBRARY.wumbyra_totals(LISTING, len(LISTING), found, len(found), count, litres, cells)
+                self.assertEqual(answer, number << 32)
+                self.assertEqual(list(litres), totals[:written] + (16 - written) * [77])
+
+    def test_longest_tape(self):
+        found, bits, words = Pattern(P1).parse(3600 * b"a")
+        self.assertEqual((bits, len(words)), (7201, 7202))
+        self.assertEqual(Pattern(P1).flatten(found, bits), 3600 * b"a")
+        self.assertEqual(Pattern(P1).canonicalize(found, bits), (found, bits))
+
+
+class Refusals(Case):
     def test_refusals(self):
         self.refused(1, 0, Pattern, b"")
         self.refused(2, 1, Pattern, b"0\tE\t-\n1\tK\t-\t1\n")
@@ -61,31 +113,77 @@ class Services(unittest.TestCase):
         self.refused(8, 0, pattern.flatten, b"", 0)
         self.refused(8, 0, pattern.totals, b"", 0)
         self.refused(3, 0, pattern.totals, *code(3601 * "00" + "1"))
+        self.refused(3, 0, pattern.canonicalize, *code(3601 * "00" + "1"))
         self.refused(10, 0, pattern.span, b"a", *code("001"), 0, 1)
-        self.assertRaises(ValueError, pattern.total, *code("1"), -1)
+        self.refused(10, 0, pattern.piece, b"a", *code("001"), 4, 0)
 
-    def test_totals_in_any_number_of_cells(self):
-        pattern = Pattern(LISTING)
-        found, bits, _ = pattern.parse(b"3W2")
-        for cells in range(13):
-            written = min(cells, ACCOUNTS)
-            # The library sees the first cells only, those behind them are canaries.
-            for count, number, totals in [(bits, 0, [0, 3, 0, 0, 0, 0, 0, 0, 0, 2]), (bits + 1, 8, 10 * [0])]:
-                litres = (ctypes.c_uint32 * 16)(*(16 * [77]))
-                lent = (ctypes.c_uint32 * cells).from_buffer(litres)
-                self.assertEqual(pattern._totals_into(found, count, lent), number << 32)
-                self.assertEqual(list(litres), totals[:written] + (16 - written) * [77])
+    def test_numbers_above_32_bits_are_refused_in_order(self):
+        pattern = Pattern(P1)
+        found, bits = code("001")
+        for great in [2**32 - 1, 2**32, 2**32 + bits, 2**64, 10**100]:
+            for call in [pattern.flatten, pattern.canonicalize, pattern.totals]:
+                self.refused(8, 0, call, found, great)
+            self.refused(8, 0, pattern.total, found, great, great)
+            self.assertEqual(pattern.total(found, bits, great), 0)
+            self.refused(10, 0, pattern.span, b"a", found, bits, great, 0)
+            self.refused(10, 0, pattern.span, b"a", found, bits, 0, great)
+            # 01's order is 2, 3, 4, 8, 10.
+            self.refused(3, 0, pattern.span, 3601 * b"a", found, great, great, great)
+            self.refused(4, 1, pattern.span, b"a ", found, great, great, great)
+            self.refused(8, 0, pattern.span, b"a", found, great, great, great)
+            self.refused(8, 0, pattern.span, b"aa", found, bits, great, great)
+        pattern.text = b""
+        self.refused(2, 0, pattern.span, b" ", found, 2**32, 2**32, 2**32)
 
+    def test_negative_numbers_are_no_counts(self):
+        pattern = Pattern(P1)
+        found, bits = code("001")
+        for call in [pattern.flatten, pattern.canonicalize, pattern.totals]:
+            self.assertRaises(ValueError, call, found, -1)
+        self.assertRaises(ValueError, pattern.total, found, bits, -1)
+        for numbers in [(-1, 0, 0), (bits, -1, 0), (bits, 0, -1), (bits, 0, -(2**32))]:
+            self.assertRaises(ValueError, pattern.span, b"a", found, *numbers)
+        self.assertRaises(TypeError, pattern.flatten, found, 3.0)
+
+    def test_a_refusal_is_copied_and_pickled(self):
+        for refused in [Refused(4, 17), Refused(11, 0)]:
+            for again in [copy.copy(refused), copy.deepcopy(refused), pickle.loads(pickle.dumps(refused))]:
+                self.assertEqual((type(again), again.number, again.value), (Refused, refused.number, refused.value))
+                self.assertEqual(str(again), str(refused))
+
+    def test_a_refusal_comes_back_from_a_process(self):
+        fresh = multiprocessing.get_context("spawn")
+        with concurrent.futures.ProcessPoolExecutor(1, fresh) as pool:
+            good, bad = pool.submit(read, b"3W2"), pool.submit(read, b"3W")
+            self.assertEqual(good.result(60), read(b"3W2"))
+            self.refused(5, 0, bad.result, 60)
+
+    def test_each_cause_has_words(self):
+        self.assertEqual(list(CAUSES), list(range(1, 11)))
+        self.assertEqual(str(Refused(4, 17)), "the byte at position 17 of the tape is no letter")
+        self.assertIn("number 11 with value 0", str(Refused(11, 0)))
+        # The same words as those of the Rust wrapper, which has {line}, {position} or {needed} where this one has {value}.
+        rust = (REPOSITORY / "bindings/rust/src/refusal.rs").read_text()
+        there = {re.sub(r"\{\w+\}", "{value}", words) for words in re.findall(r'write!\(\s*f,\s+"([^"]*)"', rust)}
+        self.assertLessEqual(set(CAUSES.values()), there)
+
+
+class Package(unittest.TestCase):
     def test_version(self):
-        header = HEADER.read_text()
+        header = (REPOSITORY / "include/wumbyra.h").read_text()
         part = [int(re.search(rf"#define WUMBYRA_VERSION_{name} (\d+)\n", header)[1]) for name in ("MAJOR", "MINOR", "PATCH")]
         self.assertEqual(version(), part[0] * 10000 + part[1] * 100 + part[2])
-        self.assertEqual(ACCOUNTS, int(re.search(r"#define WUMBYRA_ACCOUNTS (\d+)\n", header)[1]))
+        self.assertEqual(wumbyra.__version__, ".".join(map(str, part)))
+        for name in ["ACCOUNTS", "MAX_LETTERS", "MAX_CODE_BYTES"]:
+            self.assertEqual(getattr(wumbyra, name), int(re.search(rf"#define WUMBYRA_{name} (\d+)\n", header)[1]))
 
-    def test_longest_tape(self):
-        found, bits, words = Pattern(P1).parse(3600 * b"a")
-        self.assertEqual((bits, len(words)), (7201, 7202))
-        self.assertEqual(Pattern(P1).flatten(found, bits), 3600 * b"a")
+    def test_every_function_has_type_hints(self):
+        functions = [version, Refused.__init__, *(call for _, call in inspect.getmembers(Pattern, inspect.isfunction))]
+        for function in functions:
+            parameters = set(inspect.signature(function).parameters) - {"self"}
+            self.assertEqual(set(typing.get_type_hints(function)), parameters | {"return"}, function)
+        for named in wumbyra.__all__:
+            self.assertTrue(hasattr(wumbyra, named), named)
 
 
 if __name__ == "__main__":

@@ -1,0 +1,96 @@
+"""The package as pip gets it: what the wheel holds, where the library is looked for, and what is said where it is missing."""
+
+import os
+import pathlib
+import subprocess
+import sys
+import tempfile
+import unittest
+import zipfile
+
+import build_package
+import wumbyra
+
+HERE = pathlib.Path(__file__).resolve().parent
+TELL = "import wumbyra._library as found; print(found.LIBRARY._name)"
+
+
+def python(*arguments, **changed):
+    """Runs a Python that knows nothing of this one's variables but those that are given."""
+    kept = {name: value for name, value in os.environ.items() if not name.startswith(("WUMBYRA_", "PYTHON", "LD_"))}
+    kept.update({"PYTHONDONTWRITEBYTECODE": "1"}, **{name: str(value) for name, value in changed.items()})
+    return subprocess.run([sys.executable, *arguments], env=kept, capture_output=True, text=True, cwd="/")
+
+
+class Wheel(unittest.TestCase):
+    @classmethod
+    def setUpClass(cls):
+        cls.room = tempfile.TemporaryDirectory()
+        room = pathlib.Path(cls.room.name)
+        cls.name = build_package.build_wheel(room)
+        cls.site, cls.bare, cls.system = room / "site", room / "bare", room / "system"
+        with zipfile.ZipFile(room / cls.name) as wheel:
+            cls.files = wheel.namelist()
+            wheel.extractall(cls.site)
+            wheel.extractall(cls.bare)
+        cls.inside = cls.site / "wumbyra/libwumbyra.so"
+        cls.system.mkdir()
+        (cls.bare / "wumbyra/libwumbyra.so").rename(cls.system / "libwumbyra.so.1")
+
+    @classmethod
+    def tearDownClass(cls):
+        cls.room.cleanup()
+
+    def test_what_it_holds(self):
+        self.assertEqual(self.name, f"wumbyra-{wumbyra.__version__}-py3-none-linux_x86_64.whl")
+        about = [f"wumbyra-{wumbyra.__version__}.dist-info/{name}" for name in ("METADATA", "RECORD", "WHEEL")]
+        package = [f"wumbyra/{name}" for name in ("__init__.py", "_library.py", "_refused.py", "libwumbyra.so", "py.typed")]
+        self.assertEqual(sorted(self.files), sorted(about + package))
+
+    def test_its_version_is_the_packages(self):
+        self.assertEqual(build_package.project()["version"], wumbyra.__version__)
+
+    def test_the_same_sources_give_the_same_wheel(self):
+        with tempfile.TemporaryDirectory() as again:
+            build_package.build_wheel(again)
+            first, second = pathlib.Path(self.room.name, self.name), pathlib.Path(again, self.name)
+            self.assertEqual(first.read_bytes(), second.read_bytes())
+
+    def test_the_library_is_the_one_inside(self):
+        found = python("-c", TELL, PYTHONPATH=self.site, LD_LIBRARY_PATH=self.system)
+        self.assertEqual(found.stdout.strip(), str(self.inside), found.stderr)
+
+    def test_the_variable_comes_first(self):
+        other = self.system / "libwumbyra.so.1"
+        found = python("-c", TELL, PYTHONPATH=self.site, WUMBYRA_LIBRARY=other)
+        self.assertEqual(found.stdout.strip(), str(other), found.stderr)
+        missing = python("-c", TELL, PYTHONPATH=self.site, WUMBYRA_LIBRARY="/no/such/file.so")
+        self.assertIn("ImportError: WUMBYRA_LIBRARY names a library that cannot be loaded: /no/such/file.so", missing.stderr)
+
+    def test_the_systems_loader_comes_last(self):
+        found = python("-c", TELL, PYTHONPATH=self.bare, LD_LIBRARY_PATH=self.system)
+        self.assertEqual(found.stdout.strip(), "libwumbyra.so.1", found.stderr)
+
+    def test_a_missing_library_is_one_sentence(self):
+        missing = python("-c", TELL, PYTHONPATH=self.bare)
+        self.assertIn("ImportError: libwumbyra.so is not found: install this package with `pip install", missing.stderr)
+
+    def test_a_missing_archive_is_one_sentence(self):
+        with tempfile.TemporaryDirectory() as empty:
+            missing = python("-c", f"import build_package; build_package.build_wheel({empty!r})", PYTHONPATH=HERE, WUMBYRA_LIB_DIR=empty)
+            self.assertEqual((missing.returncode, missing.stderr.count("\n")), (1, 1))
+            self.assertRegex(missing.stderr, "^/.*/libwumbyra.a is missing: run `rt staticlib wumbyra` in the repository")
+
+    def test_pip_installs_it_without_a_network(self):
+        if python("-m", "pip", "--version").returncode:
+            self.skipTest("there is no pip")
+        with tempfile.TemporaryDirectory() as site:
+            options = ["--quiet", "--no-index", "--disable-pip-version-check", "--target", site]
+            done = python("-m", "pip", "install", *options, str(HERE))
+            self.assertEqual(done.returncode, 0, done.stderr)
+            found = python("-c", TELL, PYTHONPATH=site)
+            self.assertEqual(found.stdout.strip(), f"{site}/wumbyra/libwumbyra.so", found.stderr)
+
+
+if __name__ == "__main__":
+    unittest.main()

@@ -1,0 +1,170 @@
+"""The verified reader of water meter tapes (ctypes, standard library only).
+
+    from wumbyra import Pattern, Refused
+
+    pattern = Pattern(b"0\\tL\\t1\\t7\\n1\\tK\\t-\\t0\\n")
+    code, bits, words = pattern.parse(b"77")
+    pattern.totals(code, bits)                  # [0, 14, 0, 0, 0, 0, 0, 0, 0, 0]
+
+A refusal is raised as `Refused`, with the number and the value of docs/REFERENCE.md. Bytes may be `bytes`, `bytearray`, `memoryview`
+or an array; text is none, so a `str` is a TypeError.
+
+Bit counts, nodes, visits and accounts are numbers from 0 on, of any size: one that has over 32 bits is refused as the library refuses
+any that is too great (8 for a bit count, 10 for a node or visit; an account that there is not has 0 litres), and in the library's
+order of checks. A negative number is no count at all: it is a ValueError, whatever else is handed over.
+"""
+
+from __future__ import annotations
+
+import operator
+from array import array
+from typing import TYPE_CHECKING, List, NamedTuple, Union
+
+from ._library import LIBRARY
+from ._refused import CAUSES, Refused
+
+__version__ = "1.0.0"
+__all__ = ["ACCOUNTS", "CAUSES", "MAX_CODE_BYTES", "MAX_LETTERS", "Code", "Parsed", "Pattern", "Refused", "Span", "version"]
+
+MAX_LETTERS = 3600
+MAX_CODE_BYTES = 65536
+ACCOUNTS = 10
+
+if TYPE_CHECKING:
+    Words = array[int]
+else:
+    Words = array  # takes no parameter before Python 3.12
+BytesLike = Union[bytes, bytearray, memoryview, Words]
+
+
+class Code(NamedTuple):
+    """A code: its bytes and how many bits of them are in use."""
+
+    code: bytes
+    bits: int
+
+
+class Parsed(NamedTuple):
+    """A tape that was read: its code, and its state sets.
+
+    Bit l of words[2 * i + b] says that the letters from position i on can be read from node l on with flag b.
+    """
+
+    code: bytes
+    bits: int
+    words: Words
+
+
+class Span(NamedTuple):
+    """Where a piece of the tape starts, and how many letters it has."""
+
+    start: int
+    length: int
+
+
+def version() -> int:
+    """The version of the library that is loaded: major * 10000 + minor * 100 + patch."""
+    return int(LIBRARY.wumbyra_version())
+
+
+def _value(answer: int) -> int:
+    number, value = answer >> 32, answer & 0xFFFFFFFF
+    if number:
+        raise Refused(number, value)
+    return value
+
+
+def _bytes(data: BytesLike) -> bytes:
+    # By way of memoryview, since bytes(5) would be five zeros.
+    return data if isinstance(data, bytes) else bytes(memoryview(data))
+
+
+def _count(number: int, what: str) -> int:
+    """A number as the library takes it, in 32 bits, of which ctypes would keep the lowest only.
+
+    No code has so many bits, and no pattern so many nodes, visits or accounts: the greatest number of 32 bits stands for all above it.
+    """
+    number = operator.index(number)
+    if number < 0:
+        raise ValueError(f"{what} is a number from 0 on, and {number} is below")
+    return min(number, 0xFFFFFFFF)
+
+
+def _cells(kind: str, count: int) -> Words:
+    """An array of zeros to lend. Its `buffer_info` is what a call takes: the address and the number of cells."""
+    cells = array(kind)
+    cells.frombytes(bytes(count * cells.itemsize))
+    return cells
+
+
+def _front(cells: Words, bits: int) -> bytes:
+    return cells[: (bits + 7) // 8].tobytes()
+
+
+class Pattern:
+    """A pattern text that loads; `lines` is the number of its nodes. Objects can be shared by threads and sent to processes."""
+
+    text: bytes
+    lines: int
+
+    def __init__(self, text: BytesLike) -> None:
+        self.text = _bytes(text)
+        self.lines = _value(LIBRARY.wumbyra_load(self.text, len(self.text)))
+
+    def __repr__(self) -> str:
+        return f"Pattern({self.text!r})"
+
+    def parse(self, tape: BytesLike) -> Parsed:
+        """Reads a tape: the code of its greedy parse, and the state sets. Refused with 3, 4 or 5."""
+        tape = _bytes(tape)
+        letters = min(len(tape), MAX_LETTERS)  # a longer tape is refused before a buffer is looked at
+        words = _cells("Q", 2 * (letters + 1))
+        code = _cells("B", 17 * letters + 8)
+        bits = _value(
+            LIBRARY.wumbyra_parse(self.text, len(self.text), tape, len(tape), *words.buffer_info(), *code.buffer_info())
+        )
+        return Parsed(_front(code, bits), bits, words)
+
+    def flatten(self, code: BytesLike, bits: int) -> bytes:
+        """The letters that a code spells. Refused with 8 or 3."""
+        tape = _cells("B", MAX_LETTERS)
+        letters = _value(LIBRARY.wumbyra_flatten(*self._coded(code, bits), *tape.buffer_info()))
+        return tape[:letters].tobytes()
+
+    def canonicalize(self, code: BytesLike, bits: int) -> Code:
+        """The canonical code of what a code spells: equal for two codes exactly if they spell the same tape. Refused with 8 or 3."""
+        tape = _cells("B", MAX_LETTERS)
+        words = _cells("Q", 2 * (MAX_LETTERS + 1))
+        canonical = _cells("B", 17 * MAX_LETTERS + 8)
+        lent = *tape.buffer_info(), *words.buffer_info(), *canonical.buffer_info()
+        count = _value(LIBRARY.wumbyra_canonicalize(*self._coded(code, bits), *lent))
+        return Code(_front(canonical, count), count)
+
+    def span(self, tape: BytesLike, code: BytesLike, bits: int, node: int, visit: int) -> Span:
+        """Where the piece of the tape lies that a visit of a node covers, visits counted from 0. Refused with 3, 4, 8 or 10."""
+        tape, code = _bytes(tape), _bytes(code)
+        counts = _count(bits, "a bit count"), _count(node, "a node"), _count(visit, "a visit")
+        value = _value(
+            LIBRARY.wumbyra_span(self.text, len(self.text), tape, len(tape), code, len(code), *counts)
+        )
+        return Span(value >> 16, value & 0xFFFF)
+
+    def piece(self, tape: BytesLike, code: BytesLike, bits: int, node: int, visit: int) -> bytes:
+        """The piece itself. Refused as `span` is."""
+        start, length = self.span(tape, code, bits, node, visit)
+        return _bytes(tape)[start : start + length]
+
+    def total(self, code: BytesLike, bits: int, account: int) -> int:
+        """The litres of an account, 0 for one above 9. Refused with 8 or 3."""
+        return _value(LIBRARY.wumbyra_total(*self._coded(code, bits), _count(account, "an account")))
+
+    def totals(self, code: BytesLike, bits: int) -> List[int]:
+        """The litres of accounts 0 to 9, by one pass over the code. Refused with 8 or 3."""
+        litres = _cells("I", ACCOUNTS)
+        _value(LIBRARY.wumbyra_totals(*self._coded(code, bits), *litres.buffer_info()))
+        return litres.tolist()
+
+    def _coded(self, code: BytesLike, bits: int) -> tuple:
+        """The arguments that all calls on a code begin with."""
+        code = _bytes(code)
+        return self.text, len(self.text), code, len(code), _count(bits, "a bit count")

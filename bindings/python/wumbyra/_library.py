@@ -1,0 +1,59 @@
+"""The shared library: where it is looked for, and its calls as include/wumbyra.h declares them."""
+
+from __future__ import annotations
+
+import ctypes
+import os
+import pathlib
+
+# The calls declared here are those of version 1, whatever its minor number.
+MAJOR = 1
+INSIDE = pathlib.Path(__file__).resolve().with_name("libwumbyra.so")
+INSTALLED = [f"libwumbyra.so.{MAJOR}", "libwumbyra.so"]
+
+
+def _opened() -> ctypes.CDLL:
+    """The file that WUMBYRA_LIBRARY names; else the one that was installed with this package; else what the system's loader finds."""
+    named = os.environ.get("WUMBYRA_LIBRARY")
+    if named:
+        try:
+            return ctypes.CDLL(named)
+        except OSError as error:
+            raise ImportError(f"WUMBYRA_LIBRARY names a library that cannot be loaded: {error}") from None
+    if INSIDE.exists():
+        return ctypes.CDLL(str(INSIDE))
+    for name in INSTALLED:
+        try:
+            return ctypes.CDLL(name)
+        except OSError:
+            continue
+    raise ImportError(
+        "libwumbyra.so is not found: install this package with `pip install bindings/python` in the repository of Wumbyra, "
+        "or let WUMBYRA_LIBRARY name the file"
+    )
+
+
+def _declared(library: ctypes.CDLL) -> ctypes.CDLL:
+    library.wumbyra_version.argtypes = []
+    library.wumbyra_version.restype = ctypes.c_uint32
+    found = library.wumbyra_version()
+    if found // 10000 != MAJOR:
+        raise ImportError(f"this package is for version {MAJOR} of the library, and the one found says {found}")
+    buffer = [ctypes.c_void_p, ctypes.c_size_t]
+    number = [ctypes.c_uint32]
+    for name, parameters in {
+        "wumbyra_load": buffer,
+        "wumbyra_parse": 4 * buffer,
+        "wumbyra_flatten": 2 * buffer + number + buffer,
+        "wumbyra_canonicalize": 2 * buffer + number + 3 * buffer,
+        "wumbyra_span": 3 * buffer + 3 * number,
+        "wumbyra_total": 2 * buffer + 2 * number,
+        "wumbyra_totals": 2 * buffer + number + buffer,
+    }.items():
+        function = getattr(library, name)
+        function.argtypes = parameters
+        function.restype = ctypes.c_uint64
+    return library
+
+
+LIBRARY = _declared(_opened())
