@@ -1,12 +1,44 @@
-//! Links libwumbyra.a, which `rt staticlib wumbyra` writes to target/staticlib of the repository; WUMBYRA_LIB names another folder.
+//! Finds the library `libwumbyra.a` and links it. It is looked for in the folder that WUMBYRA_LIB_DIR names; without that variable in the
+//! folder where it is installed, if pkg-config is there and knows it; else in target/staticlib of the repository that this package is in.
+
+use std::path::{Path, PathBuf};
+use std::process::{exit, Command};
+
+const ARCHIVE: &str = "libwumbyra.a";
+
+/// The folder that pkg-config tells, if the archive is in it.
+fn installed() -> Option<PathBuf> {
+    let asked = Command::new("pkg-config")
+        .args(["--variable=libdir", "wumbyra"])
+        .output();
+    let told = asked.ok().filter(|said| said.status.success())?.stdout;
+    let folder = PathBuf::from(String::from_utf8(told).ok()?.trim());
+    folder.join(ARCHIVE).is_file().then_some(folder)
+}
+
+fn in_repository() -> PathBuf {
+    let here = std::env::var_os("CARGO_MANIFEST_DIR").expect("set by cargo");
+    Path::new(&here).join("../../target/staticlib")
+}
 
 fn main() {
-    println!("cargo:rerun-if-env-changed=WUMBYRA_LIB");
-    let folder = std::env::var("WUMBYRA_LIB").unwrap_or_else(|_| {
-        let here = std::env::var("CARGO_MANIFEST_DIR").expect("set by cargo");
-        format!("{here}/../../target/staticlib")
-    });
-    println!("cargo:rerun-if-changed={folder}/libwumbyra.a");
-    println!("cargo:rustc-link-search=native={folder}");
+    for variable in ["WUMBYRA_LIB_DIR", "PKG_CONFIG_PATH"] {
+        println!("cargo:rerun-if-env-changed={variable}");
+    }
+    let folder = match std::env::var_os("WUMBYRA_LIB_DIR") {
+        Some(named) => PathBuf::from(named),
+        None => installed().unwrap_or_else(in_repository),
+    };
+    let archive = folder.join(ARCHIVE);
+    println!("cargo:rerun-if-changed={}", archive.display());
+    if !archive.is_file() {
+        eprintln!(
+            "{} is missing: run `rt staticlib wumbyra` in the repository of Wumbyra, which writes it, or let WUMBYRA_LIB_DIR name the \
+             folder that has it.",
+            archive.display()
+        );
+        exit(1);
+    }
+    println!("cargo:rustc-link-search=native={}", folder.display());
     println!("cargo:rustc-link-lib=static=wumbyra");
 }

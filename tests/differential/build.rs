@@ -1,8 +1,8 @@
-//! Links libwumbyra.a, which `rt staticlib wumbyra` writes. WUMBYRA_LIB names its folder.
+//! Links libwumbyra.a, which `rt staticlib wumbyra` writes. WUMBYRA_LIB_DIR names its folder.
 
 fn main() {
-    println!("cargo:rerun-if-env-changed=WUMBYRA_LIB");
-    let folder = std::env::var("WUMBYRA_LIB").unwrap_or_else(|_| {
+    println!("cargo:rerun-if-env-changed=WUMBYRA_LIB_DIR");
+    let folder = std::env::var("WUMBYRA_LIB_DIR").unwrap_or_else(|_| {
         let here = std::env::var("CARGO_MANIFEST_DIR").expect("set by cargo");
         format!("{here}/../../target/staticlib")
     });

@@ -11,6 +11,8 @@
 //! make buffers that suffice. A slice is never null, is aligned, and a `&mut` slice overlaps nothing else, so every rule of the
 //! header holds by the types.
 
+#![deny(missing_docs)]
+
 mod calls;
 mod refusal;
 
@@ -40,21 +42,28 @@ pub const fn code_bytes_for(letters: usize) -> usize {
     17 * letters + 8
 }
 
-/// Bits, from the highest of each byte.
+/// A code: bits, from the highest of each byte on. It is a plain value, and any may be handed over: what is no whole code of the
+/// pattern is refused.
 #[derive(Clone, Debug, PartialEq, Eq, Hash)]
 pub struct Code {
+    /// Exactly as many bytes as the bits need; unused bits of the last one are 0.
     pub bytes: Vec<u8>,
+    /// How many bits are in use.
     pub bits: u32,
 }
 
-/// What reading a tape gives: the code, and the two words of each position.
+/// What reading a tape gives.
 #[derive(Clone, Debug, PartialEq, Eq)]
+#[non_exhaustive]
 pub struct Parsed {
+    /// The code of the greedy parse.
     pub code: Code,
+    /// The state sets, two words for each position: bit l of `words[2 * i + b]` says that the letters from position i on can be read
+    /// from node l on with flag b.
     pub words: Vec<u64>,
 }
 
-/// A pattern text that loads.
+/// A pattern text that loads. Each call reads the text again: about a microsecond.
 #[derive(Clone, Debug, PartialEq, Eq)]
 pub struct Pattern {
     text: Vec<u8>,
@@ -62,6 +71,7 @@ pub struct Pattern {
 }
 
 impl Pattern {
+    /// Loads a pattern text. Refused with 1 or 2.
     pub fn load(text: &[u8]) -> Result<Pattern, Refusal> {
         let lines = calls::load(text).value()?;
         Ok(Pattern {
@@ -75,11 +85,12 @@ impl Pattern {
         self.lines
     }
 
+    /// The text that was loaded.
     pub fn text(&self) -> &[u8] {
         &self.text
     }
 
-    /// The code of the greedy reading of a tape.
+    /// Reads a tape: the code of its greedy parse, and the state sets. Refused with 3, 4 or 5.
     pub fn parse(&self, tape: &[u8]) -> Result<Parsed, Refusal> {
         // A longer tape is refused before a buffer is looked at.
         let letters = tape.len().min(MAX_LETTERS);
@@ -92,7 +103,7 @@ impl Pattern {
         })
     }
 
-    /// The bit count; words and code are left in the buffers.
+    /// The bit count; words and code are left in the buffers. Refused with 3, 4, 6, 5 or 7; `words_for` and `code_bytes_for` suffice.
     pub fn parse_into(
         &self,
         tape: &[u8],
@@ -102,7 +113,7 @@ impl Pattern {
         calls::parse(&self.text, tape, words, code).value()
     }
 
-    /// The letters that a code spells.
+    /// The letters that a code spells. Refused with 8 or 3.
     pub fn flatten(&self, code: &Code) -> Result<Vec<u8>, Refusal> {
         let mut tape = vec![0; MAX_LETTERS];
         let letters = self.flatten_into(code, &mut tape)?;
@@ -110,22 +121,22 @@ impl Pattern {
         Ok(tape)
     }
 
-    /// The number of letters; they are left at the front of the buffer.
+    /// The number of letters; they are left at the front of the buffer. Refused with 8, 3 or 9; `MAX_LETTERS` cells suffice.
     pub fn flatten_into(&self, code: &Code, tape: &mut [u8]) -> Result<u32, Refusal> {
         calls::flatten(&self.text, &code.bytes, code.bits, tape).value()
     }
 
-    /// The canonical code of what a code spells: equal for two codes exactly if they spell the same tape.
+    /// The canonical code of what a code spells: equal for two codes exactly if they spell the same tape. Refused with 8 or 3.
     pub fn canonicalize(&self, code: &Code) -> Result<Code, Refusal> {
+        // How many letters there are is not known before; room for all is cheaper than another walk over the code.
         let mut tape = vec![0; MAX_LETTERS];
-        let letters = self.flatten_into(code, &mut tape)? as usize;
-        let mut words = vec![0; words_for(letters)];
-        let mut bytes = vec![0; code_bytes_for(letters)];
+        let mut words = vec![0; words_for(MAX_LETTERS)];
+        let mut bytes = vec![0; code_bytes_for(MAX_LETTERS)];
         let bits = self.canonicalize_into(code, &mut tape, &mut words, &mut bytes)?;
         Ok(code_of(bytes, bits))
     }
 
-    /// The bit count; letters, words and canonical code are left in the buffers.
+    /// The bit count; letters, words and canonical code are left in the buffers. Refused with 8, 3, 9, 6 or 7.
     pub fn canonicalize_into(
         &self,
         code: &Code,
@@ -136,7 +147,7 @@ impl Pattern {
         calls::canonicalize(&self.text, &code.bytes, code.bits, tape, words, canonical).value()
     }
 
-    /// Where the piece lies that visit `visit` of a node covers.
+    /// Where the piece of the tape lies that a visit of a node covers, visits counted from 0. Refused with 3, 4, 8 or 10.
     pub fn span(
         &self,
         tape: &[u8],
@@ -149,7 +160,7 @@ impl Pattern {
         Ok(start..start + length)
     }
 
-    /// The piece itself.
+    /// The piece itself. Refused as `span` is.
     pub fn piece<'a>(
         &self,
         tape: &'a [u8],
@@ -160,12 +171,12 @@ impl Pattern {
         Ok(&tape[self.span(tape, code, node, visit)?])
     }
 
-    /// The litres of an account; 0 for an account above 9.
+    /// The litres of an account; 0 for an account above 9. Refused with 8 or 3.
     pub fn total(&self, code: &Code, account: u32) -> Result<u32, Refusal> {
         calls::total(&self.text, &code.bytes, code.bits, account).value()
     }
 
-    /// The litres of accounts 0 to 9, by one pass over the code.
+    /// The litres of accounts 0 to 9, by one pass over the code. Refused with 8 or 3.
     pub fn totals(&self, code: &Code) -> Result<[u32; ACCOUNTS], Refusal> {
         let mut litres = [0; ACCOUNTS];
         self.totals_into(code, &mut litres)?;

@@ -2,18 +2,57 @@
 
 use std::fmt;
 
+/// Why a call is refused. As text it is the cause in words.
+///
+/// A later version may have more causes, so a `match` needs an arm for the rest.
 #[derive(Clone, Copy, Debug, PartialEq, Eq, Hash)]
+#[non_exhaustive]
 pub enum Refusal {
-    LineForm { line: u32 },
-    Tree { line: u32 },
+    /// 1: a line of the pattern text has not the form of a line.
+    LineForm {
+        /// The first such line, from 0; 64 if there is a 65th.
+        line: u32,
+    },
+    /// 2: the lines of the pattern are no tree.
+    Tree {
+        /// The first line that names a part wrongly; if none does, the lowest that no line names.
+        line: u32,
+    },
+    /// 3: the tape, or what a code spells, has over 3,600 letters.
     TapeTooLong,
-    TapeByte { position: u32 },
+    /// 4: a byte of the tape is no letter, which is 33 to 126.
+    TapeByte {
+        /// The first such position, from 0.
+        position: u32,
+    },
+    /// 5: no parse of the pattern spells the tape.
     Unreadable,
-    WordsTooShort { needed: u32 },
-    CodeTooShort { needed: u32 },
+    /// 6: fewer words are lent than the tape takes.
+    WordsTooShort {
+        /// Words needed.
+        needed: u32,
+    },
+    /// 7: the lent code buffer is shorter than the code.
+    CodeTooShort {
+        /// Bytes needed.
+        needed: u32,
+    },
+    /// 8: not a whole code of the pattern; for a span also a code of another tape.
     NotACode,
-    TapeTooShort { needed: u32 },
+    /// 9: the lent tape buffer is shorter than what the code spells.
+    TapeTooShort {
+        /// Letters needed.
+        needed: u32,
+    },
+    /// 10: there is no such node, or it has no visit of this number.
     NoSuchVisit,
+    /// A cause that this wrapper does not know: the library is a later one.
+    Unknown {
+        /// The cause's number.
+        number: u32,
+        /// The value beside it.
+        value: u32,
+    },
 }
 
 impl Refusal {
@@ -31,10 +70,11 @@ impl Refusal {
             8 => Refusal::NotACode,
             9 => Refusal::TapeTooShort { needed: value },
             10 => Refusal::NoSuchVisit,
-            _ => unreachable!("the library answers numbers 0 to 10"),
+            _ => Refusal::Unknown { number, value },
         })
     }
 
+    /// The cause's number, 1 to 10.
     pub fn number(self) -> u32 {
         match self {
             Refusal::LineForm { .. } => 1,
@@ -47,9 +87,11 @@ impl Refusal {
             Refusal::NotACode => 8,
             Refusal::TapeTooShort { .. } => 9,
             Refusal::NoSuchVisit => 10,
+            Refusal::Unknown { number, .. } => number,
         }
     }
 
+    /// What is returned beside the number: a line, a position, or how much is needed; 0 where there is nothing to tell.
     pub fn value(self) -> u32 {
         match self {
             Refusal::LineForm { line } | Refusal::Tree { line } => line,
@@ -61,6 +103,7 @@ impl Refusal {
             | Refusal::Unreadable
             | Refusal::NotACode
             | Refusal::NoSuchVisit => 0,
+            Refusal::Unknown { value, .. } => value,
         }
     }
 }
@@ -71,15 +114,30 @@ impl fmt::Display for Refusal {
             Refusal::LineForm { line } => {
                 write!(f, "line {line} of the pattern has not the form of a line")
             }
-            Refusal::Tree { line } => write!(f, "the pattern is no tree (line {line})"),
+            Refusal::Tree { line } => {
+                write!(f, "the lines of the pattern are no tree (line {line})")
+            }
             Refusal::TapeTooLong => write!(f, "the tape has over 3,600 letters"),
-            Refusal::TapeByte { position } => write!(f, "byte {position} of the tape is no letter"),
-            Refusal::Unreadable => write!(f, "no reading of the pattern spells the tape"),
+            Refusal::TapeByte { position } => {
+                write!(
+                    f,
+                    "the byte at position {position} of the tape is no letter"
+                )
+            }
+            Refusal::Unreadable => write!(f, "no parse of the pattern spells the tape"),
             Refusal::WordsTooShort { needed } => write!(f, "{needed} words are needed"),
             Refusal::CodeTooShort { needed } => write!(f, "{needed} code bytes are needed"),
-            Refusal::NotACode => write!(f, "not a whole code of the pattern, or of another tape"),
+            Refusal::NotACode => {
+                write!(f, "not a whole code of the pattern, or one of another tape")
+            }
             Refusal::TapeTooShort { needed } => write!(f, "{needed} tape cells are needed"),
-            Refusal::NoSuchVisit => write!(f, "there is no such visit"),
+            Refusal::NoSuchVisit => write!(f, "there is no such node, or no such visit of it"),
+            Refusal::Unknown { number, value } => {
+                write!(
+                    f,
+                    "a cause that this wrapper does not know, number {number} with value {value}"
+                )
+            }
         }
     }
 }

@@ -90,6 +90,8 @@ fn refusals() {
     assert_eq!(p1.span(b"a", &code("001"), 0, 1), Err(Refusal::NoSuchVisit));
     assert_eq!(Refusal::NoSuchVisit.number(), 10);
     assert_eq!((Refusal::CodeTooShort { needed: 3 }).value(), 3);
+    let words = Refusal::TapeByte { position: 17 }.to_string();
+    assert_eq!(words, "the byte at position 17 of the tape is no letter");
     assert!(p1.parse(&[b'a'; 3_600]).is_ok());
 }
 
