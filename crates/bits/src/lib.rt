@@ -1,5 +1,5 @@
 // Bits of codes and of state-set words. 01: "Codes fill bytes from the highest bit." Each function's contract sets what it returns, or leaves
-// in the buffer, equal to a definition of specs/Bits.antt. An index that a caller must keep inside is a `requires`; the two tests that
+// in the buffer, equal to a definition of crate binary, specs/Bits.antt. An index that a caller must keep inside is a `requires`; the two tests that
 // services call on whatever they are handed, `handed_good` and `open_nodes`, have none.
 // A write clears the rest of its last byte, so that a code written bit after bit has its unused bits 0 whatever the buffer held: nobody clears
 // first, and two writes in a row are one (law `write-write`). Indices and counts have 32 bits, since a good code has at most 524,288 bits. There
@@ -8,7 +8,7 @@ ghost use mathlib.Core.Path.{_≡_};
 ghost use mathlib.Core.List.{[], _∷_};
 ghost use Prim.Native.Nat.{_+_, _*_, _<_, _≤_};
 ghost use lib.ListN.{length, getD};
-ghost use Rattle.bits.specs.Bits.{bit, test-bit, bits-of, bit-at, number-at, cell-count, high-bits, write, handed-good, count-below};
+ghost use Rattle.binary.specs.Bits.{bit, test-bit, bits-of, bit-at, number-at, cell-count, high-bits, write, handed-good, count-below};
 use syntax::Pattern;
 
 fn wide(x: u8) -> u32

@@ -35,7 +35,7 @@ use Rattle.codes.specs.declared.Flattened.the-variants.{Letters, Refused as Not
 use Rattle.walks.specs.Whole.{whole-code, letters-of}
 use Rattle.codes.specs.Flatten.{flatten-order, flatten-answer, flatten-tape, flattened-answer, Flattens}
 use Rattle.codes.specs.FlattenLaws.{flatten-fills}
-use Rattle.walks.specs.Measures.{whole-handed, whole-value, spells}
+use Rattle.walks.specs.WholeLaws.{whole-handed, whole-value, spells}
 use Rattle.parser.specs.declared.Parsed.{Parsed}
 use Rattle.parser.specs.declared.Parsed.the-variants.{Bits as Parsed-bits, Refused as Not-parsed}
 use Rattle.parser.specs.Parse.{parsed-answer, early, Reads-greedily, Parses}

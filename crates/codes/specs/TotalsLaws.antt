@@ -31,7 +31,7 @@ use Rattle.semantics.specs.VisitLaws.{All}
 use Rattle.codes.specs.declared.TotalsOutcome.the-variants.{Added}
 use Rattle.walks.specs.Whole.{whole-code, letters-of}
 use Rattle.codes.specs.Totals.{entries-by, entries-of, totals-order, totals-answer, totals-litres, no-litres, refused-totals, Totals}
-use Rattle.walks.specs.Measures.{whole-handed, whole-value, spells}
+use Rattle.walks.specs.WholeLaws.{whole-handed, whole-value, spells}
 use Rattle.entries.specs.declared.Measured.{Measured}
 use Rattle.entries.specs.Entries.{accounts-in}
 use Rattle.entries.specs.Entering.{Wrote}

@@ -1,7 +1,7 @@
 -- A walk over all that is handed in: whether it is a whole code, how many letters that spells, and what is then written.
 use mathlib.Core.Path.{_≡_, refl, sym, ap, _∙_}
 use mathlib.Core.Bool.{Bool, true, false, cond, false≢true}
-use mathlib.Core.Option.{Option, none, some, Option·none-ne-some}
+use mathlib.Core.Option.{none, some, Option·none-ne-some}
 use mathlib.Core.List.{List, _++_}
 use Prim.Native.Nat.{ℕ, _*_, _-_, _≤_}
 use native.Mathlib.Omega.{arith}
@@ -10,7 +10,8 @@ use lib.ListN.{length, length-append, take, drop}
 use lib.Seq.{take-at}
 use Rattle.syntax.specs.Tree.{Tree}
 use Rattle.bits.specs.Bits.{held, unpack, handed-good}
-use Rattle.bits.specs.Handed.{handed-count}
+use Rattle.bits.specs.Reading.{held-length, held-every}
+use Rattle.bits.specs.Handed.{handed-fit, handed-count}
 use Rattle.semantics.specs.Value.{Value}
 use Rattle.semantics.specs.Code.{code as bits-of, code-limit}
 use Rattle.semantics.specs.Accounts.{entries}
@@ -21,13 +22,12 @@ use Rattle.semantics.specs.Positions.{see, seen}
 use Rattle.walks.specs.Whole.{whole-code, letters-of}
 use Rattle.walks.specs.Walks.{cap}
 use Rattle.walks.specs.Words.{same-seen}
-use Rattle.walks.specs.Handed.{held-length}
-use Rattle.walks.specs.Measures.{handed-fit, whole-value}
+use Rattle.walks.specs.WholeLaws.{whole-value}
 use Rattle.entries.specs.declared.Entered.{Entered}
 use Rattle.entries.specs.declared.Measured.{Measured}
 use Rattle.entries.specs.Entries.{Entries, entries-at}
 use Rattle.entries.specs.Entering.{Enters, Wrote, enters-some, enters-none}
-use Rattle.entries.specs.WholeLaws.{every, whole-entries, entered-count}
+use Rattle.entries.specs.WholeLaws.{whole-entries, entered-count}
 
 abbrev pub no-measure : Measured
 no-measure = record { whole = false; letters = 0 }
@@ -51,8 +51,8 @@ module _ (t : Tree) (code : List ℕ) (count : ℕ) (fit : count ≤ length code
       → held 8 code count ≡ bits-of t v
   cut v r b n =
       let e : length (bits-of t v) ≡ count = omega (arith, n, length-append (bits-of t v) r, ap length b) in
-      sym (take-at (held 8 code count) (drop count (unpack 8 code)) count (held-length code count fit))
-      ∙ ap (take count) (sym (every code count) ∙ b) ∙ take-at (bits-of t v) r count e
+      sym (take-at (held 8 code count) (drop count (unpack 8 code)) count (held-length 8 code count fit))
+      ∙ ap (take count) (sym (held-every 8 code count) ∙ b) ∙ take-at (bits-of t v) r count e
 
   stops-value : (es : Entries) → entries-at code t 0 0 ≡ some (es, count) → (v : Value t) × (value-of t (held 8 code count) ≡ some v)
   unfolding entries-at see
@@ -71,7 +71,7 @@ module _ (t : Tree) (code : List ℕ) (count : ℕ) where
       let fit = handed-fit code count g in
       let (v, q) = stops-value t code count fit es e in
       let h = handed-count code count g in
-      rw (g, q, held-length code count fit, le-leb count code-limit (omega arith))
+      rw (g, q, held-length 8 code count fit, le-leb count code-limit (omega arith))
 
   -- a whole code is walked to its last bit
   not-whole : ((es : Entries) → entries-at code t 0 0 ≡ some (es, count) → ⊥) → whole-code t code count ≡ false

@@ -6,11 +6,12 @@ use mathlib.Core.List.{List, [], _∷_, _++_}
 use Prim.Native.Nat.{ℕ, suc, _*_, _-_, _≤_}
 use native.Mathlib.Omega.{arith}
 use native.Mathlib.Nat.{zero-add}
-use lib.ListN.{length, length-append, drop, take-append-drop}
-use lib.Seq.{sets, sets-eq, take-all}
+use lib.ListN.{length, length-append, drop}
+use lib.Seq.{sets, sets-eq}
 use Rattle.syntax.specs.Tree.{Tree}
 use Rattle.bits.specs.Bits.{unpack, held, in-front}
-use Rattle.bits.specs.Packing.{length-unpack}
+use Rattle.bits.specs.Reading.{held-length, held-every}
+use Rattle.bits.specs.Handed.{handed-fit}
 use Rattle.semantics.specs.Value.{Value}
 use Rattle.semantics.specs.Code.{code as bits-of}
 use Rattle.semantics.specs.Accounts.{entries}
@@ -21,8 +22,7 @@ use Rattle.semantics.specs.CodeLaws.{value-of-sound}
 use Rattle.semantics.specs.Positions.{see, seen}
 use Rattle.walks.specs.Whole.{whole-code, letters-of}
 use Rattle.walks.specs.Words.{same-seen}
-use Rattle.walks.specs.Handed.{held-length}
-use Rattle.walks.specs.Measures.{handed-fit, whole-handed, whole-value, spells}
+use Rattle.walks.specs.WholeLaws.{whole-handed, whole-value, spells}
 use Rattle.entries.specs.Entries.{Entries, accounts-in, entries-at}
 use Rattle.entries.specs.Entering.{Wrote}
 
@@ -32,13 +32,6 @@ unfolding see
 see-front t f v r =
     let e : length (bits-of t v ++ r) - length r ≡ length (bits-of t v) = omega (arith, length-append (bits-of t v) r) in
     ap (seen (length (bits-of t v ++ r)) t f) (read-code t v r) ∙ ap (λ n. some (f v, n)) e
-
--- every bit of the bytes: those held, and the rest
-pub every : (code : List ℕ) (count : ℕ) → held 8 code (length code * 8) ≡ held 8 code count ++ drop count (unpack 8 code)
-unfolding held
-every code count =
-    let n : length (unpack 8 code) ≤ length code * 8 = rw length-unpack (omega arith) in
-    take-all (length code * 8) (unpack 8 code) n ∙ sym (take-append-drop count (unpack 8 code))
 
 pub length-letters : (es : Entries) → length (letters es) ≡ length es
 length-letters [] = refl
@@ -62,9 +55,9 @@ module _ (t : Tree) (code : List ℕ) (count : ℕ) (w : whole-code t code count
     unfolding entries-at
     whole-entries o =
         let b = value-of-sound t (held 8 code count) v e in
-        ap (λ l. see l t (entries t o) 0) (every code count ∙ ap (λ l. l ++ drop count (unpack 8 code)) (sym b))
+        ap (λ l. see l t (entries t o) 0) (held-every 8 code count ∙ ap (λ l. l ++ drop count (unpack 8 code)) (sym b))
         ∙ see-front t (entries t o) v (drop count (unpack 8 code))
-        ∙ ap (λ n. some (entries t o v, n)) (ap length b ∙ held-length code count fit)
+        ∙ ap (λ n. some (entries t o v, n)) (ap length b ∙ held-length 8 code count fit)
 
     value-letters : letters (entries t 0 v) ≡ letters-of t code count
     value-letters = entries-flat t 0 v ∙ sym (spells t code count (whole-handed t code count w) v e)

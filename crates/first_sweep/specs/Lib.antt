@@ -1,7 +1,7 @@
 pub mod StateSets
 pub mod StateLaws
 pub mod Steps
-pub mod Joining
+pub mod Stepping
 pub mod Sweep
 pub mod Memo
 pub mod SweepWords

@@ -16,7 +16,7 @@ use Rattle.semantics.specs.Basics.{eqb-self, eqb-eq, and-fst, and-snd}
 use Rattle.first_sweep.specs.declared.Words.{Words}
 use Rattle.table.specs.Cells.{follower-in}
 use Rattle.table.specs.HandDown.{equal}
-use Rattle.masks.specs.Unions.{union, union-same}
+use Rattle.bits.specs.Unions.{union, union-same}
 use Rattle.first_sweep.specs.Steps.{behind, live, step-of}
 use Rattle.masks.specs.Leaves.{entry}
 

@@ -20,8 +20,8 @@ use Rattle.semantics.specs.FirstSweepLaws.{bool-ext}
 use Rattle.semantics.specs.AutomatonLaws.{after, can-iff-accepts}
 use Rattle.table.specs.Cells.{Node-at}
 use Rattle.masks.specs.Nodes.{node-word, Planted, node-at, word-small, word-says, word-is, word-past-last}
-use Rattle.masks.specs.Closure.{reaches, nowhere, leaf-mask, end-mask, any-same, reaches-split, reaches-can}
-use Rattle.masks.specs.Unions.{pick, union, pick-bit, union-bit, pick-lt, union-lt}
+use Rattle.masks.specs.Closure.{reaches, nowhere, leaf-mask, end-mask, reaches-split, reaches-can}
+use Rattle.bits.specs.Unions.{any-same, pick, union, pick-bit, union-bit, pick-lt, union-lt}
 use Rattle.masks.specs.Planting.{root-planted}
 use Rattle.first_sweep.specs.StateSets.{Is-state-set, state-set}
 

@@ -22,7 +22,7 @@ use Rattle.table.specs.Cells.{follower-in, loops-in, state-index, Followed, Hol
 use Rattle.masks.specs.Leaves.{takes, takers, entry}
 use Rattle.masks.specs.Planting.{root-planted, same-node}
 use Rattle.masks.specs.Closure.{nowhere, leaf-mask, end-mask}
-use Rattle.masks.specs.Unions.{pick, union}
+use Rattle.bits.specs.Unions.{pick, union}
 use Rattle.first_sweep.specs.StateSets.{state-set}
 use Rattle.first_sweep.specs.StateLaws.{state-bit, state-masks}
 

@@ -14,7 +14,7 @@ use Rattle.semantics.specs.Sweeps.{at-end}
 use Rattle.table.specs.Cells.{follower-in, Holds}
 use Rattle.masks.specs.Nodes.{word-past-last}
 use Rattle.masks.specs.Closure.{leaf-mask}
-use Rattle.masks.specs.Unions.{pick, union}
+use Rattle.bits.specs.Unions.{pick, union}
 use Rattle.first_sweep.specs.StateSets.{state-set, words}
 use Rattle.masks.specs.Leaves.{takes, takers, entry}
 use Rattle.first_sweep.specs.Steps.{behind, live, step-of, state-step, state-end}

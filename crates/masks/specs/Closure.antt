@@ -1,14 +1,14 @@
 -- Empty steps: which nodes are open, once it is known which letter leaves are. A leaf is open if it takes the letter here and its follower
 -- is open behind it with flag 1; every other node is open if it comes by steps that read nothing to an open leaf or to the accepting end.
 use mathlib.Core.Path.{_≡_, refl, sym, ap, ap₂, fun-ext, _∙_}
-use mathlib.Core.Bool.{Bool, true, false, _&&_, _||_, and-true, and-false, or-false}
+use mathlib.Core.Bool.{Bool, true, false, _&&_, _||_, and-false, or-false}
 use mathlib.Core.List.{List}
 use Prim.Native.Nat.{ℕ, zero, suc, _≤_, _<_}
 use native.Mathlib.Omega.{arith}
 use native.Mathlib.Decide.{decLt}
 use lib.Dec.{eqb}
 use Rattle.syntax.specs.Tree.{Label, Tree, nothing, letter, range, seq, alt, star}
-use Rattle.semantics.specs.Basics.{eqb-eq, eqb-no}
+use Rattle.bits.specs.Unions.{any-to, any-none, any-one}
 use Rattle.semantics.specs.Automaton.{Location, top, fst, snd, lft, rgt, rnd}
 use Rattle.semantics.specs.Sweeps.{can, at-end}
 use Rattle.semantics.specs.FirstSweepLaws.{can-star}
@@ -108,35 +108,6 @@ reaches-none : {root : Tree} (t : Tree) (s : Location root t) (b : Bool) → rea
 reaches-none t s b = ap (reach nowhere t) (passes-none s b) ∙ reach-none t
 
 -- ---- one leaf after the other
-abbrev pub any-to : ℕ → (ℕ → Bool) → Bool
-any-to zero f = false
-any-to (suc n) f = f n || any-to n f
-
-pub any-same : (n : ℕ) (f g : ℕ → Bool) → ((x : ℕ) → x < n → f x ≡ g x) → any-to n f ≡ any-to n g
-any-same zero f g h = refl
-any-same (suc n) f g h = ap₂ (λ x y. x || y) (h n (omega arith)) (any-same n f g (λ x l. h x (omega arith)))
-
-any-none : (n l : ℕ) (g : ℕ → Bool) → n ≤ l → any-to n (λ x. g x && eqb x l) ≡ false
-any-none zero l g h = refl
-any-none (suc n) l g h = rw (eqb-lt n l (omega arith), and-false (g n)) (any-none n l g (omega arith))
-  where
-    eqb-lt : (n l : ℕ) → n < l → eqb n l ≡ false
-    eqb-lt n l h = go (eqb n l) refl
-      where
-        go : (b : Bool) → eqb n l ≡ b → b ≡ false
-        go true e = absurd (omega (arith, eqb-eq n l e))
-        go false e = refl
-
-pub any-one : (n l : ℕ) (g : ℕ → Bool) → l < n → any-to n (λ x. g x && eqb x l) ≡ g l
-any-one zero l g h = absurd (omega arith)
-any-one (suc n) l g h = go (any-one n l g) (eqb n l) refl
-  where
-    go : (l < n → any-to n (λ x. g x && eqb x l) ≡ g l) → (b : Bool) → eqb n l ≡ b → ((g n && b) || any-to n (λ x. g x && eqb x l)) ≡ g l
-    go ih true e =
-        let q : n ≡ l = eqb-eq n l e in
-        rw (any-none n l g (omega arith)) (or-false (g n && true) ∙ and-true (g n) ∙ ap g q)
-    go ih false e = rw (and-false (g n)) (ih (omega (arith, eqb-no n l e)))
-
 module _ {root : Tree} (t : Tree) (s : Location root t) (b : Bool) (g : ℕ → Bool) where
   by-leaf : (n : ℕ) → reaches b (λ y. any-to n (λ x. g x && eqb x y)) false t s ≡ any-to n (λ x. g x && reaches b (eqb x) false t s)
   by-leaf zero = reaches-none t s b

@@ -26,7 +26,7 @@ use Rattle.semantics.specs.Basics.{eqb-self, eqb-eq, eqb-no}
 use Rattle.table.specs.HandDown.{first-part, second-part, label-of}
 use Rattle.masks.specs.declared.firsts.First.{First}
 use Rattle.masks.specs.Closure.{reach, nowhere, reach-or, reach-none}
-use Rattle.masks.specs.Unions.{pick, pick-bit}
+use Rattle.bits.specs.Unions.{pick, pick-bit}
 
 -- those of a line, from two arrays
 abbrev pub first-at : List ℕ → List Bool → ℕ → First

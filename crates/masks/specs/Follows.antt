@@ -23,7 +23,7 @@ use Rattle.table.specs.HandDown.{Given, All-given, Hands, given-start, given-ne
 use Rattle.masks.specs.declared.firsts.First.{First}
 use Rattle.masks.specs.declared.follows.Follow.{Follow}
 use Rattle.masks.specs.Closure.{passes, nowhere, reach-none}
-use Rattle.masks.specs.Unions.{pick}
+use Rattle.bits.specs.Unions.{pick}
 use Rattle.masks.specs.Firsts.{first-at, Firsts, nothing-bit, behind-bit, nowhere-through}
 
 -- what follows the root: the end

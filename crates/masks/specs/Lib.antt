@@ -1,9 +1,7 @@
 pub mod Nodes
 pub mod Planting
 pub mod Closure
-pub mod Unions
 pub mod Leaves
-pub mod Lowest
 pub mod Firsts
 pub mod Follows
 pub mod Masks

@@ -2,11 +2,10 @@
 use mathlib.Core.Path.{_≡_, refl, sym, ap, ap₂, _∙_}
 use mathlib.Core.Bool.{Bool, true, false, _&&_}
 use mathlib.Core.List.{List}
-use Prim.Native.Nat.{ℕ, suc, _+_, _-_, _*_, _^_, _≤_, _<_}
+use Prim.Native.Nat.{ℕ, _+_, _-_, _*_, _<_}
 use native.Mathlib.Omega.{arith}
 use lib.Dec.{eqb}
 use lib.Bits.{bitOr}
-use lib.Pow.{pow-mono}
 use lib.ListN.{length, getD}
 use Rattle.syntax.specs.declared.Leaf.{Leaf}
 use Rattle.syntax.specs.declared.Leaf.the-variants.{Nothing, Letter, Range}
@@ -22,7 +21,7 @@ use Rattle.semantics.specs.Automaton.{Location}
 use Rattle.table.specs.HandDown.{Rooted, label-of, line-made, made-has-index, Given}
 use Rattle.masks.specs.Nodes.{Predicate, node-word, Planted, index-lt, word-is}
 use Rattle.masks.specs.Closure.{passes, reaches, nowhere, leaf-mask, end-mask}
-use Rattle.masks.specs.Unions.{pick}
+use Rattle.bits.specs.Unions.{pick}
 use Rattle.masks.specs.Planting.{same-node}
 use Rattle.masks.specs.Leaves.{takes, takers, entry}
 use Rattle.masks.specs.Firsts.{first-at, Firsts, behind-bit, nowhere-through}
@@ -32,18 +31,6 @@ use Rattle.masks.specs.Follows.{follow-at, Follow-of, Down, follow-given
 pub record Filled {A : Type 0} (d : A) (f : ℕ → A) (size i : ℕ) (xs : List A) : Type 0 where
   pub long : length xs ≡ size
   pub cells : (l : ℕ) → l < i → getD xs l d ≡ f l
-
--- a word that is filled from bit 0 on
-pub word-next : (i : ℕ) (f : ℕ → Bool) (x v : ℕ) → x ≡ word-of i f → v ≡ bit (f i) * 2 ^ i → v + x ≡ word-of (i + 1) f
-unfolding word-of
-word-next i f x v e g = let q : i + 1 ≡ suc i = omega arith in rw (q, e, g) refl
-
-pub word-start : (f : ℕ → Bool) → 0 ≡ word-of 0 f
-unfolding word-of
-word-start f = refl
-
-pub word-fits : (i : ℕ) (f : ℕ → Bool) (x v : ℕ) → i < 64 → x ≡ word-of i f → v ≡ bit (f i) * 2 ^ i → v + x < 2 ^ 64
-word-fits i f x v h e g = omega (arith, word-next i f x v e g, word-lt (i + 1) f, pow-mono (let k : i + 1 ≤ 64 = omega arith in k))
 
 -- ---- rows: for each node the leaves that it comes to with a flag, those inside it and those behind it
 abbrev pub row : (firsts : List ℕ) → (nulls : List Bool) → (behind : List ℕ) → (flag : ℕ) → ℕ → ℕ

@@ -26,7 +26,7 @@ use Rattle.bits.specs.Words.{word-bit, word-past, test-or, test-single}
 use Rattle.semantics.specs.Basics.{eqb-self, and-fst, and-snd}
 use Rattle.table.specs.HandDown.{equal}
 use Rattle.masks.specs.Leaves.{letter-cells, letter-cell, entry}
-use Rattle.masks.specs.Lowest.{same-bits, lowest-lt, lowest-on, lowest-cleared, lowest-out}
+use Rattle.bits.specs.Lowest.{same-bits, lowest-lt, lowest-on, lowest-cleared, lowest-out}
 use Rattle.masks.specs.Masks.{Filled, column, leaf-takes, node-takes, line-takers}
 
 -- the bit of line i in the chosen cells, and nothing else changed
@@ -104,12 +104,12 @@ module _ (row i mark : ℕ) (before : List ℕ) (m : mark ≡ bit true * 2 ^ i) 
       (rest : ℕ) (now : List ℕ) (x v : ℕ) → length before ≡ 64 → Row-left row i before rest now → 1 ≤ rest → x ≡ trailingZeros 64 rest
       → v ≡ bitOr (entry now x) mark
       → Row-left row i before (bitAnd rest (rest - 1)) (set now x v)
-  row-next rest now x v long r one e f = rw (lowest-cleared rest x one (r .few) e) (record {
+  row-next rest now x v long r one e f = rw (lowest-cleared 64 rest x one (r .few) e) (record {
     few = omega (arith, r .few);
     it =
-        marking-next (test-bit row) i before (test-bit rest) (test-bit (rest - 2 ^ x)) now x v (omega (arith, lowest-lt rest x one (r .few) e))
-        (lowest-on rest x one (r .few) e)
-        (λ y h. lowest-out rest x one (r .few) e y (omega arith)) (f ∙ ap (bitOr (entry now x)) m) (r .it);
+        marking-next (test-bit row) i before (test-bit rest) (test-bit (rest - 2 ^ x)) now x v (omega (arith, lowest-lt 64 rest x one (r .few) e))
+        (lowest-on 64 rest x one (r .few) e)
+        (λ y h. lowest-out 64 rest x one (r .few) e y (omega arith)) (f ∙ ap (bitOr (entry now x)) m) (r .it);
   })
 
   pub row-end : (rest : ℕ) (now : List ℕ) → rest ≡ 0 → Row-left row i before rest now → Marked (test-bit row) i before now

@@ -4,7 +4,7 @@ ghost use mathlib.Core.Bool.{_&&_, _||_};
 ghost use Prim.Native.Nat.{_*_, _^_, _<_};
 ghost use lib.Bits.{bitOr};
 ghost use Rattle.bits.specs.Bits.{bit};
-ghost use Rattle.masks.specs.Unions.{pick};
+ghost use Rattle.bits.specs.Unions.{pick};
 
 // The word, joined with the mask where it is chosen.
 pub(crate) fn join(word: u64, mask: u64, chosen: bool) -> u64

@@ -12,7 +12,7 @@ use Rattle.semantics.specs.Visits.{Visit}
 use Rattle.semantics.specs.VisitLaws.{visit-shows}
 use Rattle.codes.specs.Spells.{code-of-tape}
 use Rattle.spans.specs.declared.Spanned.{Spanned}
-use Rattle.walks.specs.Measures.{whole-handed, whole-value, spells}
+use Rattle.walks.specs.WholeLaws.{whole-handed, whole-value, spells}
 use Rattle.spans.specs.Spans.{visit-by, span-visit, start-of, size-of, span-shown, piece-of, Spans}
 use Rattle.spans.specs.SpanLaws.{tape-whole, tape-letters, shown-clear}
 

@@ -21,14 +21,14 @@ use Rattle.syntax.specs.Tree.{Tree}
 use Rattle.syntax.specs.Trees.{root}
 use Rattle.syntax.specs.Table.{obeys}
 use Rattle.bits.specs.Bits.{held}
-use Rattle.bits.specs.Handed.{handed-count}
+use Rattle.bits.specs.Handed.{handed-fit, handed-count}
 use Rattle.semantics.specs.Value.{flat}
 use Rattle.semantics.specs.Visits.{Visit, visits, visits-at, visit}
 use Rattle.semantics.specs.Code.{code-limit}
 use Rattle.table.specs.Cells.{tree-in, Holds}
 use Rattle.table.specs.CellLaws.{holds-tree}
 use Rattle.walks.specs.Whole.{whole-code, letters-of}
-use Rattle.walks.specs.Measures.{value-see, handed-fit, whole-handed, whole-value, spells}
+use Rattle.walks.specs.WholeLaws.{value-see, whole-handed, whole-value, spells}
 use Rattle.codes.specs.Spells.{same, code-of-tape}
 use Rattle.codes.specs.SpellLaws.{same-length}
 use Rattle.spans.specs.declared.SpanOutcome.the-variants.{Shown}

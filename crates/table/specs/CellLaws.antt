@@ -19,6 +19,7 @@ use Rattle.syntax.specs.Table.{blank, line-at, node-at, node-good, line-good, o
 use Rattle.syntax.specs.Tree.{Tree, index}
 use Rattle.syntax.specs.Trees.{made, tree-of, root}
 use Rattle.syntax.specs.TreeLaws.{bit, Below, Rules, obeys-iff, tree-line, tree-same, made-index}
+use Rattle.bits.specs.Fields.{put-above, kept-low, kept-field}
 use Rattle.semantics.specs.Automaton.{Location, follower}
 use Rattle.semantics.specs.AutomatonLaws.{loops}
 use Rattle.table.specs.declared.Numbers.{Numbers}
@@ -102,31 +103,13 @@ pub record Behind-put (table : List ℕ) (l v : ℕ) (now : List ℕ) : Type 0 w
   pub lines : (k : ℕ) → line-in now k ≡ line-in table k
   pub stores : Stores (behind-in table) l v (behind-in now)
 
--- what stands above 32 bits does not change the digits below
-low-digits : (c v : ℕ)
-    → ((c % 4294967296 + v * 4294967296) % 256 ≡ c % 256) × ((c % 4294967296 + v * 4294967296) / 256 % 256 ≡ c / 256 % 256)
-    × ((c % 4294967296 + v * 4294967296) / 65536 % 256 ≡ c / 65536 % 256) × ((c % 4294967296 + v * 4294967296) / 16777216 % 256 ≡ c / 16777216 % 256)
-low-digits c v = go (c % 4294967296) (c / 4294967296) c (omega arith)
-  where
-    go : (r q c : ℕ) → c ≡ r + q * 4294967296
-        → ((r + v * 4294967296) % 256 ≡ c % 256) × ((r + v * 4294967296) / 256 % 256 ≡ c / 256 % 256)
-        × ((r + v * 4294967296) / 65536 % 256 ≡ c / 65536 % 256) × ((r + v * 4294967296) / 16777216 % 256 ≡ c / 16777216 % 256)
-    go r q c e =
-        let a1 : (r + v * 4294967296) / 256 ≡ r / 256 + v * 16777216 = omega arith in
-        let b1 : c / 256 ≡ r / 256 + q * 16777216 = omega arith in
-        let a2 : (r + v * 4294967296) / 65536 ≡ r / 65536 + v * 65536 = omega arith in
-        let b2 : c / 65536 ≡ r / 65536 + q * 65536 = omega arith in
-        let a3 : (r + v * 4294967296) / 16777216 ≡ r / 16777216 + v * 256 = omega arith in
-        let b3 : c / 16777216 ≡ r / 16777216 + q * 256 = omega arith in
-        (omega arith, rw (a1, b1) (omega arith), rw (a2, b2) (omega arith), rw (a3, b3) (omega arith))
-
 pub behind-put : (table : List ℕ) (l v : ℕ) → l < length table → Behind-put table l v (set table l (getD table l 0 % 4294967296 + v * 4294967296))
 unfolding cell-node cell-account cell-behind
 behind-put table l v h = record {
   long = length-set table l cell;
   lines = λ k. line k (equal k l);
   stores = record {
-    here = ap (λ c. c / 4294967296) same ∙ above;
+    here = ap (λ c. c / 4294967296) same ∙ put-above 32 old v;
     other = λ k n. ap (λ c. c / 4294967296) (getD-set-other table l k cell 0 n);
   };
 }
@@ -140,11 +123,20 @@ behind-put table l v h = record {
     same : getD (set table l cell) l 0 ≡ cell
     same = getD-set-same table l cell 0 h
 
-    above : (old % 4294967296 + v * 4294967296) / 4294967296 ≡ v
-    above = omega arith
+    kind : cell % 256 ≡ old % 256
+    kind = kept-low 32 old v 8 (omega arith)
 
-    kept : cell-line (old % 4294967296 + v * 4294967296) ≡ cell-line old
-    kept = rw (low-digits old v .0, low-digits old v .1, low-digits old v .2, low-digits old v .3) refl
+    first : cell / 256 % 256 ≡ old / 256 % 256
+    first = kept-field 32 old v 8 8 (omega arith)
+
+    second : cell / 65536 % 256 ≡ old / 65536 % 256
+    second = kept-field 32 old v 8 16 (omega arith)
+
+    account : cell / 16777216 % 256 ≡ old / 16777216 % 256
+    account = kept-field 32 old v 8 24 (omega arith)
+
+    kept : cell-line cell ≡ cell-line old
+    kept = rw (kind, first, second, account) refl
 
     line : (k : ℕ) → Dec (k ≡ l) → line-in (set table l cell) k ≡ line-in table k
     line k (yes e) = ap (line-in (set table l cell)) e ∙ ap cell-line same ∙ kept ∙ ap (line-in table) (sym e)

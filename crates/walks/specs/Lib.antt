@@ -6,4 +6,4 @@ pub mod Looks
 pub mod Words
 pub mod Lines
 pub mod Walks
-pub mod Measures
+pub mod WholeLaws

@@ -11,15 +11,16 @@ use lib.ListN.{length}
 use Rattle.syntax.specs.Letter.{in-range}
 use Rattle.syntax.specs.Tree.{Label, Tree, nothing, letter, range, seq, alt, star}
 use Rattle.bits.specs.Bits.{bit-at, number-at, held}
+use Rattle.bits.specs.Reading.{held-length, held-bit}
 use Rattle.semantics.specs.Value.{Value}
 use Rattle.semantics.specs.Positions.{Seen, see, and-then}
 use Rattle.semantics.specs.PositionLaws.{see-stays, see-nothing, see-letter, see-short, see-range, see-outside, see-seq, see-alt-none, see-left, see-right}
 use Rattle.semantics.specs.PositionLaws.{see-star-none, see-stop, see-round}
-use Rattle.walks.specs.Handed.{held-length, held-bit, held-number}
+use Rattle.walks.specs.Handed.{held-number}
 
 module _ (code : List ℕ) (count : ℕ) (fit : count ≤ length code * 8) where
   many : length (held 8 code count) ≡ count
-  many = held-length code count fit
+  many = held-length 8 code count fit
 
   pub look-stays : {X : Type 0} (t : Tree) (f : Value t → X) (at : ℕ) → at ≤ count → (x : X) (j : ℕ)
       → see (held 8 code count) t f at ≡ some (x, j) → (at ≤ j) × (j ≤ count)
@@ -40,7 +41,7 @@ module _ (code : List ℕ) (count : ℕ) (fit : count ≤ length code * 8) where
       pub look-range : (q : in-range low high c ≡ true) → see (held 8 code count) (range m low high) f at ≡ some (f (c, q), at + 8)
       look-range q =
           let k = many in
-          let n = held-number code count fit at h ∙ sym e in
+          let n = held-number 8 code count fit at 8 h ∙ sym e in
           see-range (held 8 code count) m low high f at (omega arith) (ap (in-range low high) n ∙ q) ∙ go _ (sym n) (ap (in-range low high) n ∙ q)
         where
           go : (d : ℕ) → c ≡ d → (p : in-range low high d ≡ true) → _≡_ {A = Seen X} (some (f (d, p), at + 8)) (some (f (c, q), at + 8))
@@ -51,7 +52,7 @@ module _ (code : List ℕ) (count : ℕ) (fit : count ≤ length code * 8) where
       pub look-outside : in-range low high c ≡ false → see (held 8 code count) (range m low high) f at ≡ none
       look-outside q =
           let k = many in
-          see-outside (held 8 code count) m low high f at (omega arith) (ap (in-range low high) (held-number code count fit at h ∙ sym e) ∙ q)
+          see-outside (held 8 code count) m low high f at (omega arith) (ap (in-range low high) (held-number 8 code count fit at 8 h ∙ sym e) ∙ q)
 
   pub look-seq : {X Y Z : Type 0} (op : X → Y → Z) (m : Label) (t u : Tree) (f : Value (seq m t u) → Z) (g : Value t → X) (h : Value u → Y)
       → ((v : Value t) (x : Value u) → f (v, x) ≡ op (g v) (h x)) → (at : ℕ) → at ≤ count
@@ -64,11 +65,11 @@ module _ (code : List ℕ) (count : ℕ) (fit : count ≤ length code * 8) where
 
     pub look-left : at < count → bit-at 8 code at ≡ false
         → see (held 8 code count) (alt m t u) f at ≡ see (held 8 code count) t (λ v. f (inl v)) (at + 1)
-    look-left h z = let k = many in see-left (held 8 code count) m t u f at (omega arith) (held-bit code count fit at h ∙ z)
+    look-left h z = let k = many in see-left (held 8 code count) m t u f at (omega arith) (held-bit 8 code count fit (omega arith) at h ∙ z)
 
     pub look-right : at < count → bit-at 8 code at ≡ true
         → see (held 8 code count) (alt m t u) f at ≡ see (held 8 code count) u (λ v. f (inr v)) (at + 1)
-    look-right h z = let k = many in see-right (held 8 code count) m t u f at (omega arith) (held-bit code count fit at h ∙ z)
+    look-right h z = let k = many in see-right (held 8 code count) m t u f at (omega arith) (held-bit 8 code count fit (omega arith) at h ∙ z)
 
   -- a star, whichever bit means another round
   module _ {Z : Type 0} (m : Label) (again : Bool) (t : Tree) (f : Value (star m again t) → Z) (at : ℕ) where
@@ -76,7 +77,7 @@ module _ (code : List ℕ) (count : ℕ) (fit : count ≤ length code * 8) where
     look-star-none h = let k = many in see-star-none (held 8 code count) m again t f at (omega arith)
 
     pub look-stop : at < count → bit-at 8 code at ≡ not again → see (held 8 code count) (star m again t) f at ≡ some (f [], at + 1)
-    look-stop h z = let k = many in see-stop (held 8 code count) m again t f at (omega arith) (held-bit code count fit at h ∙ z)
+    look-stop h z = let k = many in see-stop (held 8 code count) m again t f at (omega arith) (held-bit 8 code count fit (omega arith) at h ∙ z)
 
     pub look-round : {X Y : Type 0} (op : X → Y → Z) (g : Value t → X) (h : Value (star m again t) → Y)
         → ((v : Value t) (vs : Value (star m again t)) → f (v ∷ vs) ≡ op (g v) (h vs)) → at < count → bit-at 8 code at ≡ again
@@ -84,4 +85,4 @@ module _ (code : List ℕ) (count : ℕ) (fit : count ≤ length code * 8) where
         ≡ and-then op (see (held 8 code count) t g (at + 1)) (see (held 8 code count) (star m again t) h)
     look-round op g h s lt z =
         let k = many in
-        see-round (held 8 code count) m again t f at op g h s (omega arith) (held-bit code count fit at lt ∙ z)
+        see-round (held 8 code count) m again t f at op g h s (omega arith) (held-bit 8 code count fit (omega arith) at lt ∙ z)

@@ -3,7 +3,7 @@ use mathlib.Core.Path.{_≡_, refl, sym, ap, ap₂, subst, _∙_}
 use mathlib.Core.Bool.{false, cond}
 use mathlib.Core.Option.{none, some}
 use mathlib.Core.List.{List}
-use Prim.Native.Nat.{ℕ, _+_, _*_, _/_, _%_, _≤_, _<_}
+use Prim.Native.Nat.{ℕ, _+_, _*_, _≤_, _<_}
 use native.Mathlib.Omega.{arith}
 use borrow.Author.Tests.{ltb-false, ne-eqb}
 use lib.Dec.{eqb}
@@ -16,6 +16,7 @@ use Rattle.refusals.specs.Refusals.{answer, refused, number}
 use Rattle.refusals.specs.RefusalLaws.{number-positive}
 use Rattle.refusals.specs.Checks.{Clear}
 use Rattle.refusals.specs.CheckLaws.{zero-clear}
+use Rattle.bits.specs.Fields.{splits-back, joins-back}
 use Rattle.loading.specs.Load.{load-table, load-answer, outcome-answer, Loads}
 use Rattle.semantics.specs.Visits.{Visit}
 use Rattle.codes.specs.declared.Flattened.{Flattened}
@@ -35,14 +36,11 @@ use Rattle.wumbyra.specs.Packed.{unpacked, Parses-text, Flattens-text, C
 
 -- unpacking takes back what was packed
 pub unpack : (n v : ℕ) → v < 4294967296 → unpacked (n * 4294967296 + v) ≡ answer n v
-unpack n v h =
-    let a : (n * 4294967296 + v) / 4294967296 ≡ n = omega arith in
-    let b : (n * 4294967296 + v) % 4294967296 ≡ v = omega arith in
-    ap₂ (λ x y. answer x y) a b
+unpack n v h = let (a, b) = splits-back 32 n v h in ap₂ (λ x y. answer x y) a b
 
 -- an answer is nothing but its two parts: number << 32 | value
 pub repack : (r : ℕ) → r ≡ unpacked r .number * 4294967296 + unpacked r .value
-repack r = omega arith
+repack r = joins-back 32 r
 
 -- ── a service's promise on the loaded table ──
 module _ (text : List ℕ) (l : Loaded) (h : Loads text l) where

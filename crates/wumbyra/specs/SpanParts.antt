@@ -10,6 +10,7 @@ use Rattle.syntax.specs.declared.Pattern.{Pattern}
 use Rattle.syntax.specs.Letter.{letter-limit}
 use Rattle.refusals.specs.Refusals.{answer}
 use Rattle.refusals.specs.CheckLaws.{clear-success}
+use Rattle.bits.specs.Fields.{splits-back}
 use Rattle.semantics.specs.Visits.{Visit}
 use Rattle.spans.specs.declared.Spanned.{Spanned}
 use Rattle.spans.specs.declared.SpanOutcome.the-variants.{Shown}
@@ -40,4 +41,4 @@ module _ (p : Pattern) (tape code : List ℕ) (count l k : ℕ) (x : Visit) (e :
   shown-within = omega (arith, part p tape code count l k shown shown-spans .fits, shown-is .0)
 
   pub span-splits : ((x .start * 65536 + x .size) / 65536 ≡ x .start) × ((x .start * 65536 + x .size) % 65536 ≡ x .size)
-  span-splits = let f = shown-within in (omega (arith, f), omega (arith, f))
+  span-splits = splits-back 16 (x .start) (x .size) (omega (arith, shown-within))

@@ -1,10 +1,9 @@
 -- Number and value fix the 64-bit answer, so the promises of the calls from C fix answers and buffers.
 use mathlib.Core.Path.{_≡_, sym, ap, _∙_}
 use mathlib.Core.List.{List}
-use Prim.Native.Nat.{ℕ, _/_, _%_}
-use native.Mathlib.Omega.{arith}
-use Rattle.refusals.specs.Refusals.{answer}
+use Prim.Native.Nat.{ℕ}
 use Rattle.loading.specs.Load.{load-answer, load-table}
+use Rattle.bits.specs.Fields.{same-parts}
 use Rattle.parser.specs.Parse.{parsed-answer}
 use Rattle.parser.specs.Unique.{parses-one}
 use Rattle.canonical.specs.Canonicalize.{canonicalized-answer}
@@ -12,10 +11,7 @@ use Rattle.canonical.specs.Unique.{canonicalizes-one}
 use Rattle.wumbyra.specs.Packed.{unpacked, Parses-text, Flattens-text, Totals-text, Canonicalizes-text, span-text, total-text}
 
 pub unpacked-same : (r s : ℕ) → unpacked r ≡ unpacked s → r ≡ s
-unpacked-same r s e =
-    let q : r / 4294967296 ≡ s / 4294967296 = ap (λ a. a .number) e in
-    let m : r % 4294967296 ≡ s % 4294967296 = ap (λ a. a .value) e in
-    omega (arith, q, m)
+unpacked-same r s e = same-parts 32 r s (ap (λ a. a .number) e) (ap (λ a. a .value) e)
 
 module _ (text : List ℕ) where
   pub loads-text-one : (r s : ℕ) → unpacked r ≡ load-answer text → unpacked s ≡ load-answer text → r ≡ s

@@ -1,6 +1,6 @@
 -- `bits::bit_at` meets its contract: a shift and a remainder are `bit-at`, word for word. Assumes nothing.
 use mathlib.Core.Path.{refl}
-use Rattle.bits.specs.Bits.{bit-at}
+use Rattle.binary.specs.Bits.{bit-at}
 use borrow.Author.Needs.{needs}
 use Rattle.bits.proofs.bit_at.Statement.{statement}
 use Rattle.bits.proofs.bit_at.Tie as tie

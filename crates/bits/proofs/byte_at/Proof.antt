@@ -1,8 +1,8 @@
--- `bits::byte_at` meets its contract: at the start of a byte the byte, elsewhere a part of two bytes side by side (specs/Reading.antt). Assumes nothing.
+-- `bits::byte_at` meets its contract: at the start of a byte the byte, elsewhere a part of two (crate binary, specs/Reading.antt). Assumes nothing.
 use native.Mathlib.Omega.{arith}
 use mathlib.Core.Path.{sym, ap₂, _∙_}
 use Prim.Native.Nat.{_+_, _*_, _-_, _/_, _%_, _^_}
-use Rattle.bits.specs.Reading.{number-at-whole, number-at-parts}
+use Rattle.binary.specs.Reading.{number-at-whole, number-at-parts}
 use borrow.Author.Needs.{needs}
 use Rattle.bits.proofs.byte_at.Statement.{statement}
 use Rattle.bits.proofs.byte_at.Tie as tie

@@ -1,10 +1,10 @@
--- `bits::handed_good` meets its contract, each way out by one law of specs/Handed.antt. Assumes nothing.
+-- `bits::handed_good` meets its contract, each way out by one law of crate binary, specs/Handed.antt. Assumes nothing.
 use native.Mathlib.Omega.{arith}
 use mathlib.Core.Path.{sym, ap, _∙_}
 use Prim.Native.Nat.{_/_}
 use lib.Dec.{eqb}
 use lib.ListN.{getD}
-use Rattle.bits.specs.Handed.{handed-over, handed-within, exact-wrong, exact-whole, exact-begun}
+use Rattle.binary.specs.Handed.{handed-over, handed-within, exact-wrong, exact-whole, exact-begun}
 use borrow.Author.Needs.{needs}
 use Rattle.bits.proofs.handed_good.Statement.{statement}
 use Rattle.bits.proofs.handed_good.Tie as tie

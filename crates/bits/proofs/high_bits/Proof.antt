@@ -1,8 +1,8 @@
 -- `bits::high_bits` meets its contract: the two shifts lose nothing in a word of 32 bits. Assumes nothing.
 use native.Mathlib.Omega.{arith}
 use mathlib.Core.Path.{ap, _∙_}
-use Rattle.bits.specs.Bits.{high-bits}
-use Rattle.bits.specs.Writing.{high-shift, high-le}
+use Rattle.binary.specs.Bits.{high-bits}
+use Rattle.binary.specs.Writing.{high-shift, high-le}
 use borrow.Author.Needs.{needs}
 use Rattle.bits.proofs.high_bits.Statement.{statement}
 use Rattle.bits.proofs.high_bits.Tie as tie

@@ -1,5 +1,5 @@
 -- `bits::is_open` meets its contract.
-use Rattle.bits.specs.Words.{word-one, word-zero}
+use Rattle.binary.specs.Words.{word-one, word-zero}
 use borrow.Author.Needs.{needs}
 use Rattle.bits.proofs.is_open.Statement.{statement}
 use Rattle.bits.proofs.is_open.Tie as tie

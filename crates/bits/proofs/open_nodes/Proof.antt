@@ -1,5 +1,5 @@
--- `bits::open_nodes` meets its contract: the ones of a word of 64 bits are the l below 64 whose bit is set (specs/Words.antt). Assumes nothing.
-use Rattle.bits.specs.Words.{ones-count}
+-- `bits::open_nodes` meets its contract: the ones of a word of 64 bits are the l below 64 whose bit is set (crate binary, specs/Words.antt). Assumes nothing.
+use Rattle.binary.specs.Words.{ones-count}
 use Rattle.bits.proofs.open_nodes.Statement.{statement}
 use Rattle.bits.proofs.open_nodes.Tie as tie
 

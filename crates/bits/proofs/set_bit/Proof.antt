@@ -1,10 +1,10 @@
--- `bits::set_bit` meets its contract: one store is `write` of one bit (specs/Writing.antt). Assumes nothing.
+-- `bits::set_bit` meets its contract: one store is `write` of one bit (crate binary, specs/Writing.antt). Assumes nothing.
 use native.Mathlib.Omega.{arith}
 use mathlib.Core.Path.{sym, ap₂, _∙_}
 use Prim.Native.Nat.{_*_, _-_, _/_, _%_, _^_}
 use lib.Bits.{bitOr}
 use lib.ListN.{set}
-use Rattle.bits.specs.Writing.{write-bit}
+use Rattle.binary.specs.Writing.{write-bit}
 use borrow.Author.Needs.{needs}
 use Rattle.bits.proofs.set_bit.Statement.{statement}
 use Rattle.bits.proofs.set_bit.Tie as tie

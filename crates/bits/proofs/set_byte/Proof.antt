@@ -1,10 +1,10 @@
--- `bits::set_byte` meets its contract: one store, or two, are `write` of eight bits (specs/Writing.antt). Assumes nothing.
+-- `bits::set_byte` meets its contract: one store, or two, are `write` of eight bits (crate binary, specs/Writing.antt). Assumes nothing.
 use native.Mathlib.Omega.{arith}
 use mathlib.Core.Path.{sym, ap, _∙_}
 use Prim.Native.Nat.{_+_, _*_, _-_, _/_, _%_, _^_}
 use lib.Bits.{bitOr}
 use lib.ListN.{set, length-set}
-use Rattle.bits.specs.Writing.{write-whole, write-parts}
+use Rattle.binary.specs.Writing.{write-whole, write-parts}
 use borrow.Author.Needs.{needs}
 use Rattle.bits.proofs.set_byte.Statement.{statement}
 use Rattle.bits.proofs.set_byte.Tie as tie

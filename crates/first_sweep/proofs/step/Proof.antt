@@ -4,8 +4,8 @@ use mathlib.Core.Path.{refl, ap, _∙_}
 use Rattle.bits.specs.Bits.{bit}
 use Rattle.first_sweep.specs.Steps.{behind}
 use Rattle.table.specs.Cells.{follower-in}
-use Rattle.first_sweep.specs.Joining.{Stepping, stepping-start, stepping-next, stepping-end}
-use Rattle.masks.specs.Lowest.{Lowest, lowest}
+use Rattle.first_sweep.specs.Stepping.{Stepping, stepping-start, stepping-next, stepping-end}
+use Rattle.bits.specs.Lowest.{Lowest, lowest}
 use borrow.Author.Needs.{needs}
 use Rattle.first_sweep.proofs.step.Statement.{statement}
 use Rattle.first_sweep.proofs.step.Tie as tie
@@ -17,8 +17,8 @@ abbrev μ-loop : tie.MeasureT-loop
 μ-loop zero one table takers next last rest₀ a₀ b₀ rest a b = rest
 
 -- the lowest leaf left
-here : (c : tie.In-loop Inv-loop μ-loop) → Lowest (c .before .loop .rest)
-here c = lowest (c .before .loop .rest) (omega arith) (c .before .loop .inv .few)
+here : (c : tie.In-loop Inv-loop μ-loop) → Lowest 64 (c .before .loop .rest)
+here c = lowest 64 (c .before .loop .rest) (omega arith) (c .before .loop .inv .few)
 
 loop-holds : tie.Need-loop-holds Inv-loop μ-loop
 loop-holds c = stepping-start _ _ _ _ (omega (arith, c .fits .takers))

@@ -1,11 +1,11 @@
-use Rattle.first_sweep.specs.Joining.{times-small}
+use Rattle.bits.specs.Unions.{times-small}
 use native.Mathlib.Omega.{arith}
 use borrow.Author.Needs.{needs}
 use Rattle.first_sweep.proofs.times.Statement.{statement}
 use Rattle.first_sweep.proofs.times.Tie as tie
 
 mul-result : tie.Need-mul-result
-mul-result c = omega (arith, times-small (c .args .mask) (c .args .e) (c .pre) (omega (arith, c .fits .mask)))
+mul-result c = omega (arith, times-small 64 (c .args .mask) (c .args .e) (c .pre) (omega (arith, c .fits .mask)))
 
 returns : tie.Need-returns
 returns c = search needs

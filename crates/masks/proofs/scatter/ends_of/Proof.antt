@@ -4,7 +4,8 @@ use native.Mathlib.Omega.{arith}
 use mathlib.Core.Bool.{Bool}
 use Prim.Native.Nat.{ℕ, _≤_, _-_, _*_, _^_}
 use Rattle.bits.specs.Bits.{bit, word-of}
-use Rattle.masks.specs.Masks.{comes-to-end, word-start, word-next, word-fits}
+use Rattle.bits.specs.Words.{word-start, word-next, word-fits}
+use Rattle.masks.specs.Masks.{comes-to-end}
 use borrow.Author.Needs.{needs}
 use Rattle.masks.proofs.scatter.ends_of.Statement.{statement}
 use Rattle.masks.proofs.scatter.ends_of.Tie as tie
@@ -44,7 +45,7 @@ add-word c =
     let l = c .before .before .before .before .before in
     omega (
       arith,
-      word-fits (l .loop .i) (ends-in c) (l .loop .word) (c .single .result)
+      word-fits 64 (l .loop .i) (ends-in c) (l .loop .word) (c .single .result)
           (omega (arith, c .before .before .before .before .loop-test .taken, l .before .pre)) (l .loop .inv .1) (here c),
     )
 

@@ -1,7 +1,7 @@
 -- `masks::scatter::put_row` meets its contract.
 use native.Mathlib.Omega.{arith}
 use mathlib.Core.Path.{refl}
-use Rattle.masks.specs.Lowest.{Lowest, lowest}
+use Rattle.bits.specs.Lowest.{Lowest, lowest}
 use Rattle.masks.specs.Scatter.{Row-left, row-start, row-next, row-end}
 use borrow.Author.Needs.{needs}
 use Rattle.masks.proofs.scatter.put_row.Statement.{statement}
@@ -14,8 +14,8 @@ abbrev μ-loop : tie.MeasureT-loop
 μ-loop cells₀ row i mark rest₀ cells rest = rest
 
 -- the lowest bit left
-here : (c : tie.In-loop Inv-loop μ-loop) → Lowest (c .before .loop .rest)
-here c = lowest (c .before .loop .rest) (omega arith) (c .before .loop .inv .few)
+here : (c : tie.In-loop Inv-loop μ-loop) → Lowest 64 (c .before .loop .rest)
+here c = lowest 64 (c .before .loop .rest) (omega arith) (c .before .loop .inv .few)
 
 single-requires : tie.Need-single-requires Inv-loop μ-loop
 single-requires c κs = search needs

@@ -12,7 +12,7 @@ use lib.ListN.{length, take, drop, take-append-drop, drop-of-length-le}
 use lib.Pow.{pow-pos, pow-add, high, shr-shr, mod-pow-add}
 use lib.Bits.{block-odd}
 use lib.Seq.{drop-nil}
-use Rattle.bits.specs.Bits.{bit, test-bit, bits-of, cell, number-of}
+use Rattle.binary.specs.Bits.{bit, test-bit, bits-of, cell, number-of}
 
 -- ---- one bit
 

@@ -8,10 +8,10 @@ use native.Mathlib.Numerals.{add-one}
 use native.Mathlib.Omega.{arith}
 use lib.ListN.{length, take, drop, getD, length-drop, length-take, take-append-drop, drop-of-length-le, List·getD-append}
 use lib.Pow.{pow-pos, pow-mono}
-use lib.Seq.{take-all, take-nil, take-take, length-take-le, drop-cons, drop-drop, getD-append-add, take-append-le, drop-append-le}
-use Rattle.bits.specs.Bits.{test-bit, bits-of, number-of, unpack, bit-at, number-at, Small, held, unread}
-use Rattle.bits.specs.Numbers.{length-bits-of, test-small, take-bits, drop-bits, join-bits, number-bits, bits-of-number-of, number-of-lt}
-use Rattle.bits.specs.Packing.{length-unpack, drop-unpack}
+use lib.Seq.{take-all, take-nil, take-take, length-take-le, drop-cons, drop-drop, getD-append-add, getD-take, take-append-le, drop-append-le}
+use Rattle.binary.specs.Bits.{test-bit, bits-of, cell, number-of, unpack, bit-at, number-at, Small, held, unread}
+use Rattle.binary.specs.Numbers.{length-bits-of, test-small, take-bits, drop-bits, join-bits, cell-bits, number-bits, bits-of-number-of, number-of-lt}
+use Rattle.binary.specs.Packing.{length-unpack, drop-unpack}
 
 -- ---- one bit
 
@@ -143,3 +143,27 @@ number-at-lt w xs i n =
     let ts = take n (drop i (unpack w xs)) in
     let l : length ts ≤ n = rw length-take (omega arith) in
     omega (arith, number-of-lt ts, pow-mono l)
+
+-- ---- the bits held, as a walk meets them
+
+module _ (w : ℕ) (xs : List ℕ) (n : ℕ) (f : n ≤ length xs * w) where
+  pub held-length : length (held w xs n) ≡ n
+  unfolding held
+  held-length = length-take-le n (unpack w xs) (rw length-unpack f)
+
+  pub held-bit : 0 < w → (i : ℕ) → i < n → getD (held w xs n) i false ≡ bit-at w xs i
+  unfolding held
+  held-bit h i l = getD-take n (unpack w xs) i false l ∙ sym (bit-at-unpack w h xs i)
+
+  -- m bits from bit i on
+  pub held-cell : (i m : ℕ) → i + m ≤ n → cell m (drop i (held w xs n)) ≡ number-at w xs i m
+  unfolding unread
+  held-cell i m l =
+      ap (cell m) (unread-number w xs n f i m l) ∙ cell-bits m (number-at w xs i m) (unread w xs n (i + m)) ∙ mod-eq-of-lt (number-at-lt w xs i m)
+
+-- every bit of the cells: those held, and the rest
+pub held-every : (w : ℕ) (xs : List ℕ) (n : ℕ) → held w xs (length xs * w) ≡ held w xs n ++ drop n (unpack w xs)
+unfolding held
+held-every w xs n =
+    let k : length (unpack w xs) ≤ length xs * w = rw length-unpack (omega arith) in
+    take-all (length xs * w) (unpack w xs) k ∙ sym (take-append-drop n (unpack w xs))

@@ -1,24 +1,19 @@
--- What is known of all that is handed in and of a whole code: its value, and what that spells.
+-- What is known of a whole code: its value, and what that spells.
 use mathlib.Core.Path.{_≡_, refl, sym, ap, _∙_}
 use mathlib.Core.Bool.{true, false≢true}
 use mathlib.Core.Option.{Option, none, some}
 use mathlib.Core.List.{List}
-use Prim.Native.Nat.{ℕ, _*_, _≤_}
-use native.Mathlib.Omega.{arith}
+use Prim.Native.Nat.{ℕ}
 use lib.ListN.{length}
 use Rattle.syntax.specs.Bools.{and-fst}
 use Rattle.syntax.specs.Tree.{Tree}
 use Rattle.bits.specs.Bits.{held, handed-good}
-use Rattle.bits.specs.Handed.{exact-fits, handed-exact}
 use Rattle.semantics.specs.Value.{Value, flat}
 use Rattle.semantics.specs.Decode.{value-of, is-code, spelled, spelled-by}
 use Rattle.semantics.specs.CodeLaws.{value-of-sound}
 use Rattle.semantics.specs.Positions.{see}
 use Rattle.semantics.specs.PositionLaws.{see-whole}
 use Rattle.walks.specs.Whole.{whole-code, letters-of}
-
-pub handed-fit : (code : List ℕ) (count : ℕ) → handed-good code count ≡ true → count ≤ length code * 8
-handed-fit code count g = exact-fits 8 (omega arith) code count (handed-exact code count g)
 
 module _ (t : Tree) (code : List ℕ) (count : ℕ) where
   -- the value of what is handed in, for any function of it

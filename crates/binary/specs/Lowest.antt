@@ -1,17 +1,17 @@
--- The lowest bit that is set in a word, and the word without it.
+-- The lowest bit that is set in a number of w bits, and the number without it.
 use mathlib.Core.Path.{_≡_, refl, sym, ap, ap₂, _∙_}
-use mathlib.Core.Bool.{Bool, true, false, _&&_, not, and-true}
+use mathlib.Core.Bool.{Bool, true, _&&_, not, and-true}
 use Prim.Native.Nat.{ℕ, zero, suc, _+_, _-_, _*_, _/_, _%_, _^_, _≤_, _<_}
 use native.Mathlib.Nat.{one-mul, mul-left-comm, mul-add, div-div-eq-div-mul, div-one}
 use native.Mathlib.Decide.{decLt}
 use native.Mathlib.Omega.{arith}
 use lib.Dec.{eqb}
+use borrow.Author.Tests.{eq-eqb, ne-eqb}
 use lib.Pow.{pow-pos, pow-mono}
 use lib.Bits.{bitAnd, and-block, and-self, and-shifted}
 use lib.Count.{trailingZeros, under}
-use Rattle.bits.specs.Bits.{bit, test-bit, word-of}
-use Rattle.bits.specs.Words.{word-self, word-bit, word-unique, word-lt}
-use Rattle.semantics.specs.Basics.{eqb-self, eqb-eq}
+use Rattle.binary.specs.Bits.{bit, test-bit, word-of}
+use Rattle.binary.specs.Words.{word-self, word-bit, word-unique, word-lt}
 
 -- ---- the lowest bit that is set
 pub lowest-set : (k n : ℕ) → 1 ≤ n → n < 2 ^ k → (trailingZeros k n < k) × (test-bit n (trailingZeros k n) ≡ true)
@@ -58,13 +58,6 @@ lowest-split (suc k) n one h = go (lowest-split k (n / 2)) (n % 2) refl
 word-same : (n : ℕ) (f g : ℕ → Bool) → ((l : ℕ) → l < n → f l ≡ g l) → word-of n f ≡ word-of n g
 word-same n f g h = word-unique n (word-of n f) g (word-lt n f) (λ l k. word-bit n f l k ∙ h l k)
 
-pub eqb-other : (m n : ℕ) → (m ≡ n → ⊥) → eqb m n ≡ false
-eqb-other m n h = go (eqb m n) refl
-  where
-    go : (b : Bool) → eqb m n ≡ b → b ≡ false
-    go true e = absurd (h (eqb-eq m n e))
-    go false e = refl
-
 -- without its bit x a word is less by 2 to the power x
 cleared : (x n : ℕ) (f : ℕ → Bool) → x < n → f x ≡ true → word-of n f ≡ word-of n (λ l. f l && not (eqb x l)) + 2 ^ x
 unfolding word-of
@@ -74,34 +67,34 @@ cleared x (suc n) f h e = go (cleared x n f) (decLt x n)
     go : (x < n → f x ≡ true → word-of n f ≡ word-of n (λ l. f l && not (eqb x l)) + 2 ^ x) → Dec (x < n)
         → bit (f n) * 2 ^ n + word-of n f ≡ (bit (f n && not (eqb x n)) * 2 ^ n + word-of n (λ l. f l && not (eqb x l))) + 2 ^ x
     go ih (yes l) =
-        rw (eqb-other x n (λ q. omega arith), and-true (f n)) (omega (arith, ih l e))
+        rw (ne-eqb x n (λ q. omega arith), and-true (f n)) (omega (arith, ih l e))
     go ih (no l) =
         let q : x ≡ n = omega arith in
         let a : f n ≡ true = ap f (sym q) ∙ e in
-        let b : eqb x n ≡ true = ap (λ z. eqb z n) q ∙ eqb-self n in
+        let b : eqb x n ≡ true = eq-eqb x n q in
         let s : word-of n f ≡ word-of n (λ l. f l && not (eqb x l)) =
-        word-same n f (λ l. f l && not (eqb x l)) (λ l k. sym (ap (λ z. f l && not z) (eqb-other x l (λ y. omega arith)) ∙ and-true (f l))) in
+        word-same n f (λ l. f l && not (eqb x l)) (λ l k. sym (ap (λ z. f l && not z) (ne-eqb x l (λ y. omega arith)) ∙ and-true (f l))) in
         rw (a, b, q) (omega (arith, ap (λ z. word-of n (λ l. f l && not (eqb z l))) q, s))
 
 -- taking the lowest bit out
-module _ (rest x : ℕ) (one : 1 ≤ rest) (h : rest < 2 ^ 64) (e : x ≡ trailingZeros 64 rest) where
-  pub lowest-lt : x < 64
-  lowest-lt = omega (arith, lowest-set 64 rest one h .0)
+module _ (w rest x : ℕ) (one : 1 ≤ rest) (h : rest < 2 ^ w) (e : x ≡ trailingZeros w rest) where
+  pub lowest-lt : x < w
+  lowest-lt = omega (arith, lowest-set w rest one h .0)
 
   pub lowest-on : test-bit rest x ≡ true
-  lowest-on = ap (test-bit rest) e ∙ lowest-set 64 rest one h .1
+  lowest-on = ap (test-bit rest) e ∙ lowest-set w rest one h .1
 
-  rest-is : rest ≡ word-of 64 (λ l. test-bit rest l && not (eqb x l)) + 2 ^ x
-  rest-is = word-self 64 rest h ∙ cleared x 64 (test-bit rest) lowest-lt lowest-on
+  rest-is : rest ≡ word-of w (λ l. test-bit rest l && not (eqb x l)) + 2 ^ x
+  rest-is = word-self w rest h ∙ cleared x w (test-bit rest) lowest-lt lowest-on
 
   pub lowest-less : rest - 2 ^ x < rest
   lowest-less = omega (arith, rest-is, pow-pos x)
 
   -- the lowest bit cleared, as code does it
   pub lowest-cleared : bitAnd rest (rest - 1) ≡ rest - 2 ^ x
-  lowest-cleared = go (lowest-split 64 rest one h)
+  lowest-cleared = go (lowest-split w rest one h)
     where
-      go : (q : ℕ) × (rest ≡ q * 2 ^ suc (trailingZeros 64 rest) + 2 ^ trailingZeros 64 rest) → bitAnd rest (rest - 1) ≡ rest - 2 ^ x
+      go : (q : ℕ) × (rest ≡ q * 2 ^ suc (trailingZeros w rest) + 2 ^ trailingZeros w rest) → bitAnd rest (rest - 1) ≡ rest - 2 ^ x
       go (q, s) =
           let r : rest ≡ q * 2 ^ suc x + 2 ^ x = s ∙ ap (λ t. q * 2 ^ suc t + 2 ^ t) (sym e) in
           let l : 2 ^ x < 2 ^ suc x = omega (arith, pow-pos x) in
@@ -109,23 +102,23 @@ module _ (rest x : ℕ) (one : 1 ≤ rest) (h : rest < 2 ^ 64) (e : x ≡ traili
           let n : rest - 1 ≡ q * 2 ^ suc x + (2 ^ x - 1) = omega (arith, pow-pos x) in
           let z : bitAnd (2 ^ x) (2 ^ x - 1) ≡ 0 =
           ap (λ y. bitAnd y (2 ^ x - 1)) (sym (one-mul (2 ^ x))) ∙ and-shifted 1 x (2 ^ x - 1) (omega (arith, pow-pos x)) in
-          ap₂ bitAnd r n ∙ and-block (suc x) q q (2 ^ x) (2 ^ x - 1) l m ∙ ap₂ (λ y w. y * 2 ^ suc x + w) (and-self q) z
-          ∙ (let w : q * 2 ^ suc x + 0 ≡ rest - 2 ^ x = omega arith in w)
+          ap₂ bitAnd r n ∙ and-block (suc x) q q (2 ^ x) (2 ^ x - 1) l m ∙ ap₂ (λ y u. y * 2 ^ suc x + u) (and-self q) z
+          ∙ (let u : q * 2 ^ suc x + 0 ≡ rest - 2 ^ x = omega arith in u)
 
-  pub lowest-out : (l : ℕ) → l < 64 → test-bit (rest - 2 ^ x) l ≡ (test-bit rest l && not (eqb x l))
+  pub lowest-out : (l : ℕ) → l < w → test-bit (rest - 2 ^ x) l ≡ (test-bit rest l && not (eqb x l))
   lowest-out l k =
-      let q : rest - 2 ^ x ≡ word-of 64 (λ l. test-bit rest l && not (eqb x l)) = omega (arith, rest-is) in
-      ap (λ z. test-bit z l) q ∙ word-bit 64 (λ l. test-bit rest l && not (eqb x l)) l k
+      let q : rest - 2 ^ x ≡ word-of w (λ l. test-bit rest l && not (eqb x l)) = omega (arith, rest-is) in
+      ap (λ z. test-bit z l) q ∙ word-bit w (λ l. test-bit rest l && not (eqb x l)) l k
 
--- what a loop over the set bits of a word needs, in the words of its code
-pub record Lowest (rest : ℕ) : Type 0 where
-  pub small : trailingZeros 64 rest < 64
+-- what a loop over the set bits of a number of w bits needs, in the words of its code
+pub record Lowest (w rest : ℕ) : Type 0 where
+  pub small : trailingZeros w rest < w
   pub less : bitAnd rest (rest - 1) < rest
 
-pub lowest : (rest : ℕ) → 1 ≤ rest → rest < 2 ^ 64 → Lowest rest
-lowest rest one few = record {
-  small = lowest-lt rest (trailingZeros 64 rest) one few refl;
-  less = rw (lowest-cleared rest (trailingZeros 64 rest) one few refl) (lowest-less rest (trailingZeros 64 rest) one few refl);
+pub lowest : (w rest : ℕ) → 1 ≤ rest → rest < 2 ^ w → Lowest w rest
+lowest w rest one few = record {
+  small = lowest-lt w rest (trailingZeros w rest) one few refl;
+  less = rw (lowest-cleared w rest (trailingZeros w rest) one few refl) (lowest-less w rest (trailingZeros w rest) one few refl);
 }
 
 -- numbers with the same bits are equal

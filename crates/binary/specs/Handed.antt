@@ -10,14 +10,14 @@ use lib.Dec.{leb, eqb}
 use borrow.Author.Tests.{eqb-true, eqb-false, eq-eqb, ne-eqb, leb-true, le-leb, lt-leb}
 use lib.ListN.{length, take, drop, getD, take-append-drop, drop-of-length-le}
 use lib.Pow.{pow-pos, split, mod-pow-add}
-use lib.Seq.{drop-nil, length-take-le}
+use lib.Seq.{drop-nil}
 use Rattle.syntax.specs.Bools.{and-fst, and-snd, and-intro}
-use Rattle.bits.specs.Bits.{bit, test-bit, bits-of, cell, cell-count, fill, pack, unpack, Small, high-bits, held, all-zero, exact, byte-limit}
-use Rattle.bits.specs.Bits.{handed-good}
-use Rattle.bits.specs.Numbers.{bit-parity, drop-bits, cell-nil}
-use Rattle.bits.specs.Packing.{cells-whole, cells-begun, cells-enough, length-fill, length-pack, length-unpack, pad, unpack-fill, unpack-pack}
-use Rattle.bits.specs.Packing.{fill-unpack}
-use Rattle.bits.specs.Reading.{from-cell}
+use Rattle.binary.specs.Bits.{bit, test-bit, bits-of, cell, cell-count, fill, pack, unpack, Small, high-bits, held, all-zero, exact, byte-limit}
+use Rattle.binary.specs.Bits.{handed-good}
+use Rattle.binary.specs.Numbers.{bit-parity, drop-bits, cell-nil}
+use Rattle.binary.specs.Packing.{cells-whole, cells-begun, cells-enough, length-fill, length-pack, length-unpack, pad, unpack-fill, unpack-pack}
+use Rattle.binary.specs.Packing.{fill-unpack}
+use Rattle.binary.specs.Reading.{from-cell, held-length}
 
 -- ---- bits that are 0 pack to nothing
 
@@ -68,9 +68,12 @@ module _ (w : ℕ) (h : 0 < w) (xs : List ℕ) (n : ℕ) where
   unfolding exact
   exact-length t = eqb-true (length xs) (cell-count w n) (and-fst (eqb (length xs) (cell-count w n)) (all-zero (drop n (unpack w xs))) t)
 
+  -- a reader that stays below the count stays inside the cells
+  pub exact-fits : exact w xs n ≡ true → n ≤ length xs * w
+  exact-fits t = rw (exact-length t) (cells-enough w n h)
+
   pub exact-count : exact w xs n ≡ true → length (held w xs n) ≡ n
-  unfolding held
-  exact-count t = length-take-le n (unpack w xs) (rw (length-unpack, exact-length t) (cells-enough w n h))
+  exact-count t = held-length w xs n (exact-fits t)
 
   exact-zeros : exact w xs n ≡ true → all-zero (drop n (unpack w xs)) ≡ true
   unfolding exact
@@ -98,10 +101,6 @@ exact-equal w h xs ys n m s r p q = (
   λ e. ap₂ (held w) (e .0) (e .1),
 )
 
--- a reader that stays below the count stays inside the cells
-pub exact-fits : (w : ℕ) → 0 < w → (xs : List ℕ) (n : ℕ) → exact w xs n ≡ true → n ≤ length xs * w
-exact-fits w h xs n t = rw (exact-length w h xs n t) (cells-enough w n h)
-
 -- ---- a good code, in bytes
 
 pub handed-iff : (xs : List ℕ) (n : ℕ) → Small 8 xs
@@ -127,9 +126,12 @@ pub handed-limit : (xs : List ℕ) (n : ℕ) → handed-good xs n ≡ true → l
 unfolding handed-good
 handed-limit xs n t = leb-true (length xs) byte-limit (and-fst (leb (length xs) byte-limit) (exact 8 xs n) t)
 
+pub handed-fit : (xs : List ℕ) (n : ℕ) → handed-good xs n ≡ true → n ≤ length xs * 8
+handed-fit xs n t = exact-fits 8 (omega arith) xs n (handed-exact xs n t)
+
 -- so the count of a good code is at most 524,288
 pub handed-count : (xs : List ℕ) (n : ℕ) → handed-good xs n ≡ true → n ≤ byte-limit * 8
-handed-count xs n t = omega (arith, exact-fits 8 (omega arith) xs n (handed-exact xs n t), handed-limit xs n t)
+handed-count xs n t = omega (arith, handed-fit xs n t, handed-limit xs n t)
 
 -- ---- the test, as a program makes it: only the last cell can hold unused bits
 

@@ -9,9 +9,9 @@ use lib.Dec.{leb, ltb, eqb}
 use borrow.Author.Tests.{ltb-true}
 use lib.ListN.{length, take, drop}
 use Rattle.syntax.specs.Bools.{and-fst}
-use Rattle.bits.specs.Bits.{bit, test-bit, bits-of, cell, fill, pack, unpack, held, all-zero, exact, handed-good, word-of}
-use Rattle.bits.specs.Numbers.{bit-parity, cell-nil}
-use Rattle.bits.specs.Handed.{held-pack}
+use Rattle.binary.specs.Bits.{bit, test-bit, bits-of, cell, fill, pack, unpack, held, all-zero, exact, handed-good, word-of}
+use Rattle.binary.specs.Numbers.{bit-parity, cell-nil}
+use Rattle.binary.specs.Handed.{held-pack}
 
 -- ---- as 03 writes them
 

@@ -3,7 +3,7 @@ use mathlib.Core.Path.{_≡_, refl}
 use mathlib.Core.Bool.{Bool, true, false}
 use mathlib.Core.List.{List, [], _∷_, _++_}
 use lib.ListN.{length}
-use Rattle.bits.specs.Bits.{bits-of, pack, held, bit-at, number-at, in-front, write, exact, handed-good, test-bit, count-below}
+use Rattle.binary.specs.Bits.{bits-of, pack, held, bit-at, number-at, in-front, write, exact, handed-good, test-bit, count-below}
 
 -- 01, "A whole listing", tape `3W2`: a round, the right side, `3`; a round, the left side, `2`; stop
 abbrev pub listing : List Bool

@@ -12,11 +12,11 @@ use lib.Pow.{pow-pos, pow-mono, split, shr-lt, shl-shr, low, mod-pow-add}
 use lib.Bits.{bitOr, or-shifted}
 use lib.Seq.{drop-cons, drop-drop, drop-at, take-add, getD-append-add, getD-take, getD-drop, take-append-le, take-append-add, drop-append-le}
 use lib.Seq.{drop-append-add, length-take-le, sets, sets-eq, take-append-seam, drop-append-seam}
-use Rattle.bits.specs.Bits.{bit, bits-of, cell, cell-count, fill, pack, unpack, bit-at, Small, in-front, write, high-bits}
-use Rattle.bits.specs.Numbers.{length-bits-of, take-bits, split-bits, cell-lt, cell-nil, cell-bits, cell-join, cell-first, cell-short}
-use Rattle.bits.specs.Packing.{cells-begun, cells-enough, cells-least, length-fill, length-pack, length-unpack, getD-pad, unpack-fill}
-use Rattle.bits.specs.Packing.{unpack-pack, small-tail, fill-unpack, pack-small, unpack-append, drop-unpack}
-use Rattle.bits.specs.Reading.{bit-at-unpack}
+use Rattle.binary.specs.Bits.{bit, bits-of, cell, cell-count, fill, pack, unpack, bit-at, Small, in-front, write, high-bits}
+use Rattle.binary.specs.Numbers.{length-bits-of, take-bits, split-bits, cell-lt, cell-nil, cell-bits, cell-join, cell-first, cell-short}
+use Rattle.binary.specs.Packing.{cells-begun, cells-enough, cells-least, length-fill, length-pack, length-unpack, getD-pad, unpack-fill}
+use Rattle.binary.specs.Packing.{unpack-pack, small-tail, fill-unpack, pack-small, unpack-append, drop-unpack}
+use Rattle.binary.specs.Reading.{bit-at-unpack}
 
 -- ---- in front of a buffer
 

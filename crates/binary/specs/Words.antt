@@ -12,8 +12,8 @@ use lib.Pow.{pow-pos, pow-mono, pow-lt, split, shr-lt}
 use lib.Bits.{bitAnd, and-step, and-shr, and-lt, bitOr, or-step, or-shr, or-lt}
 use lib.Count.{ones, ones-cat}
 use lib.ListN.{getD}
-use Rattle.bits.specs.Bits.{bit, test-bit, word-of, count-below}
-use Rattle.bits.specs.Numbers.{bit-lt, bit-parity, test-high, test-low, test-small}
+use Rattle.binary.specs.Bits.{bit, test-bit, word-of, count-below}
+use Rattle.binary.specs.Numbers.{bit-lt, bit-parity, test-high, test-low, test-small}
 
 pub word-lt : (n : ℕ) (f : ℕ → Bool) → word-of n f < 2 ^ n
 unfolding word-of
@@ -171,6 +171,18 @@ test-single p v l = go (eqb p l) refl
     go : (e : Bool) → eqb p l ≡ e → test-bit (bit v * 2 ^ p) l ≡ (e && v)
     go true e = ap (λ i. test-bit (bit v * 2 ^ i) l) (eqb-true p l e) ∙ ap (λ x. test-bit x l) (plus l) ∙ test-high v l 0 (pow-pos l)
     go false e = other e (decLt p l)
+
+-- ---- a word that is filled from bit 0 on
+pub word-next : (i : ℕ) (f : ℕ → Bool) (x v : ℕ) → x ≡ word-of i f → v ≡ bit (f i) * 2 ^ i → v + x ≡ word-of (i + 1) f
+unfolding word-of
+word-next i f x v e g = let q : i + 1 ≡ suc i = omega arith in rw (q, e, g) refl
+
+pub word-start : (f : ℕ → Bool) → 0 ≡ word-of 0 f
+unfolding word-of
+word-start f = refl
+
+pub word-fits : (w i : ℕ) (f : ℕ → Bool) (x v : ℕ) → i < w → x ≡ word-of i f → v ≡ bit (f i) * 2 ^ i → v + x < 2 ^ w
+word-fits w i f x v h e g = omega (arith, word-next i f x v e g, word-lt (i + 1) f, pow-mono (let k : i + 1 ≤ w = omega arith in k))
 
 -- ---- the two words of a position
 

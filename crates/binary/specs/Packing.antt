@@ -9,8 +9,8 @@ use native.Mathlib.Omega.{arith}
 use lib.ListN.{length, take, drop, getD, length-append}
 use lib.Pow.{pow-pos}
 use lib.Seq.{drop-nil, drop-at, drop-append-add}
-use Rattle.bits.specs.Bits.{bit, bits-of, cell, cell-count, fill, pack, unpack, Small}
-use Rattle.bits.specs.Numbers.{length-bits-of, bits-low, test-high, cell-lt, cell-nil, cell-bits}
+use Rattle.binary.specs.Bits.{bit, bits-of, cell, cell-count, fill, pack, unpack, Small}
+use Rattle.binary.specs.Numbers.{length-bits-of, bits-low, test-high, cell-lt, cell-nil, cell-bits}
 
 -- ---- how many cells
 
