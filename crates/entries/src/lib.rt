@@ -23,6 +23,7 @@ use bits::byte_at;
 use bits::handed_good;
 use syntax::Leaf;
 use syntax::Node;
+use syntax::Pattern;
 use table::account_at;
 use table::node_at;
 use walks::side_at;
@@ -52,7 +53,7 @@ fn failed() -> Entered
 }
 
 // Stands for every number of letters above `Pattern::MAX_LETTERS`: a letter takes no bit, so that a short code may spell very many.
-const MANY: usize = 3601;
+const MANY: usize = Pattern::MAX_LETTERS + 1;
 
 // The cell behind, up to `MANY`.
 fn next_cell(n: usize) -> usize

@@ -18,6 +18,7 @@ use bits::bit_at;
 use bits::byte_at;
 use syntax::Leaf;
 use syntax::Node;
+use syntax::Pattern;
 use table::node_at;
 
 // Where the bits of a node stop, and how many letters they spell, or that they are not all there.
@@ -49,7 +50,7 @@ fn failed(count: u32) -> Walked
 }
 
 // Stands for every number of letters above `Pattern::MAX_LETTERS`.
-const MANY: u32 = 3601;
+const MANY: u32 = Pattern::MAX_LETTERS as u32 + 1;
 
 // The sum, up to `MANY`.
 fn plus(x: u32, y: u32) -> u32

@@ -12,7 +12,7 @@ use native.Mathlib.Omega.{arith}
 use borrow.Author.Tests.{not-true, not-false}
 use borrow.Author.Needs.{needs}
 use lib.ListN.{length}
-use Prim.Native.Nat.{ℕ, _*_, _-_, _<_}
+use Prim.Native.Nat.{ℕ, _+_, _*_, _-_, _<_}
 use borrow.Fn.Kinds.{In}
 use borrow.Fn.PlainCycle.{Measures, is, falls, and}
 use Rattle.entries.proofs.put_entries.Reads as reads
@@ -30,8 +30,9 @@ use Rattle.walks.proofs.side_at.Reads as side-at-reads
 use Rattle.entries.proofs.+put_entries.{statement}
 use Rattle.entries.proofs.+put_entries.Tie.{close}
 
+-- 01: "remaining bits and node place fall as a pair"
 abbrev μ : Measures 4 kinds.ps ℕ
-μ κs a = a .1 .0
+μ κs a = (code-limit - a .1 .1 .1 .1 .0) * 64 + a .1 .0
 
 abbrev called : ℕ → In 4 kinds.ps
 called t =
@@ -172,8 +173,10 @@ put-entries-requires-2 t c κs =
     let begin = start t d in
     let e = at-p .p .given .1 in
     let h = second-below known _ _ e in
-    let ready = enters-ready (at-put-entries .put-entries .ensures) (not-false _ (at-else1 .if1 .left)) (begin .pre .1 .1) in
-    (omega (arith, h, begin .pre .0), ((known .good, omega (arith, h, known .below)), ready))
+    let ok = not-false _ (at-else1 .if1 .left) in
+    let on = enters-stays (at-put-entries .put-entries .ensures) ok (begin .pre .1 .1 .within) .0 in
+    let ready = enters-ready (at-put-entries .put-entries .ensures) ok (begin .pre .1 .1) in
+    (omega (arith, h, on, begin .pre .0), ((known .good, omega (arith, h, known .below)), ready))
 
 enum-known-p-2 : (t : ℕ) → lts.Need-enum-known-p-2 (given t) (called t) reads.Post Inv μ-loop
 enum-known-p-2 t c = search needs
@@ -301,7 +304,7 @@ put-entries-requires-4 t c κs =
     let there = bit-there t inside in
     let parts = round-is known _ _ _ e there _ (at-bit-at .bit-at .ensures) (at-else3 .if3 .left) in
     let h = star-below known _ e in
-    (omega (arith, h, begin .pre .0), ((known .good, omega (arith, h, known .below)), turn-ready (turn .loop .inv) parts))
+    (omega (arith, h, turn .loop .inv .low, begin .pre .0), ((known .good, omega (arith, h, known .below)), turn-ready (turn .loop .inv) parts))
 
 same-length-5 : (t : ℕ) → lts.Need-same-length-5 (given t) (called t) reads.Post Inv μ-loop
 same-length-5 t c =
