@@ -33,7 +33,7 @@ def project() -> dict:
 
 def archive() -> pathlib.Path:
     folder = pathlib.Path(os.environ.get("WUMBYRA_LIB_DIR") or HERE.parent.parent / "target/staticlib")
-    found = folder / "libwumbyra.a"
+    found = folder.resolve() / "libwumbyra.a"
     if not found.is_file():
         # Leaving by sys.exit, pip shows the sentence without a stack of calls.
         sys.exit(

@@ -26,7 +26,10 @@ fn main() {
         println!("cargo:rerun-if-env-changed={variable}");
     }
     let folder = match std::env::var_os("WUMBYRA_LIB_DIR") {
-        Some(named) => PathBuf::from(named),
+        // Cargo runs this in the package's folder, and the compiler elsewhere: only a full path means the same to both.
+        Some(named) => std::env::current_dir()
+            .expect("cargo runs this in a folder")
+            .join(named),
         None => installed().unwrap_or_else(in_repository),
     };
     let archive = folder.join(ARCHIVE);
