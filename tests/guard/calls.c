@@ -162,6 +162,7 @@ static struct answer taken(struct caller *caller, uint64_t packed, const char *n
     struct answer answer = {wumbyra_number(packed), wumbyra_value(packed)};
     caller->calls++;
     expect(caller, answer.number <= 10 && strchr(numbers, names[answer.number]) != NULL, what);
+    caller->answers[answer.number]++;
     if (answer.number == 3 || answer.number == 5 || answer.number == 8 || answer.number == 10)
         expect(caller, answer.value == 0, what);
     return answer;

@@ -27,7 +27,7 @@ struct output {
 struct caller {
     struct source source; /* of where buffers lie and what they are filled with */
     uint64_t seed, number; /* of the case */
-    uint64_t calls;
+    uint64_t calls, answers[11]; /* of all cases; answers by their number */
     uint8_t filling;
     struct input text, tape, code;
     uint32_t count; /* of the code's bits */

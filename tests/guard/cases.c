@@ -75,14 +75,16 @@ void draw_pattern(struct source *source, struct pattern *pattern, bool endless)
     static const char *const mixes[] = {"ELLRRSSAAK", "ELRSAKKKK", "EEELSSSSAK", "ELAAAAASK", "RRRRSSSSK", "ELRSAK"};
     const char *mix = endless ? "EEKSA" : mixes[draw(source, 6)];
     const uint32_t kinds = (uint32_t)strlen(mix);
-    uint32_t tree[WUMBYRA_MAX_LINES], trees = 0;
+    uint32_t tree[WUMBYRA_MAX_LINES], trees = 0, joined;
 
     pattern->count = chance(source, 3) ? 1 + draw(source, WUMBYRA_MAX_LINES) : 2 + draw(source, 12);
+    /* The line in which all trees are one: mostly the last but one, so that the last must be a star, as it is of meter tapes. */
+    joined = pattern->count > 1 && !chance(source, 4) ? pattern->count - 2 : pattern->count - 1;
     for (uint32_t i = 0; i < pattern->count; i++) {
         struct node *node = &pattern->node[i];
         do
             node->kind = mix[draw(source, kinds)];
-        while (!fits(node->kind, trees, pattern->count - i - 1));
+        while (!fits(node->kind, trees, i < joined ? joined - i : 0));
         node->account = chance(source, 3) ? 1 + draw(source, 9) : 0;
         node->low = draw_letter(source);
         node->high = draw_letter(source);
