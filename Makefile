@@ -40,6 +40,8 @@ installed = include/wumbyra.h lib/libwumbyra.a lib/$(shared) lib/$(soname) lib/l
 
 .PHONY: all install uninstall check-prefix
 .DELETE_ON_ERROR:
+# Two runs of `rt` would write to the same folder.
+.NOTPARALLEL:
 
 all: $(archive) $(library) $(program)
 
