@@ -18,5 +18,8 @@ pub mod Paper03Laws
 -- The same by 03's own definitions.
 pub mod Paper03Read
 pub mod Paper03Same
+pub mod Paper03Fields
 pub mod Paper03Load
 pub mod Paper03Tree
+pub mod Paper03Promise
+pub mod Paper03Promised

@@ -1,7 +1,7 @@
 -- Document 03's specs/Codes.antt, word for word: what a code spells, empty rounds, the order of codes, and the greedy reading of a tape by its
 -- code. Its bytes are in crate bits (Paper03). Definitions only.
 use mathlib.Core.Path.{_≡_}
-use mathlib.Core.Bool.{Bool, true, false, _&&_, _||_, not, cond}
+use mathlib.Core.Bool.{Bool, true, false, _&&_, _||_, cond}
 use mathlib.Core.List.{List, [], _∷_, _++_}
 use Prim.Native.Nat.{ℕ, zero, suc, _+_, _*_}
 use lib.Dec.{ltb, leb, eqb}

@@ -1,6 +1,6 @@
 -- The statements of document 03 over pattern texts hold.
 use mathlib.Core.Path.{_≡_, refl, sym, ap, subst, _∙_}
-use mathlib.Core.Bool.{Bool, true, false, _&&_}
+use mathlib.Core.Bool.{Bool, true, false}
 use mathlib.Core.List.{List, [], _∷_, _++_}
 use Prim.Native.Nat.{ℕ, _+_, _*_, _≤_}
 use native.Mathlib.Omega.{arith}
@@ -11,9 +11,9 @@ use Rattle.syntax.specs.declared.Pattern.{Pattern}
 use Rattle.syntax.specs.Bools.{and-fst, and-snd, and-intro}
 use Rattle.syntax.specs.Table.{obeys}
 use Rattle.syntax.specs.Trees.{root as tree-of}
-use Rattle.loading.specs.Load.{load-answer, load-table}
+use Rattle.loading.specs.Load.{load-answer}
 use Rattle.loading.specs.LoadLaws.{loaded-obeys}
-use Rattle.bits.specs.Paper03.{is-bits, numbers, bools, mark-bit, mark-bit-test, packs-back}
+use Rattle.bits.specs.Paper03.{is-bits, numbers, bools, mark-bit-test, packs-back}
 use Rattle.semantics.specs.Decode.{is-code as is-code-of, spelled as spelled-of, hollow as hollow-of}
 use Rattle.semantics.specs.CodeLaws.{spells-iff}
 use Rattle.semantics.specs.Promise.{GreedyCode, Settles as Settles-of, Codes-part as Codes-part-of, Few-bits as Few-bits-of}

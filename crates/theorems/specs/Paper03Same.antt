@@ -1,37 +1,31 @@
 -- Document 03's codes of a list of nodes are the codes of the table whose lines these nodes are: the same bits are whole codes, spell the same
 -- and hold the same empty rounds, so the same code is the greedy one.
 use mathlib.Core.Path.{_≡_, refl, sym, ap, ap₂, subst, _∙_}
-use mathlib.Core.Bool.{Bool, true, false, _&&_, _||_, not, cond}
+use mathlib.Core.Bool.{Bool, true, false, _&&_, not}
 use mathlib.Core.Option.{Option, none, some, bind}
-use mathlib.Core.List.{List, [], _∷_, _++_, append-nil}
-use Prim.Native.Nat.{ℕ, zero, suc, _+_, _-_, _≤_, _<_}
+use mathlib.Core.List.{List, [], _∷_, append-nil}
+use Prim.Native.Nat.{ℕ, suc, _-_, _<_}
 use native.Mathlib.Omega.{arith}
 use borrow.Author.Tests.{ne-eqb}
 use lib.Dec.{leb, eqb}
 use lib.ListN.{length}
-use Rattle.syntax.specs.declared.Leaf.the-variants.{Nothing, Letter, Range}
-use Rattle.syntax.specs.declared.Node.{Node as Own-node}
-use Rattle.syntax.specs.declared.Node.the-variants.{Leaf as Leaf-node, Sequence, Alternative, Star}
 use Rattle.syntax.specs.declared.Pattern.{Pattern}
-use Rattle.syntax.specs.Table.{obeys, line-at, node-at}
+use Rattle.syntax.specs.Table.{obeys, line-at}
 use Rattle.syntax.specs.Tree.{Tree}
 use Rattle.syntax.specs.Trees.{tree-of, root as root-of}
-use Rattle.syntax.specs.TreeLaws.{Rules, obeys-iff}
-use Rattle.bits.specs.Bits.{bit, count-below}
-use Rattle.bits.specs.Words.{count-same}
+use Rattle.syntax.specs.TreeLaws.{obeys-iff}
 use Rattle.bits.specs.Paper03.{is-bits, numbers, bools}
 use Rattle.semantics.specs.Value.{Value, flat, nonproblematic}
-use Rattle.semantics.specs.Code.{code, code-limit, IsCode}
-use Rattle.semantics.specs.Decode.{decode, whole-of, value-of, there, is-code as is-code-of, spelled as spelled-of, hollow as hollow-of, read as decoded}
+use Rattle.semantics.specs.Code.{code, IsCode}
+use Rattle.semantics.specs.Decode.{whole-of, value-of, there, is-code as is-code-of, read as decoded}
 use Rattle.semantics.specs.DecodeLaws.{read-code as decoded-code, decode-read}
 use Rattle.semantics.specs.CodeLaws.{is-code-iff, spelled-is, hollow-is}
-use Rattle.parser.specs.ChoiceLaws.{is-choice}
-use Rattle.theorems.specs.Paper03Pattern.{Node, no-node, node, root}
+use Rattle.theorems.specs.Paper03Pattern.{Node, node, root}
 use Rattle.theorems.specs.Paper03Codes.{Read, read, read-node, read-code, is-code, spelled, hollow, Greedy}
-use Rattle.theorems.specs.Paper03.{choices as choices-in, is-code as is-code-in, spelled as spelled-in, hollow as hollow-in, Greedy as Greedy-in}
+use Rattle.theorems.specs.Paper03.{is-code as is-code-in, spelled as spelled-in, hollow as hollow-in, Greedy as Greedy-in}
 use Rattle.theorems.specs.Paper03Laws.{bits-are, code-of}
 use Rattle.theorems.specs.Numbers.{numbers-bools, length-numbers}
-use Rattle.theorems.specs.Paper03Read.{Same, Reads-as, line-as, node-as, reads-node}
+use Rattle.theorems.specs.Paper03Read.{Same, Reads-as, line-as, reads-node}
 
 -- the nodes are the table's lines
 pub record Lists (p : Pattern) (ns : List Node) : Type 0 where

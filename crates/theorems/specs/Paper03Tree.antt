@@ -1,10 +1,10 @@
 -- Document 03's tree faults, and its loading as a whole: a text that 03 accepts loads, and its nodes are the lines of the table that loading gives.
-use mathlib.Core.Path.{_≡_, refl, sym, ap, ap₂, subst, _∙_}
+use mathlib.Core.Path.{_≡_, refl, sym, ap, ap₂, _∙_}
 use mathlib.Core.Bool.{Bool, true, false, _&&_, _||_, not, cond, false≢true}
 use mathlib.Core.Logic.{_⊎_, inl, inr, ⊎-elim}
-use mathlib.Core.Option.{Option, none, some}
+use mathlib.Core.Option.{none}
 use mathlib.Core.List.{List, [], _∷_, _++_, map}
-use Prim.Native.Nat.{ℕ, zero, suc, _+_, _-_, _≤_, _<_}
+use Prim.Native.Nat.{ℕ, zero, suc, _+_, _-_, _<_}
 use native.Mathlib.Omega.{arith}
 use borrow.Author.Tests.{le-leb, lt-leb, ltb-true, ltb-false, eqb-true, eqb-false}
 use lib.Dec.{ltb, leb, eqb}
@@ -17,14 +17,15 @@ use Rattle.syntax.specs.declared.Pattern.{Pattern}
 use Rattle.syntax.specs.Table.{blank, line-at, node-at, parts, member, named-below, rightly-named, wrongly-names, unnamed, lowest, or-else, tree-fault}
 use Rattle.syntax.specs.Lowest.{none-lowest}
 use Rattle.semantics.specs.Basics.{or-left, or-right, or-cases}
-use Rattle.loading.specs.Text.{rows, Forms, good, fault, forms}
+use Rattle.loading.specs.Text.{rows, good, forms}
 use Rattle.loading.specs.Load.{table, tree-answer, tree-table, forms-answer, forms-table, load-answer, load-table}
 use Rattle.loading.specs.LoadLaws.{loaded-obeys}
-use Rattle.theorems.specs.Paper03Pattern.{Node, no-node, node, Line as Text-line, lines, nodes-in, forms-from, Refusal, refusal, load-refusal, loaded}
+use Rattle.theorems.specs.Paper03Pattern.{no-node, node, Line as Text-line, lines, nodes-in, forms-from, Refusal, refusal, load-refusal, loaded}
 use Rattle.theorems.specs.Paper03Pattern.{parts as parts-03, member as member-03, part-bad, tree-from, all-parts, unnamed-from}
 use Rattle.theorems.specs.Paper03Pattern.{or-else as or-refusal, tree-refusal}
 use Rattle.theorems.specs.Paper03Read.{node-as, line-as}
-use Rattle.theorems.specs.Paper03Load.{row-of, rows-are, formed}
+use Rattle.theorems.specs.Paper03Fields.{rows-are}
+use Rattle.theorems.specs.Paper03Load.{formed}
 use Rattle.theorems.specs.Paper03Same.{Lists}
 
 -- ── parts and names ──

@@ -1,11 +1,10 @@
 -- A whole code of a pattern that obeys the rules, of letters within the limit: no cause of spelling, totalling or showing a piece refuses it
 -- but a buffer that is too short or a visit that is not there. The one place of this crate that looks into the order of the checks.
-use mathlib.Core.Path.{_≡_, refl, sym, ap, ap₂, subst, _∙_}
+use mathlib.Core.Path.{_≡_, refl, ap, subst, _∙_}
 use mathlib.Core.Bool.{true, cond}
 use mathlib.Core.Option.{Option, none, some}
 use mathlib.Core.List.{List, [], _∷_}
 use Prim.Native.Nat.{ℕ, _≤_}
-use native.Mathlib.Omega.{arith}
 use borrow.Author.Tests.{le-leb, le-ltb, eq-eqb}
 use lib.Dec.{eqb}
 use lib.ListN.{length}

@@ -20,7 +20,6 @@ use Rattle.semantics.specs.Sweeps.{readable, greedy}
 use Rattle.semantics.specs.GreedyLaws.{readable-iff}
 use Rattle.first_sweep.specs.StateSets.{words}
 use Rattle.first_sweep.specs.Meaning.{words-at}
-use Rattle.parser.specs.declared.Parsed.{Parsed}
 use Rattle.parser.specs.declared.Parsed.the-variants.{Bits, Refused}
 use Rattle.parser.specs.Parse.{parsed-answer, Parses}
 use Rattle.parser.specs.Writing.{Writes}

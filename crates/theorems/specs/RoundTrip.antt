@@ -1,7 +1,7 @@
 -- WHAT READING ANSWERS AND LEAVES, handed on: spelling gives back the tape, settling the same code, totals and pieces are those of the greedy
 -- value. Over the promises of the services: for every pattern, tape, lent buffers and answers that they allow.
 use mathlib.Core.Path.{_≡_, refl, sym, ap, ap₂, subst, _∙_}
-use mathlib.Core.Bool.{Bool, true}
+use mathlib.Core.Bool.{Bool}
 use mathlib.Core.Option.{some}
 use mathlib.Core.List.{List}
 use Prim.Native.Nat.{ℕ, _+_, _*_, _≤_}
@@ -26,7 +26,6 @@ use Rattle.semantics.specs.Sweeps.{greedy}
 use Rattle.semantics.specs.CodeLaws.{value-of-code}
 use Rattle.semantics.specs.GreedyLaws.{canonical-greedy}
 use Rattle.first_sweep.specs.StateSets.{words}
-use Rattle.walks.specs.Whole.{letters-of}
 use Rattle.codes.specs.declared.Flattened.{Flattened}
 use Rattle.codes.specs.declared.Flattened.the-variants.{Letters, Refused as Not-flattened}
 use Rattle.codes.specs.declared.Totalled.{Totalled}
@@ -43,8 +42,8 @@ use Rattle.canonical.specs.declared.Canonicalized.the-variants.{Bits}
 use Rattle.canonical.specs.Canonicalize.{Canonicalizes}
 use Rattle.canonical.specs.CanonicalLaws.{laid, settle-read}
 use Rattle.canonical.specs.Unique.{canonicalizes-one}
-use Rattle.canonical.specs.Demand.{Is-code, tape-of, Earliest}
-use Rattle.canonical.specs.Demanded.{greedy-is, greedy-spells, greedy-earliest}
+use Rattle.canonical.specs.Demand.{tape-of, Earliest}
+use Rattle.canonical.specs.Demanded.{greedy-spells, greedy-earliest}
 use Rattle.theorems.specs.Read.{Read, read, read-greedily}
 use Rattle.theorems.specs.Passed.{flatten-answers, flatten-writes, totals-answers, totals-adds, span-answers, span-shows}
 

@@ -6,7 +6,6 @@ use mathlib.Core.Logic.{_↔_}
 use mathlib.Core.List.{List}
 use Prim.Native.Nat.{ℕ, _+_, _*_, _≤_}
 use lib.ListN.{length, take}
-use Rattle.syntax.specs.declared.Pattern.{Pattern}
 use Rattle.syntax.specs.Trees.{root}
 use Rattle.loading.specs.Load.{load-answer, load-table}
 use Rattle.bits.specs.Bits.{cell-count}

@@ -1,19 +1,18 @@
 -- The third demand for pattern texts and the call from C is met: canonical's theorem, on the table of the text.
-use mathlib.Core.Path.{_≡_, refl, sym, ap, ap₂, subst, _∙_}
+use mathlib.Core.Path.{_≡_, refl, sym, ap, subst, _∙_}
 use mathlib.Core.List.{List}
 use Prim.Native.Nat.{ℕ, _≤_}
 use lib.ListN.{length, take}
 use Rattle.syntax.specs.Letter.{letter-limit}
 use Rattle.refusals.specs.Refusals.{answer}
-use Rattle.loading.specs.Load.{load-answer, load-table}
+use Rattle.loading.specs.Load.{load-table}
 use Rattle.loading.specs.LoadLaws.{loaded-obeys}
 use Rattle.bits.specs.Bits.{cell-count}
-use Rattle.canonical.specs.Canonicalize.{canonicalized-answer}
-use Rattle.canonical.specs.Demand.{Code, spells, Run, Settled, Equal, Earliest, Settles-well as Settles-run, Demand as Demand-run, Third-demand as Of-tables}
+use Rattle.canonical.specs.Demand.{spells, Run, Settled, Earliest, Settles-well as Settles-run, Third-demand as Of-tables}
 use Rattle.canonical.specs.Demanded.{spells-same, third-demand}
 use Rattle.wumbyra.specs.Packed.{unpacked}
 use Rattle.wumbyra.specs.Unique.{unpacked-same}
-use Rattle.theorems.specs.ThirdDemand.{Code-of, Call, count-of, bytes-of, Settles-well, Demand, Third-demand}
+use Rattle.theorems.specs.ThirdDemand.{Code-of, Call, count-of, bytes-of, Settles-well, Third-demand}
 
 module _ (text : List ℕ) where
   -- a call from C is a run of the service on the table of the text

@@ -1,0 +1,108 @@
+-- Document 03's lines and fields are those of loading: the same cut, and each field says the same place, account or letter.
+use mathlib.Core.Path.{_≡_, refl, sym, ap, _∙_}
+use mathlib.Core.Bool.{Bool, true, false, _&&_, not, cond, false≢true}
+use mathlib.Core.List.{List, [], _∷_, map}
+use Prim.Native.Nat.{ℕ, suc, _+_, _*_, _-_, _≤_, _<_}
+use native.Mathlib.Omega.{arith}
+use native.Mathlib.Decide.{decLe}
+use borrow.Author.Tests.{leb-true, le-leb, ltb-true, lt-ltb, eqb-false, ne-eqb}
+use lib.Dec.{ltb, leb, eqb}
+use lib.ListN.{length, getD}
+use Rattle.syntax.specs.Bools.{and-fst, and-snd}
+use Rattle.syntax.specs.Letter.{is-letter}
+use Rattle.loading.specs.Text.{Row, byte-front, row-front, rows, digit, one-digit, two-digits, place, single, account}
+use Rattle.theorems.specs.Paper03Pattern.{Line as Text-line, put-front, closed-empty, lines, put-piece, fields, is-digit, place-value, is-place}
+use Rattle.theorems.specs.Paper03Pattern.{is-letter as is-letter-field, account-value}
+
+-- ── lines and their fields ──
+abbrev pub row-of : Text-line → Row
+row-of x = record { fields = fields (x .text); closed = x .closed }
+
+piece-front : (b : ℕ) (ws : List (List ℕ)) → byte-front b ws ≡ put-piece b ws
+unfolding put-piece
+piece-front b [] = refl
+piece-front b (w ∷ ws) = refl
+
+-- a tab in front of a line starts a field, another byte goes to the first field
+tab-front : (b : ℕ) (ls : List Text-line) → eqb b 9 ≡ true → row-front (λ fs. [] ∷ fs) (map row-of ls) ≡ map row-of (put-front b ls)
+unfolding put-front fields
+tab-front b [] e = ap (λ c. record { fields = cond c ([] ∷ ([] ∷ [])) (put-piece b ([] ∷ [])); closed = false } ∷ []) (sym e)
+tab-front b (x ∷ ls) e =
+    ap (λ c. record { fields = cond c ([] ∷ fields (x .text)) (put-piece b (fields (x .text))); closed = x .closed } ∷ map row-of ls) (sym e)
+
+byte-in-front : (b : ℕ) (ls : List Text-line) → eqb b 9 ≡ false → row-front (byte-front b) (map row-of ls) ≡ map row-of (put-front b ls)
+unfolding put-front fields
+byte-in-front b [] e =
+    ap (λ w. record { fields = w; closed = false } ∷ []) (piece-front b ([] ∷ []))
+    ∙ ap (λ c. record { fields = cond c ([] ∷ ([] ∷ [])) (put-piece b ([] ∷ [])); closed = false } ∷ []) (sym e)
+byte-in-front b (x ∷ ls) e =
+    ap (λ w. record { fields = w; closed = x .closed } ∷ map row-of ls) (piece-front b (fields (x .text)))
+    ∙ ap (λ c. record { fields = cond c ([] ∷ fields (x .text)) (put-piece b (fields (x .text))); closed = x .closed } ∷ map row-of ls) (sym e)
+
+pub rows-are : (text : List ℕ) → rows text ≡ map row-of (lines text)
+unfolding rows lines fields
+rows-are [] = refl
+rows-are (b ∷ bs) = go (eqb b 10) (eqb b 9) refl (rows-are bs)
+  where
+    go : (ten nine : Bool) → eqb b 9 ≡ nine → rows bs ≡ map row-of (lines bs)
+        → cond ten (record { fields = [] ∷ []; closed = true } ∷ rows bs)
+        (cond nine (row-front (λ fs. [] ∷ fs) (rows bs)) (row-front (byte-front b) (rows bs)))
+        ≡ map row-of (cond ten (closed-empty ∷ lines bs) (put-front b (lines bs)))
+    go true nine e q = ap (λ l. record { fields = [] ∷ []; closed = true } ∷ l) q
+    go false true e q = ap (row-front (λ fs. [] ∷ fs)) q ∙ tab-front b (lines bs) e
+    go false false e q = ap (row-front (byte-front b)) q ∙ byte-in-front b (lines bs) e
+
+-- ── what a field says ──
+above : (a : ℕ) → 48 ≤ a → (a ≡ 48 → ⊥) → 49 ≤ a
+above a h n = go (decLe 49 a)
+  where
+    go : Dec (49 ≤ a) → 49 ≤ a
+    go (yes k) = k
+    go (no k) = absurd (n (omega arith))
+
+pub place-same : (w : List ℕ) → place-value w < 64 → place w ≡ place-value w
+unfolding place-value is-digit place one-digit two-digits digit
+place-same [] h = absurd (omega arith)
+place-same (a ∷ []) h = go (leb 48 a && leb a 57) refl h
+  where
+    go : (d : Bool) → (leb 48 a && leb a 57) ≡ d → cond d (a - 48) 64 < 64
+        → cond (ltb (cond d (a - 48) 10) 10) (cond d (a - 48) 10) 64 ≡ cond d (a - 48) 64
+    go false e k = absurd (omega arith)
+    go true e k = let z = leb-true a 57 (and-snd (leb 48 a) (leb a 57) e) in rw (lt-ltb (a - 48) 10 (omega arith)) refl
+place-same (a ∷ b ∷ []) h = go (leb 48 a && leb a 57) refl (leb 48 b && leb b 57) refl (eqb a 48) refl h
+  where
+    go : (d : Bool) → (leb 48 a && leb a 57) ≡ d → (f : Bool) → (leb 48 b && leb b 57) ≡ f → (z : Bool) → eqb a 48 ≡ z
+        → cond (d && (f && not z)) (10 * (a - 48) + (b - 48)) 64 < 64
+        → cond ((leb 1 (cond d (a - 48) 10) && leb (cond d (a - 48) 10) 9)
+        && (leb (cond f (b - 48) 10) 9 && ltb (10 * cond d (a - 48) 10 + cond f (b - 48) 10) 64)) (10 * cond d (a - 48) 10 + cond f (b - 48) 10) 64
+        ≡ cond (d && (f && not z)) (10 * (a - 48) + (b - 48)) 64
+    go true e true q false n k =
+        let low = leb-true 48 a (and-fst (leb 48 a) (leb a 57) e) in
+        let high = leb-true a 57 (and-snd (leb 48 a) (leb a 57) e) in
+        let last = leb-true b 57 (and-snd (leb 48 b) (leb b 57) q) in
+        let one = above a low (eqb-false a 48 n) in
+        rw (le-leb 1 (a - 48) (omega arith), le-leb (a - 48) 9 (omega arith), le-leb (b - 48) 9 (omega arith), lt-ltb (10 * (a - 48) + (b - 48)) 64 k) refl
+    go true e true q true n k = absurd (omega arith)
+    go true e false q z n k = absurd (omega arith)
+    go false e f q z n k = absurd (omega arith)
+place-same (a ∷ b ∷ c ∷ more) h = absurd (omega arith)
+
+pub is-place-same : (w : List ℕ) → is-place w ≡ true → (place w ≡ place-value w) × (ltb (place w) 64 ≡ true)
+unfolding is-place
+is-place-same w h = let e = place-same w (ltb-true (place-value w) 64 h) in (e, ap (λ k. ltb k 64) e ∙ h)
+
+pub long : (more : List ℕ) → eqb (suc (suc (length more))) 1 ≡ false
+long more = ne-eqb (suc (suc (length more))) 1 (λ z. omega arith)
+
+pub account-same : (w : List ℕ) → account-value w ≡ account (single w)
+unfolding account-value account single
+account-same [] = refl
+account-same (a ∷ []) = refl
+account-same (a ∷ b ∷ more) = rw (long more) refl
+
+pub letter-same : (w : List ℕ) → is-letter-field w ≡ true → (is-letter (single w) ≡ true) × (getD w 0 0 ≡ single w)
+unfolding is-letter-field is-letter single
+letter-same [] h = absurd (false≢true h)
+letter-same (a ∷ []) h = (h, refl)
+letter-same (a ∷ b ∷ more) h =
+    absurd (false≢true (sym (long more) ∙ and-fst (eqb (suc (suc (length more))) 1) (leb 33 a && leb a 126) h))
