@@ -1,14 +1,17 @@
--- Document 03's specs/Promise.antt, word for word, over 03's own definitions of texts, nodes and codes: every statement but `Marks-right`, which
--- Paper03 states over the words that the contracts cite, and `Packs-back`, which stands as it is in crate bits. Definitions only.
+-- Document 03's specs/Promise.antt, word for word, over 03's own definitions of texts, nodes and codes; only the mark words of `Marks-right` are
+-- those of this repository. Definitions only.
 use mathlib.Core.Path.{_≡_}
 use mathlib.Core.Bool.{Bool, true, false, _||_, cond}
 use mathlib.Core.List.{List, [], _∷_, _++_}
 use Prim.Native.Nat.{ℕ, _+_, _*_, _≤_}
 use lib.Dec.{eqb}
-use lib.ListN.{length}
-use Rattle.bits.specs.Paper03.{is-bits}
-use Rattle.theorems.specs.Paper03Pattern.{Node, load-refusal, loaded}
+use lib.ListN.{length, getD}
+use Rattle.loading.specs.Load.{load-table}
+use Rattle.bits.specs.Paper03.{is-bits, mark-bit, Packs-back}
+use Rattle.first_sweep.specs.StateSets.{words}
+use Rattle.theorems.specs.Paper03Pattern.{Node, load-refusal, loaded, root}
 use Rattle.theorems.specs.Paper03Codes.{is-code, spelled, hollow, Greedy}
+use Rattle.theorems.specs.Paper03.{tape-good}
 
 unfoldable pub is-pattern : (text : List ℕ) → Bool
 is-pattern bs = eqb (load-refusal bs .number) 0
@@ -48,10 +51,22 @@ Few-bits =
     × (1 ≤ length (spelled (loaded text) bs) →
     length bs ≤ 2 * choices (loaded text) * length (spelled (loaded text) bs) + 8 * length (spelled (loaded text) bs))
 
--- all of these
+-- THE SECOND DEMAND: the root's mark with flag 1 at the tape's start says whether some reading spells it. In the place of 03's `marks` stand
+-- the words that reading promises to fill in, which say of every node, position and flag what 01 says (first_sweep's `words-say`).
+unfoldable pub Marks-right : Type 0
+Marks-right =
+    (text cs : List ℕ) → is-pattern text ≡ true → tape-good cs ≡ true →
+    (mark-bit (getD (words (load-table text) cs) 1 0) (root (loaded text)) ≡ true →
+    (bs : List ℕ) × (is-code (loaded text) bs ≡ true) × (spelled (loaded text) bs ≡ cs))
+    × ((bs : List ℕ) → is-code (loaded text) bs ≡ true → spelled (loaded text) bs ≡ cs →
+    mark-bit (getD (words (load-table text) cs) 1 0) (root (loaded text)) ≡ true)
+
+-- all of them; `Packs-back` is 03's own in crate bits
 pub record Promise : Type 0 where
   pub settles : Settles
   pub settled-equal : Settled-equal
   pub settled-again : Settled-again
   pub codes-part : Codes-part
   pub few-bits : Few-bits
+  pub marks-right : Marks-right
+  pub packs-back : Packs-back

@@ -1,9 +1,8 @@
--- Document 03's statements hold by 03's own definitions: each follows from the one of Paper03, since the texts, nodes and codes are the same. So
--- none of them is weakened.
+-- Document 03's statements hold by 03's own definitions: each follows from the one of Paper03, since texts, nodes and codes are the same.
 use mathlib.Core.Path.{_≡_, refl, sym, ap, ap₂, subst, _∙_}
 use mathlib.Core.Bool.{Bool, true, _||_, cond}
 use mathlib.Core.List.{List, [], _∷_, _++_}
-use Prim.Native.Nat.{ℕ, zero, suc, _+_, _≤_, _<_}
+use Prim.Native.Nat.{ℕ, zero, suc, _+_, _-_, _≤_, _<_}
 use native.Mathlib.Omega.{arith}
 use borrow.Author.Tests.{eqb-true, eq-eqb}
 use lib.Dec.{eqb}
@@ -15,19 +14,21 @@ use Rattle.syntax.specs.declared.Pattern.{Pattern}
 use Rattle.syntax.specs.Table.{line-at, node-at}
 use Rattle.loading.specs.Load.{load-answer, load-table}
 use Rattle.bits.specs.Bits.{bit, count-below}
+use Rattle.bits.specs.Paper03.{mark-bit, packs-back}
+use Rattle.first_sweep.specs.StateSets.{words}
 use Rattle.parser.specs.ChoiceLaws.{is-choice}
-use Rattle.theorems.specs.Paper03Pattern.{Node, no-node, node, load-refusal, loaded}
+use Rattle.theorems.specs.Paper03Pattern.{Node, no-node, node, load-refusal, loaded, root}
 use Rattle.theorems.specs.Paper03Codes.{is-code, spelled, Greedy}
 use Rattle.theorems.specs.Paper03.{is-pattern as is-pattern-in, choices as choices-in, is-code as is-code-in, spelled as spelled-in}
 use Rattle.theorems.specs.Paper03.{Greedy as Greedy-in}
 use Rattle.theorems.specs.Paper03.{Settles as Settles-in, Settled-equal as Settled-equal-in, Settled-again as Settled-again-in}
-use Rattle.theorems.specs.Paper03.{Codes-part as Codes-part-in, Few-bits as Few-bits-in}
+use Rattle.theorems.specs.Paper03.{Codes-part as Codes-part-in, Few-bits as Few-bits-in, Marks-right as Marks-right-in}
 use Rattle.theorems.specs.Paper03Laws.{settles as settles-in, settled-equal as settled-equal-in, settled-again as settled-again-in}
-use Rattle.theorems.specs.Paper03Laws.{codes-part as codes-part-in, few-bits as few-bits-in}
+use Rattle.theorems.specs.Paper03Laws.{codes-part as codes-part-in, few-bits as few-bits-in, marks-right as marks-right-in}
 use Rattle.theorems.specs.Paper03Read.{node-as}
 use Rattle.theorems.specs.Paper03Same.{Lists, code-same, spelled-same, hollow-same, greedy-in, greedy-out}
 use Rattle.theorems.specs.Paper03Tree.{Loads-03, loads-03, lists-03}
-use Rattle.theorems.specs.Paper03Promise.{is-pattern, Settles, Settled-equal, Settled-again, choices, Codes-part, Few-bits, Promise}
+use Rattle.theorems.specs.Paper03Promise.{is-pattern, Settles, Settled-equal, Settled-again, choices, Codes-part, Few-bits, Marks-right, Promise}
 
 -- ── the count of `A` and `K` ──
 choice-same : (c : ℕ) (n : Own-node) → cond (eqb (node-as c n .kind) 4 || eqb (node-as c n .kind) 5) 1 0 ≡ bit (is-choice n)
@@ -119,6 +120,26 @@ few-bits text bs h c o =
     let q = few-bits-in text bs (own text h) (coded text h bs c) (sym k ∙ o) in
     rw (choices-same (load-table text) (loaded text) (lists text h), spells text h bs c) q
 
--- NOTHING OF 03 IS WEAKENED: its own statements, by its own definitions
+pub marks-right : Marks-right
+unfolding Marks-right Marks-right-in root
+marks-right text cs h good =
+    let q = marks-right-in text cs (own text h) good in
+    let e : length (loaded text) - 1 ≡ load-table text .count - 1 = ap (λ n. n - 1) (lists text h .size) in (
+      λ m.
+          let (bs, c, s) = q .0 (ap (mark-bit (getD (words (load-table text) cs) 1 0)) (sym e) ∙ m) in
+          let k : is-code (loaded text) bs ≡ true = code-same (load-table text) (loaded text) (lists text h) bs ∙ c in
+          (bs, k, spells text h bs k ∙ s),
+      λ bs c s. ap (mark-bit (getD (words (load-table text) cs) 1 0)) e ∙ q .1 bs (coded text h bs c) (sym (spells text h bs c) ∙ s),
+    )
+
+-- NOTHING OF 03 IS WEAKENED: its own statements
 pub promised : Promise
-promised = record { settles = settles; settled-equal = settled-equal; settled-again = settled-again; codes-part = codes-part; few-bits = few-bits }
+promised = record {
+  settles = settles;
+  settled-equal = settled-equal;
+  settled-again = settled-again;
+  codes-part = codes-part;
+  few-bits = few-bits;
+  marks-right = marks-right;
+  packs-back = packs-back;
+}
