@@ -9,7 +9,8 @@ use borrow.Author.Tests.{le-leb, le-ltb, eq-eqb}
 use lib.Dec.{eqb}
 use lib.ListN.{length}
 use Rattle.syntax.specs.declared.Pattern.{Pattern}
-use Rattle.refusals.specs.Refusals.{answer}
+use Rattle.refusals.specs.declared.Refusal.the-variants.{NoSuchVisit}
+use Rattle.refusals.specs.Refusals.{Answer, answer, refused}
 use Rattle.syntax.specs.Letter.{first-bad, letter-limit}
 use Rattle.syntax.specs.Table.{obeys}
 use Rattle.syntax.specs.Trees.{root}
@@ -20,7 +21,12 @@ use Rattle.walks.specs.Whole.{whole-code, letters-of}
 use Rattle.codes.specs.Flatten.{flatten-answer, flatten-tape}
 use Rattle.codes.specs.Totals.{entries-of, no-litres, totals-answer, totals-litres}
 use Rattle.codes.specs.Spells.{same, code-of-tape}
-use Rattle.spans.specs.Spans.{span-visit, visit-answer, span-answer, span-shown}
+use Rattle.spans.specs.Spans.{span-visit, span-answer, span-shown}
+
+-- 01, cause 10: "node outside the table or visited at most k times"
+abbrev pub visit-answer : Option Visit → Answer
+visit-answer none = refused NoSuchVisit
+visit-answer (some x) = answer 0 0
 
 same-self : (xs : List ℕ) → same xs xs ≡ true
 same-self [] = refl
@@ -34,7 +40,15 @@ module _ (p : Pattern) (code : List ℕ) (count : ℕ) (good : obeys p ≡ true)
   module _ (tape : List ℕ) (room : length (letters-of (root p) code count) ≤ length tape) where
     pub flatten-answers : flatten-answer p code count (length tape) ≡ answer 0 (length (letters-of (root p) code count))
     unfolding flatten-answer
-    flatten-answers = rw (good, whole, le-leb (length own) letter-limit few, le-leb (length own) (length tape) room)
+    flatten-answers =
+        simp (
+          good,
+          whole,
+          le-leb (length own) letter-limit few,
+          le-ltb letter-limit (length own) few,
+          le-leb (length own) (length tape) room,
+          le-ltb (length tape) (length own) room,
+        )
 
     pub flatten-writes : flatten-tape p code count tape ≡ in-front (letters-of (root p) code count) tape
     unfolding flatten-tape
@@ -42,7 +56,7 @@ module _ (p : Pattern) (code : List ℕ) (count : ℕ) (good : obeys p ≡ true)
 
   pub totals-answers : totals-answer p code count ≡ answer 0 0
   unfolding totals-answer
-  totals-answers = rw (good, whole, le-leb (length own) letter-limit few)
+  totals-answers = simp (good, whole, le-leb (length own) letter-limit few, le-ltb letter-limit (length own) few)
 
   pub totals-adds : totals-litres p code count ≡ totals (entries-of (root p) code count)
   unfolding totals-litres
@@ -55,9 +69,30 @@ module _ (p : Pattern) (code : List ℕ) (count : ℕ) (good : obeys p ≡ true)
 
     pub span-answers : span-answer p tape code count l k ≡ visit-answer (span-visit p code count l k)
     unfolding span-answer
-    span-answers =
-        let short : length tape ≤ letter-limit = subst (λ w. length w ≤ letter-limit) e few in
-        rw (good, le-leb (length tape) letter-limit short, le-ltb (first-bad tape) (length tape) letters, of-tape)
+    span-answers = go (span-visit p code count l k) refl
+      where
+        short : length tape ≤ letter-limit
+        short = subst (λ w. length w ≤ letter-limit) e few
+
+        go : (x : Option Visit) → span-visit p code count l k ≡ x → span-answer p tape code count l k ≡ visit-answer x
+        go none q =
+            simp (
+              good,
+              le-leb (length tape) letter-limit short,
+              le-ltb letter-limit (length tape) short,
+              le-ltb (first-bad tape) (length tape) letters,
+              of-tape,
+              q,
+            )
+        go (some x) q =
+            simp (
+              good,
+              le-leb (length tape) letter-limit short,
+              le-ltb letter-limit (length tape) short,
+              le-ltb (first-bad tape) (length tape) letters,
+              of-tape,
+              q,
+            )
 
     pub span-shows : span-shown p tape code count l k ≡ span-visit p code count l k
     unfolding span-shown

@@ -34,7 +34,7 @@ use Rattle.codes.specs.declared.TotalsOutcome.the-variants.{Added, Refused as N
 use Rattle.codes.specs.Flatten.{flattened-answer, Flattens}
 use Rattle.codes.specs.Totals.{entries-by, entries-of, totals-outcome, Totals}
 use Rattle.spans.specs.declared.Spanned.{Spanned}
-use Rattle.spans.specs.Spans.{visit-by, span-visit, visit-answer, span-answer, start-of, size-of, span-shown, span-outcome, Spans}
+use Rattle.spans.specs.Spans.{visit-by, span-visit, span-answer, start-of, size-of, span-shown, span-outcome, Spans}
 use Rattle.parser.specs.declared.Parsed.the-variants.{Bits as Parsed-bits}
 use Rattle.parser.specs.Parse.{Parses}
 use Rattle.canonical.specs.declared.Canonicalized.{Canonicalized}
@@ -45,7 +45,7 @@ use Rattle.canonical.specs.Unique.{canonicalizes-one}
 use Rattle.canonical.specs.Demand.{tape-of, Earliest}
 use Rattle.canonical.specs.Demanded.{greedy-spells, greedy-earliest}
 use Rattle.theorems.specs.Read.{Read, read, read-greedily}
-use Rattle.theorems.specs.Passed.{flatten-answers, flatten-writes, totals-answers, totals-adds, span-answers, span-shows}
+use Rattle.theorems.specs.Passed.{visit-answer, flatten-answers, flatten-writes, totals-answers, totals-adds, span-answers, span-shows}
 
 -- 01: "A code is given as bytes and a bit count; the bytes are exactly enough". So of the buffer that reading left the bytes that it wrote
 -- are handed on, not the cells past them.

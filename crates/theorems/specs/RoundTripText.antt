@@ -14,13 +14,13 @@ use Rattle.semantics.specs.Order.{Greedy}
 use Rattle.semantics.specs.Accounts.{accounts, totals}
 use Rattle.semantics.specs.Visits.{visit}
 use Rattle.first_sweep.specs.StateSets.{words}
-use Rattle.spans.specs.Spans.{visit-answer}
 use Rattle.parser.specs.declared.Parsed.{Parsed}
 use Rattle.parser.specs.declared.Parsed.the-variants.{Bits, Refused}
 use Rattle.parser.specs.Parse.{parsed-answer, Parses}
 use Rattle.canonical.specs.Canonicalize.{canonicalized-answer}
 use Rattle.wumbyra.specs.Packed.{unpacked, Parses-text, Flattens-text, Canonicalizes-text, shown-answer, span-text, total-text, in-cells, Totals-text}
 use Rattle.wumbyra.specs.Unique.{unpacked-same}
+use Rattle.theorems.specs.Passed.{visit-answer}
 use Rattle.theorems.specs.RoundTrip.{written, flattens-back, parse-canonicalize, totals-greedy, span-greedy}
 
 -- `wumbyra_parse` answered r, which is number 0 and n bits
