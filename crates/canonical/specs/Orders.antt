@@ -1,8 +1,10 @@
 -- Settling a code: the first cause that holds is answered, whatever later causes hold, and leaves what 01's table says.
 use mathlib.Core.Path.{_≡_, refl, sym, ap, _∙_}
-use mathlib.Core.Bool.{Bool, true, false, not}
+use mathlib.Core.Bool.{Bool, true, false, not, false≢true}
 use mathlib.Core.List.{List, [], _∷_}
 use Prim.Native.Nat.{ℕ, _+_, _*_, _≤_, _<_}
+use native.Mathlib.Omega.{arith}
+use native.Mathlib.Decide.{decLe}
 use borrow.Author.Tests.{lt-ltb, le-ltb}
 use lib.ListN.{length}
 use Rattle.syntax.specs.declared.Pattern.{Pattern}
@@ -10,20 +12,23 @@ use Rattle.syntax.specs.Letter.{letter-limit}
 use Rattle.syntax.specs.Table.{obeys}
 use Rattle.syntax.specs.Trees.{root}
 use Rattle.refusals.specs.declared.Refusal.{Refusal}
-use Rattle.refusals.specs.declared.Refusal.the-variants.{Tree as Tree-fault, TapeTooLong, WordsTooShort, CodeTooShort, NotACode, TapeTooShort}
+use Rattle.refusals.specs.declared.Refusal.the-variants.{Tree as Tree-fault, TapeTooLong, Unreadable, WordsTooShort, CodeTooShort, NotACode, TapeTooShort}
 use Rattle.refusals.specs.Refusals.{answer}
 use Rattle.refusals.specs.Checks.{numbers, First, here, past, Clear}
-use Rattle.refusals.specs.CheckLaws.{first-answered, first-positive, first-more}
+use Rattle.refusals.specs.CheckLaws.{first-answered, first-positive, first-more, refused-first, first-among}
 use Rattle.bits.specs.Bits.{cell-count, in-front}
 use Rattle.semantics.specs.Code.{Canonical}
+use Rattle.semantics.specs.Sweeps.{greedy}
+use Rattle.semantics.specs.GreedyLaws.{greedy-canonical}
 use Rattle.first_sweep.specs.StateSets.{words as state-sets}
 use Rattle.walks.specs.Whole.{whole-code}
 use Rattle.codes.specs.Flatten.{flatten-order}
 use Rattle.codes.specs.FlattenLaws.{flatten-refused, flatten-fills}
 use Rattle.canonical.specs.declared.Canonicalized.{Canonicalized}
 use Rattle.canonical.specs.declared.Canonicalized.the-variants.{Refused}
-use Rattle.canonical.specs.Canonicalize.{word-check, settle-order, settle-early, Canonicalizes}
-use Rattle.canonical.specs.CanonicalLaws.{settles}
+use Rattle.canonical.specs.Canonicalize.{canonicalized-answer, word-check, settle-order, settle-early, Canonicalizes}
+use Rattle.canonical.specs.CanonicalLaws.{settle-passed, settles}
+use Rattle.canonical.specs.RoundTrip.{letters-readable}
 use Rattle.canonical.specs.Demand.{tape-of}
 use Rattle.canonical.specs.Unique.{canonicalized-same}
 
@@ -42,6 +47,34 @@ module _ (p : Pattern) (code : List ℕ) (count : ℕ) (tape tape-now words word
   only why f =
       let q = h .refuses (first-positive f (answer 0 0)) in
       (canonicalized-same r (Refused why) (q .0 ∙ first-answered f (answer 0 0)), q .1, q .2)
+
+  -- 5 is never answered: what a code spells can be read
+  pub never-5 : r ≡ Refused Unreadable → ⊥
+  unfolding settle-early
+  never-5 e = go (decLe 1 (settle-early p code count (length tape) (length words) .number))
+    where
+      read : settle-early p code count (length tape) (length words) .number ≡ 0
+          → Dec (cell-count 8 (length (greedy (root p) (tape-of p code count))) ≤ length canonical) → ⊥
+      read z d =
+          let s = settle-passed p code count (length tape) (length words) z .0 in
+          fit (greedy-canonical (root p) (tape-of p code count) (letters-readable p code count (s .whole))) d
+        where
+          fit : Canonical (root p) (tape-of p code count) (greedy (root p) (tape-of p code count))
+              → Dec (cell-count 8 (length (greedy (root p) (tape-of p code count))) ≤ length canonical) → ⊥
+          fit k (yes l) =
+              let m : _≡_ {A = ℕ} 0 5 = ap (λ a. a .number) (sym (h .reads z .fits (greedy (root p) (tape-of p code count)) k l .0) ∙ ap canonicalized-answer e) in
+              omega arith
+          fit k (no l) =
+              let q = h .reads z .short (greedy (root p) (tape-of p code count)) k (omega arith) in
+              let m : _≡_ {A = ℕ} 7 5 = ap (λ a. a .number) (sym (q .0) ∙ ap canonicalized-answer e) in
+              omega arith
+
+      go : Dec (1 ≤ settle-early p code count (length tape) (length words) .number) → ⊥
+      go (yes n) =
+          let k = refused-first (settle-order p code count (length tape) (length words)) (answer 0 0) refl Unreadable
+          (sym (h .refuses n .0) ∙ ap canonicalized-answer e) in
+          false≢true (first-among k)
+      go (no n) = read (omega arith) (decLe (cell-count 8 (length (greedy (root p) (tape-of p code count)))) (length canonical))
 
   -- a cause of spelling leaves the tape too
   abbrev All-left : Refusal → Type 0
@@ -82,7 +115,7 @@ module _ (p : Pattern) (code : List ℕ) (count : ℕ) (tape tape-now words word
               let c : Clear (flatten-order p code count (length tape)) = (ap not o, (ap not w, (few, (room, tt)))) in
               (q .0, h .spells ∙ flatten-fills p code count tape c, q .1, q .2)
 
-          -- 7: "code; the rest is filled". 5 never holds: what a code spells can be read.
+          -- 7: "code; the rest is filled"
           pub only-7 : 2 * (letters + 1) ≤ length words → (bits : List Bool) → Canonical (root p) (tape-of p code count) bits
               → length canonical < cell-count 8 (length bits)
               → (r ≡ Refused (CodeTooShort (cell-count 8 (length bits)))) × (tape-now ≡ in-front (tape-of p code count) tape)

@@ -39,6 +39,6 @@ flattened-answer (Letters n) = answer 0 n
 flattened-answer (Refused r) = refused r
 
 -- THE PROMISE of spelling, for every table, bytes, count and buffer
-pub record Flattens (p : Pattern) (code : List ℕ) (count : ℕ) (tape after : List ℕ) (r : Flattened) : Type 0 where
+pub record Flattens (p : Pattern) (code : List ℕ) (count : ℕ) (tape tape-now : List ℕ) (r : Flattened) : Type 0 where
   pub answers : flattened-answer r ≡ flatten-answer p code count (length tape)
-  pub leaves : after ≡ flatten-tape p code count tape
+  pub leaves : tape-now ≡ flatten-tape p code count tape

@@ -16,7 +16,7 @@ use Rattle.bits.specs.Bits.{test-bit, count-below, pack, in-front}
 use Rattle.semantics.specs.Accounts.{totals}
 use Rattle.semantics.specs.Decode.{value-of}
 use Rattle.semantics.specs.Sweeps.{readable, greedy}
-use Rattle.first_sweep.specs.StateSets.{words}
+use Rattle.first_sweep.specs.StateSets.{words as state-sets}
 use Rattle.codes.specs.Totals.{entries-by}
 use Rattle.parser.specs.Parse.{early}
 use Rattle.listing.specs.declared.Listed.{Listed}
@@ -49,8 +49,8 @@ account-lines a (n ∷ ns) = account-line a n ++ account-lines (suc a) ns
 
 -- 01: "then each position with the count of ones in its flag 1 word": so many positions from this one on
 unfoldable pub open-lines : (words : List ℕ) → (position count : ℕ) → List ℕ
-open-lines ws i zero = []
-open-lines ws i (suc n) = line open-word i (count-below 64 (test-bit (getD ws (2 * i + 1) 0))) ++ open-lines ws (suc i) n
+open-lines words i zero = []
+open-lines words i (suc n) = line open-word i (count-below 64 (test-bit (getD words (2 * i + 1) 0))) ++ open-lines words (suc i) n
 
 -- ---- the listing
 
@@ -59,7 +59,7 @@ unfoldable pub listing : Pattern → (tape : List ℕ) → (bits : List Bool) �
 listing p tape bits =
     tape-line (length tape) (length bits) (pack 8 bits)
     ++ (account-lines 0 (totals (entries-by (root p) (value-of (root p) bits)))
-    ++ open-lines (words p tape) 0 (suc (length tape)))
+    ++ open-lines (state-sets p tape) 0 (suc (length tape)))
 
 -- a table and a tape that nothing before the sweeps refuses: the code of the greedy value, or 5 where there is no value
 unfoldable pub read-listing : Pattern → (tape : List ℕ) → List ℕ

@@ -29,7 +29,7 @@ use Rattle.semantics.specs.Accounts.{totals}
 use Rattle.semantics.specs.Decode.{value-of}
 use Rattle.semantics.specs.Sweeps.{readable, greedy}
 use Rattle.semantics.specs.GreedyLaws.{greedy-canonical, readable-iff}
-use Rattle.first_sweep.specs.StateSets.{words}
+use Rattle.first_sweep.specs.StateSets.{words as state-sets}
 use Rattle.first_sweep.specs.Meaning.{words-length}
 use Rattle.codes.specs.declared.Totalled.{Totalled}
 use Rattle.codes.specs.Totals.{entries-by, entries-of, totals-answer, totals-litres, Totals}
@@ -72,12 +72,12 @@ pub shows-refused : (old xs ys now : List ℕ) (end : ℕ) → xs ≡ ys → Put
 shows-refused old xs ys now end e p h = shows-as old xs ys now end e (record { puts = p; fits = omega arith })
 
 -- ── a tape that has been read: its words, its code and the bit count ──
-pub record Read (p : Pattern) (tape ws code : List ℕ) (count : ℕ) : Type 0 where
+pub record Read (p : Pattern) (tape words code : List ℕ) (count : ℕ) : Type 0 where
   pub good : obeys p ≡ true
   pub few : length tape ≤ letter-limit
   pub reads : readable (root p) tape ≡ true
-  pub filled : (i : ℕ) → i ≤ length tape → getD ws (2 * i + 1) 0 ≡ getD (words p tape) (2 * i + 1) 0
-  pub long : 2 * (length tape + 1) ≤ length ws
+  pub filled : (i : ℕ) → i ≤ length tape → getD words (2 * i + 1) 0 ≡ getD (state-sets p tape) (2 * i + 1) 0
+  pub long : 2 * (length tape + 1) ≤ length words
   pub coded : code ≡ pack 8 (greedy (root p) tape)
   pub counted : count ≡ length (greedy (root p) tape)
 
@@ -114,7 +114,7 @@ module _ (p : Pattern) (tape ws code : List ℕ) (count : ℕ) (h : Read p tape 
   listing-is : (n : ℕ) → n ≡ length tape → (ns : List ℕ) → ns ≡ totals (entries-by (root p) (value-of (root p) (greedy (root p) tape)))
       → tape-line n count code ++ (account-lines 0 ns ++ open-lines ws 0 (suc n)) ≡ listing p tape (greedy (root p) tape)
   unfolding listing
-  listing-is n e ns f = rw (e, h .coded, h .counted, f, same-open ws (words p tape) 0 (suc (length tape)) (λ j l. h .filled j (omega arith)))
+  listing-is n e ns f = rw (e, h .coded, h .counted, f, same-open ws (state-sets p tape) 0 (suc (length tape)) (λ j l. h .filled j (omega arith)))
 
   fits-room : (n : ℕ) → n ≡ length tape → (ns : List ℕ) → length (account-lines 0 ns) ≤ 300
       → length (tape-line n count code ++ (account-lines 0 ns ++ open-lines ws 0 (suc n))) ≤ room
@@ -186,10 +186,10 @@ unfolding in-front
 front-long new old n e = simp length-append (omega arith)
 
 -- what a refusal, and what a bit count, is to be followed by
-pub record Got (p : Pattern) (tape us ys : List ℕ) (n : ℕ) : Type 0 where
-  pub read : Read p tape us (take (cell-count 8 n) ys) n
+pub record Got (p : Pattern) (tape words-now code-now : List ℕ) (n : ℕ) : Type 0 where
+  pub read : Read p tape words-now (take (cell-count 8 n) code-now) n
   pub lists : listing p tape (greedy (root p) tape) ≡ pattern-listing p tape
-  pub fits : cell-count 8 n ≤ length ys
+  pub fits : cell-count 8 n ≤ length code-now
 
 abbrev Follows : Pattern → (tape us ys : List ℕ) → Parsed → Type 0
 Follows p tape us ys (Bits n) = Got p tape us ys n
@@ -200,7 +200,7 @@ module _ (p : Pattern) (tape ws us xs ys : List ℕ) (lw : length ws ≡ word-li
   refused-early n (Bits k) a = absurd (omega (arith, n, ap (λ x. x .number) a))
   refused-early n (Refused why) a = ap refused-line a ∙ sym (refused-by p tape (λ z. omega arith))
 
-  module _ (z : early-cause p tape .number ≡ 0) (fill : us ≡ in-front (words p tape) ws) where
+  module _ (z : early-cause p tape .number ≡ 0) (fill : us ≡ in-front (state-sets p tape) ws) where
     clear : Passed p tape word-limit
     clear = passed p tape word-limit (ap (λ x. x .number) (early-same p tape) ∙ z)
 
@@ -208,11 +208,11 @@ module _ (p : Pattern) (tape ws us xs ys : List ℕ) (lw : length ws ≡ word-li
     not-readable e (Bits k) a = absurd (omega (arith, ap (λ x. x .number) a))
     not-readable e (Refused why) a = ap refused-line a ∙ sym (read-by p tape z ∙ read-off p tape e)
 
-    at : (i : ℕ) → i ≤ length tape → getD us (2 * i + 1) 0 ≡ getD (words p tape) (2 * i + 1) 0
+    at : (i : ℕ) → i ≤ length tape → getD us (2 * i + 1) 0 ≡ getD (state-sets p tape) (2 * i + 1) 0
     unfolding in-front
     at i l =
         ap (λ x. getD x (2 * i + 1) 0) fill
-        ∙ List·getD-append (words p tape) (drop (length (words p tape)) ws) 0 (2 * i + 1) (omega (arith, words-length p tape))
+        ∙ List·getD-append (state-sets p tape) (drop (length (state-sets p tape)) ws) 0 (2 * i + 1) (omega (arith, words-length p tape))
 
     words-long : length us ≡ length ws
     unfolding in-front

@@ -44,4 +44,4 @@ pub record Writes (bits : List Bool) (code code-now : List ℕ) (r : Parsed) : T
   pub short : length code < cell-count 8 (length bits) → (r ≡ Refused (CodeTooShort (cell-count 8 (length bits)))) × (code-now ≡ code)
 
 abbrev pub Writes-all : (table words tape : List ℕ) → (l : ℕ) → (code code-now : List ℕ) → Parsed → Type 0
-Writes-all table words tape l xs ys r = (s : Writable table words tape l) → Writes (s .ready .it .bits) xs ys r
+Writes-all table words tape l code code-now r = (s : Writable table words tape l) → Writes (s .ready .it .bits) code code-now r

@@ -4,10 +4,12 @@ use mathlib.Core.Bool.{Bool, true, false, cond, false≢true, true≢false}
 use mathlib.Core.List.{List, [], _∷_, _++_}
 use Prim.Native.Nat.{ℕ, _≤_}
 use native.Mathlib.Omega.{arith}
+use borrow.Author.Tests.{eq-eqb}
+use lib.Dec.{eqb}
 use Rattle.refusals.specs.declared.Refusal.{Refusal}
 use Rattle.refusals.specs.Refusals.{number, Answer, refused}
 use Rattle.refusals.specs.RefusalLaws.{refused-same, number-positive}
-use Rattle.refusals.specs.Checks.{Check, first-cause, First, here, past, Clear}
+use Rattle.refusals.specs.Checks.{Check, first-cause, numbers, First, here, past, Clear}
 
 cond-true : (b : Bool) (x y : Answer) → b ≡ true → cond b x y ≡ x
 cond-true true x y e = refl
@@ -63,3 +65,16 @@ refused-first (c ∷ cs) s z why e = go (c .0) refl e (λ f. refused-first cs s 
         → First why (c ∷ cs)
     go true q f rest = subst (λ w. First why ((c .0, w) ∷ cs)) (sym (refused-same (c .1) why f)) (here q)
     go false q f rest = past q (rest f)
+
+-- so no number is answered that is not in the service's line
+abbrev pub among : ℕ → List ℕ → Bool
+among n [] = false
+among n (m ∷ ms) = cond (eqb n m) true (among n ms)
+
+pub first-among : {why : Refusal} {cs : List Check} → First why cs → among (number why) (numbers cs) ≡ true
+first-among {why} (here {later = cs} e) = ap (λ b. cond b true (among (number why) (numbers cs))) (eq-eqb (number why) (number why) refl)
+first-among {why} (past {other = o} {later = cs} e f) = go (eqb (number why) (number o)) (first-among f)
+  where
+    go : (b : Bool) → among (number why) (numbers cs) ≡ true → cond b true (among (number why) (numbers cs)) ≡ true
+    go true q = refl
+    go false q = q

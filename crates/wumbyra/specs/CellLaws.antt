@@ -69,10 +69,10 @@ ten false es = refl
 
 -- a cell holds the litres that the call for its account answers
 pub cell-total :
-    (text code : List ℕ) (count : ℕ) (cells after : List ℕ) (r a : ℕ) → Totals-text text code count cells after r → a < 10 → a < length cells
-    → getD after a 0 ≡ total-text text code count a .value
+    (text code : List ℕ) (count : ℕ) (cells cells-now : List ℕ) (r a : ℕ) → Totals-text text code count cells cells-now r → a < 10 → a < length cells
+    → getD cells-now a 0 ≡ total-text text code count a .value
 unfolding total-text totals-litres
-cell-total text code count cells after r a t h k =
+cell-total text code count cells cells-now r a t h k =
     let p = load-table text in
     let n = ten (eqb (totals-answer p code count .number) 0) (entries-of (root p) code count) in
     ap (λ xs. getD xs a 0) (t .leaves) ∙ cell-holds (totals-litres p code count) cells a (omega (arith, h, n)) k

@@ -32,9 +32,9 @@ pub record Parses-text (text tape words words-now code code-now : List ℕ) (r :
   pub parses : Parses (load-table text) tape words words-now code code-now parsed
 
 -- THE PROMISE of spelling a code from C
-pub record Flattens-text (text code : List ℕ) (count : ℕ) (tape after : List ℕ) (r : ℕ) : Type 0 where
+pub record Flattens-text (text code : List ℕ) (count : ℕ) (tape tape-now : List ℕ) (r : ℕ) : Type 0 where
   pub answers : unpacked r ≡ flatten-answer (load-table text) code count (length tape)
-  pub leaves : after ≡ flatten-tape (load-table text) code count tape
+  pub leaves : tape-now ≡ flatten-tape (load-table text) code count tape
 
 -- THE PROMISE of settling a code from C
 pub record Canonicalizes-text (text code : List ℕ) (count : ℕ) (tape tape-now words words-now canonical canonical-now : List ℕ) (r : ℕ) : Type 0 where
@@ -59,6 +59,6 @@ abbrev pub in-cells : (totals cells : List ℕ) → List ℕ
 in-cells totals cells = in-front (take (length cells) totals) cells
 
 -- THE PROMISE of all totals from C: the answer of totalling, whose value is 0, and its totals in the lent cells; these are 0 if it is refused
-pub record Totals-text (text code : List ℕ) (count : ℕ) (cells after : List ℕ) (r : ℕ) : Type 0 where
+pub record Totals-text (text code : List ℕ) (count : ℕ) (cells cells-now : List ℕ) (r : ℕ) : Type 0 where
   pub answers : unpacked r ≡ totals-answer (load-table text) code count
-  pub leaves : after ≡ in-cells (totals-litres (load-table text) code count) cells
+  pub leaves : cells-now ≡ in-cells (totals-litres (load-table text) code count) cells

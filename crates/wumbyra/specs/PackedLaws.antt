@@ -79,9 +79,9 @@ module _ (text : List ℕ) (l : Loaded) (h : Loads text l) where
       e ∙ ap₂ (λ x y. answer (x .number) (getD y account 0)) (q .answers) (q .gives)
 
   pub totals-packed :
-      (code : List ℕ) (count : ℕ) (a : Totalled) → Totals (l .pattern) code count a → (cells after : List ℕ) → after ≡ in-cells (a .litres) cells
-      → (r : ℕ) → unpacked r ≡ totals-outcome (a .outcome) → Totals-text text code count cells after r
-  totals-packed code count a p cells after e r f =
+      (code : List ℕ) (count : ℕ) (a : Totalled) → Totals (l .pattern) code count a → (cells cells-now : List ℕ) → cells-now ≡ in-cells (a .litres) cells
+      → (r : ℕ) → unpacked r ≡ totals-outcome (a .outcome) → Totals-text text code count cells cells-now r
+  totals-packed code count a p cells cells-now e r f =
       let q = subst (λ t. Totals t code count a) (h .gives) p in
       record { answers = f ∙ q .answers; leaves = e ∙ ap (λ ls. in-cells ls cells) (q .gives) }
 

@@ -57,7 +57,7 @@ module _ (text : List ℕ) (h : 1 ≤ load-answer text .number) where
   total-unloaded code count a = rw (not-obeyed, zeros 10 a)
 
   -- and every total that is lent is 0
-  pub totals-unloaded : (code : List ℕ) (count : ℕ) (cells after : List ℕ) (r : ℕ) → Totals-text text code count cells after r
-      → (unpacked r ≡ answer 2 0) × (after ≡ in-cells no-litres cells)
+  pub totals-unloaded : (code : List ℕ) (count : ℕ) (cells cells-now : List ℕ) (r : ℕ) → Totals-text text code count cells cells-now r
+      → (unpacked r ≡ answer 2 0) × (cells-now ≡ in-cells no-litres cells)
   unfolding totals-answer totals-litres
-  totals-unloaded code count cells after r t = (t .answers ∙ rw not-obeyed refl, t .leaves ∙ ap (λ ls. in-cells ls cells) (rw not-obeyed refl))
+  totals-unloaded code count cells cells-now r t = (t .answers ∙ rw not-obeyed refl, t .leaves ∙ ap (λ ls. in-cells ls cells) (rw not-obeyed refl))
