@@ -2,7 +2,8 @@
 // They are apart from crate codes because no other service needs their walk and its laws. Whether the code is the tape's is asked of
 // `codes::spells`, so that a code is tested once and `find` goes over one that is known to be whole.
 ghost use mathlib.Core.Path.{_≡_};
-ghost use Rattle.spans.specs.Spans.{Spans, refused-span, span-shown, piece-of};
+ghost use Rattle.spans.specs.Spans.{Spans, refused-span, span-shown};
+ghost use Rattle.spans.specs.Parts.{Part-of-tape};
 
 mod find; // find.rt: the walk that looks for a visit
 
@@ -67,7 +68,7 @@ pub fn span(p: Pattern, tape: &[u8], code: &[u8], count: u32, node: u32, visit: 
     }
 }
 
-// The part of the tape that a visit covers; empty if refused.
+// The part of the tape that a visit covers, where it lies in the tape; empty if refused.
 pub fn piece<'a>(
     p: Pattern,
     tape: &'a [u8],
@@ -77,7 +78,7 @@ pub fn piece<'a>(
     visit: u32,
 ) -> &'a [u8]
     ensures { λ r.
-        ⌜ now r ≡ piece-of (span-shown p (now (tape .entry)) (now (code .entry)) count node visit) (now (tape .entry)) ⌝ }
+        ⌜ Part-of-tape (span-shown p (now (tape .entry)) (now (code .entry)) count node visit) (tape .entry) r ⌝ }
 {
     let shown = span(p, tape, code, count, node, visit);
     let from = shown.start as usize;

@@ -1,5 +1,7 @@
 -- `spans::piece` meets its contract.
 use Rattle.spans.specs.Pieces.{part}
+use Rattle.spans.specs.PartLaws.{part-of-tape}
+use mathlib.Core.Path.{refl}
 use native.Mathlib.Omega.{arith}
 use borrow.Author.Needs.{needs}
 use Rattle.spans.proofs.piece.Statement.{statement}
@@ -27,7 +29,9 @@ part-result-end : tie.Need-part-result-end
 part-result-end c = omega (arith, part _ _ _ _ _ _ _ (c .before .before .span .ensures) .fits)
 
 returns : tie.Need-returns
-returns c = part _ _ _ _ _ _ _ (c .before .before .before .span .ensures) .is
+returns c =
+    let start = c .before .before .before .before .before .before in
+    part-of-tape _ (start .args .tape) _ _ _ _ _ _ (c .before .before .before .span .ensures) refl refl
 
 pub piece-spec : {M : Type 1} → statement M
 piece-spec =
