@@ -1,6 +1,9 @@
 // Prints the listing of the pattern in `pattern.tsv` and the tape in `tape.txt`, both in the working folder. A file that
 // cannot be opened or read gives a message on standard error and nothing on standard output. All that is printed comes
 // from `listing::list`.
+ghost use Prim.Native.Nat.{_≤_};
+ghost use lib.ListN.{length};
+ghost use Rattle.tapelist.specs.Printing.{text-least, tape-least, Held, Prints};
 use libc::STDOUT_FILENO;
 use listing::Listed;
 use listing::MAX_LISTING;
@@ -16,7 +19,9 @@ const MAX_TAPE: usize = 4096;
 const FAILED: usize = usize::MAX;
 
 // One read: how many bytes it put at the start of the part, none at the file's end.
-fn read_part(fd: i32, part: &mut [u8]) -> usize {
+fn read_part(fd: i32, part: &mut [u8]) -> usize
+    ensures { λ r. ⌜ Held (length (now (part .entry))) r ⌝ }
+{
     let got = libc::read(fd, part);
     if got < 0 {
         return FAILED;
@@ -25,7 +30,9 @@ fn read_part(fd: i32, part: &mut [u8]) -> usize {
 }
 
 // Reads until the file ends or the buffer is full: how many bytes are held.
-fn read_all(fd: i32, buf: &mut [u8]) -> usize {
+fn read_all(fd: i32, buf: &mut [u8]) -> usize
+    ensures { λ r. ⌜ Held (length (now (buf .entry))) r ⌝ }
+{
     let mut at = 0;
     while at < buf.len() {
         let got = read_part(fd, &mut buf[at..]);
@@ -41,7 +48,9 @@ fn read_all(fd: i32, buf: &mut [u8]) -> usize {
 }
 
 // Reads the file of this name, and says on standard error why it cannot.
-fn read_file(name: &[u8], buf: &mut [u8]) -> usize {
+fn read_file(name: &[u8], buf: &mut [u8]) -> usize
+    ensures { λ r. ⌜ Held (length (now (buf .entry))) r ⌝ }
+{
     let fd = os::open_read(name);
     if fd < 0 {
         os::fail(name);
@@ -55,27 +64,42 @@ fn read_file(name: &[u8], buf: &mut [u8]) -> usize {
     held
 }
 
+// Writes to standard output, and is all that does. The files' bytes are passed so that the contract can speak of them: what is
+// handed to the system is their listing.
+fn print(text: &[u8], tape: &[u8], bytes: &[u8])
+    requires { ⌜ Prints (now text) (now tape) (now bytes) ⌝ }
+{
+    if !io::write_all(STDOUT_FILENO, bytes) {
+        os::fail(b"standard output");
+    }
+}
+
 fn print_listing(text: &[u8], tape: &[u8]) {
     let mut out = [0u8; MAX_LISTING];
     let Listed::Bytes(size) = list(text, tape, &mut out) else {
         return;
     };
     let n = size as usize;
-    if !io::write_all(STDOUT_FILENO, &out[..n]) {
-        os::fail(b"standard output");
+    print(text, tape, &out[..n]);
+}
+
+// Prints nothing where one of the files cannot be read. The buffers hold as many bytes as decide the listing.
+fn list_files(text: &mut [u8], tape: &mut [u8])
+    requires { ⌜ (text-least ≤ length (now text)) × (tape-least ≤ length (now tape)) ⌝ }
+{
+    let m = read_file(b"pattern.tsv", text);
+    if text.len() < m {
+        return;
     }
+    let n = read_file(b"tape.txt", tape);
+    if tape.len() < n {
+        return;
+    }
+    print_listing(&text[..m], &tape[..n]);
 }
 
 fn main() {
     let mut text = [0u8; MAX_TEXT];
     let mut tape = [0u8; MAX_TAPE];
-    let m = read_file(b"pattern.tsv", &mut text);
-    if MAX_TEXT < m {
-        return;
-    }
-    let n = read_file(b"tape.txt", &mut tape);
-    if MAX_TAPE < n {
-        return;
-    }
-    print_listing(&text[..m], &tape[..n]);
+    list_files(&mut text, &mut tape);
 }
