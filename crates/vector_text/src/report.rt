@@ -1,4 +1,7 @@
 // What cases of more than one kind share.
+ghost use mathlib.Core.Path.{_≡_};
+ghost use mathlib.Core.List.{[], _∷_};
+ghost use lib.Seq.{sets};
 use libc::STDOUT_FILENO;
 use text::put_byte;
 
@@ -21,7 +24,9 @@ pub fn say_bad() {
 }
 
 // Ends the line in `out` at `at` with byte 10, and prints it.
-pub fn print_line(out: &mut [u8], at: usize) {
+pub fn print_line(out: &mut [u8], at: usize)
+    ensures { λ _. ⌜ now (out .exit) ≡ sets (now (out .entry)) at (10 ∷ []) ⌝ }
+{
     let size = put_byte(out, at, b'\n');
     io::write_all(STDOUT_FILENO, &out[..size]);
 }

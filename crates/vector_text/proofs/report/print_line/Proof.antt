@@ -1,4 +1,4 @@
--- `vector_text::report::print_line` is safe and ends: the line lies within `out`.
+-- `vector_text::report::print_line` puts byte 10 and prints what stands before it: the line lies within `out`.
 use native.Mathlib.Omega.{arith}
 use lib.ListN.{length-take}
 use borrow.Author.Needs.{needs}
@@ -21,7 +21,7 @@ same-length : tie.Need-same-length
 same-length c = search needs
 
 returns : tie.Need-returns
-returns c = search needs
+returns c = c .before .before .before .before .put-byte .ensures .leaves
 
 pub print-line-spec : {M : Type 1} → statement M
 print-line-spec =
