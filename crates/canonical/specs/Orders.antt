@@ -1,5 +1,5 @@
 -- Settling a code: the first cause that holds is answered, whatever later causes hold, and leaves what 01's table says.
-use mathlib.Core.Path.{_≡_, refl, sym, ap, _∙_}
+use mathlib.Core.Path.{_≡_, refl, sym, ap, subst, _∙_}
 use mathlib.Core.Bool.{Bool, true, false, not, false≢true}
 use mathlib.Core.List.{List, [], _∷_}
 use Prim.Native.Nat.{ℕ, _+_, _*_, _≤_, _<_}
@@ -12,10 +12,11 @@ use Rattle.syntax.specs.Letter.{letter-limit}
 use Rattle.syntax.specs.Table.{obeys}
 use Rattle.syntax.specs.Trees.{root}
 use Rattle.refusals.specs.declared.Refusal.{Refusal}
-use Rattle.refusals.specs.declared.Refusal.the-variants.{Tree as Tree-fault, TapeTooLong, Unreadable, WordsTooShort, CodeTooShort, NotACode, TapeTooShort}
-use Rattle.refusals.specs.Refusals.{answer}
+use Rattle.refusals.specs.declared.Refusal.the-variants.{LineForm, Tree as Tree-fault, TapeTooLong, TapeByte, Unreadable, WordsTooShort}
+use Rattle.refusals.specs.declared.Refusal.the-variants.{CodeTooShort, NotACode, TapeTooShort, NoSuchVisit}
+use Rattle.refusals.specs.Refusals.{answer, number}
 use Rattle.refusals.specs.Checks.{numbers, First, here, past, Clear}
-use Rattle.refusals.specs.CheckLaws.{first-answered, first-positive, first-more, refused-first, first-among}
+use Rattle.refusals.specs.CheckLaws.{first-answered, first-positive, first-more, refused-first, among, first-among}
 use Rattle.bits.specs.Bits.{cell-count, in-front}
 use Rattle.semantics.specs.Code.{Canonical}
 use Rattle.semantics.specs.Sweeps.{greedy}
@@ -24,6 +25,7 @@ use Rattle.first_sweep.specs.StateSets.{words as state-sets}
 use Rattle.walks.specs.Whole.{whole-code}
 use Rattle.codes.specs.Flatten.{flatten-order}
 use Rattle.codes.specs.FlattenLaws.{flatten-refused, flatten-fills}
+use Rattle.parser.specs.Orders.{greedily-among}
 use Rattle.canonical.specs.declared.Canonicalized.{Canonicalized}
 use Rattle.canonical.specs.declared.Canonicalized.the-variants.{Refused}
 use Rattle.canonical.specs.Canonicalize.{canonicalized-answer, word-check, settle-order, settle-early, Canonicalizes}
@@ -36,6 +38,19 @@ use Rattle.canonical.specs.Unique.{canonicalized-same}
 pub settle-numbers : (p : Pattern) (code : List ℕ) (count size n : ℕ) → numbers (settle-order p code count size n) ≡ 2 ∷ 8 ∷ 3 ∷ 9 ∷ 6 ∷ []
 settle-numbers p code count size n = refl
 
+-- none of them is a number that the second sweep answers
+settle-apart : (why : Refusal) → among (number why) (2 ∷ 8 ∷ 3 ∷ 9 ∷ 6 ∷ []) ≡ true → among (number why) (0 ∷ 5 ∷ 7 ∷ []) ≡ true → ⊥
+settle-apart (LineForm l) e f = false≢true e
+settle-apart (Tree-fault l) e f = false≢true f
+settle-apart TapeTooLong e f = false≢true f
+settle-apart (TapeByte i) e f = false≢true e
+settle-apart Unreadable e f = false≢true e
+settle-apart (WordsTooShort n) e f = false≢true f
+settle-apart (CodeTooShort n) e f = false≢true e
+settle-apart NotACode e f = false≢true f
+settle-apart (TapeTooShort n) e f = false≢true f
+settle-apart NoSuchVisit e f = false≢true e
+
 module _ (p : Pattern) (code : List ℕ) (count : ℕ) (tape tape-now words words-now canonical canonical-now : List ℕ) (r : Canonicalized)
     (h : Canonicalizes p code count tape tape-now words words-now canonical canonical-now r) where
   abbrev letters : ℕ
@@ -47,6 +62,19 @@ module _ (p : Pattern) (code : List ℕ) (count : ℕ) (tape tape-now words word
   only why f =
       let q = h .refuses (first-positive f (answer 0 0)) in
       (canonicalized-same r (Refused why) (q .0 ∙ first-answered f (answer 0 0)), q .1, q .2)
+
+  -- "and never otherwise"
+  pub settle-first : (why : Refusal) → r ≡ Refused why → among (number why) (2 ∷ 8 ∷ 3 ∷ 9 ∷ 6 ∷ []) ≡ true
+      → First why (settle-order p code count (length tape) (length words))
+  unfolding settle-early
+  settle-first why e m = go (decLe 1 (settle-early p code count (length tape) (length words) .number))
+    where
+      go : Dec (1 ≤ settle-early p code count (length tape) (length words) .number) → First why (settle-order p code count (length tape) (length words))
+      go (yes n) =
+          refused-first (settle-order p code count (length tape) (length words)) (answer 0 0) refl why (sym (h .refuses n .0) ∙ ap canonicalized-answer e)
+      go (no n) =
+          let q = greedily-among (root p) (tape-of p code count) canonical canonical-now (canonicalized-answer r) (h .reads (omega arith)) in
+          absurd (settle-apart why m (subst (λ a. among (a .number) (0 ∷ 5 ∷ 7 ∷ []) ≡ true) (ap canonicalized-answer e) q))
 
   -- 5 is never answered: what a code spells can be read
   pub never-5 : r ≡ Refused Unreadable → ⊥
@@ -62,7 +90,8 @@ module _ (p : Pattern) (code : List ℕ) (count : ℕ) (tape tape-now words word
           fit : Canonical (root p) (tape-of p code count) (greedy (root p) (tape-of p code count))
               → Dec (cell-count 8 (length (greedy (root p) (tape-of p code count))) ≤ length canonical) → ⊥
           fit k (yes l) =
-              let m : _≡_ {A = ℕ} 0 5 = ap (λ a. a .number) (sym (h .reads z .fits (greedy (root p) (tape-of p code count)) k l .0) ∙ ap canonicalized-answer e) in
+              let q = h .reads z .fits (greedy (root p) (tape-of p code count)) k l in
+              let m : _≡_ {A = ℕ} 0 5 = ap (λ a. a .number) (sym (q .0) ∙ ap canonicalized-answer e) in
               omega arith
           fit k (no l) =
               let q = h .reads z .short (greedy (root p) (tape-of p code count)) k (omega arith) in

@@ -1,24 +1,32 @@
 -- Reading a tape: the first cause that holds is answered, whatever later causes hold, and leaves what 01's table says.
-use mathlib.Core.Path.{_≡_, refl, ap}
-use mathlib.Core.Bool.{Bool, true, false, not}
+use mathlib.Core.Path.{_≡_, refl, sym, ap, subst, _∙_}
+use mathlib.Core.Bool.{Bool, true, false, not, true≢false, false≢true}
 use mathlib.Core.List.{List, [], _∷_}
 use Prim.Native.Nat.{ℕ, _+_, _*_, _≤_, _<_}
+use native.Mathlib.Omega.{arith}
+use native.Mathlib.Decide.{decLe}
 use borrow.Author.Tests.{lt-ltb, le-ltb}
 use lib.ListN.{length}
 use Rattle.syntax.specs.declared.Pattern.{Pattern}
 use Rattle.syntax.specs.Letter.{first-bad, letter-limit}
 use Rattle.syntax.specs.Table.{obeys}
+use Rattle.syntax.specs.Tree.{Tree}
 use Rattle.syntax.specs.Trees.{root}
 use Rattle.refusals.specs.declared.Refusal.{Refusal}
-use Rattle.refusals.specs.declared.Refusal.the-variants.{Tree as Tree-fault, TapeTooLong, TapeByte, Unreadable, WordsTooShort, CodeTooShort}
+use Rattle.refusals.specs.declared.Refusal.the-variants.{LineForm, Tree as Tree-fault, TapeTooLong, TapeByte, Unreadable, WordsTooShort}
+use Rattle.refusals.specs.declared.Refusal.the-variants.{CodeTooShort, NotACode, TapeTooShort, NoSuchVisit}
+use Rattle.refusals.specs.Refusals.{Answer, answer, number, refused}
 use Rattle.refusals.specs.Checks.{numbers, First, here, past}
+use Rattle.refusals.specs.CheckLaws.{refused-first, among}
 use Rattle.bits.specs.Bits.{cell-count, in-front}
 use Rattle.semantics.specs.Value.{Value, flat}
 use Rattle.semantics.specs.Code.{Canonical}
+use Rattle.semantics.specs.Sweeps.{readable, greedy}
+use Rattle.semantics.specs.GreedyLaws.{greedy-canonical, readable-iff}
 use Rattle.first_sweep.specs.StateSets.{words as state-sets}
 use Rattle.parser.specs.declared.Parsed.{Parsed}
 use Rattle.parser.specs.declared.Parsed.the-variants.{Refused}
-use Rattle.parser.specs.Parse.{early-order, Parses}
+use Rattle.parser.specs.Parse.{parsed-answer, early-order, early, Reads-greedily, Parses}
 use Rattle.parser.specs.ParseLaws.{parse-refused, Tested, tested-zero}
 use Rattle.parser.specs.Unique.{parsed-same, parses-one}
 
@@ -26,12 +34,53 @@ use Rattle.parser.specs.Unique.{parsed-same, parses-one}
 pub early-numbers : (p : Pattern) (tape : List ℕ) (n : ℕ) → numbers (early-order p tape n) ≡ 2 ∷ 3 ∷ 4 ∷ 6 ∷ []
 early-numbers p tape n = refl
 
+-- behind the first sweep no other numbers are answered than 0, 5 and 7
+pub greedily-among : (t : Tree) (tape code code-now : List ℕ) (a : Answer) → Reads-greedily t tape code code-now a
+    → among (a .number) (0 ∷ 5 ∷ 7 ∷ []) ≡ true
+greedily-among t tape code code-now a g = go (readable t tape) refl
+  where
+    by : (b : Answer) → a ≡ b → among (b .number) (0 ∷ 5 ∷ 7 ∷ []) ≡ true → among (a .number) (0 ∷ 5 ∷ 7 ∷ []) ≡ true
+    by b e q = subst (λ c. among (c .number) (0 ∷ 5 ∷ 7 ∷ []) ≡ true) (sym e) q
+
+    fit : readable t tape ≡ true → Dec (cell-count 8 (length (greedy t tape)) ≤ length code) → among (a .number) (0 ∷ 5 ∷ 7 ∷ []) ≡ true
+    fit e (yes l) = by (answer 0 (length (greedy t tape))) (g .fits (greedy t tape) (greedy-canonical t tape e) l .0) refl
+    fit e (no l) =
+        by (refused (CodeTooShort (cell-count 8 (length (greedy t tape))))) (g .short (greedy t tape) (greedy-canonical t tape e) (omega arith) .0) refl
+
+    go : (b : Bool) → readable t tape ≡ b → among (a .number) (0 ∷ 5 ∷ 7 ∷ []) ≡ true
+    go true e = fit e (decLe (cell-count 8 (length (greedy t tape))) (length code))
+    go false e = by (refused Unreadable) (g .unreadable (λ v q. true≢false (sym (readable-iff t tape .1 (v, q)) ∙ e)) .0) refl
+
+-- 2, 3, 4 and 6 are none of these
+early-apart : (why : Refusal) → among (number why) (2 ∷ 3 ∷ 4 ∷ 6 ∷ []) ≡ true → among (number why) (0 ∷ 5 ∷ 7 ∷ []) ≡ true → ⊥
+early-apart (LineForm l) e f = false≢true e
+early-apart (Tree-fault l) e f = false≢true f
+early-apart TapeTooLong e f = false≢true f
+early-apart (TapeByte i) e f = false≢true f
+early-apart Unreadable e f = false≢true e
+early-apart (WordsTooShort n) e f = false≢true f
+early-apart (CodeTooShort n) e f = false≢true e
+early-apart NotACode e f = false≢true e
+early-apart (TapeTooShort n) e f = false≢true e
+early-apart NoSuchVisit e f = false≢true e
+
 module _ (p : Pattern) (tape words words-now code code-now : List ℕ) (r : Parsed) (h : Parses p tape words words-now code code-now r) where
   abbrev Only : Refusal → Type 0
   Only why = (r ≡ Refused why) × (words-now ≡ words) × (code-now ≡ code)
 
   pub only : (why : Refusal) → First why (early-order p tape (length words)) → Only why
   only why f = parses-one p tape words words-now words code code-now code r (Refused why) h (parse-refused p tape words code why f)
+
+  -- "and never otherwise"
+  pub early-first : (why : Refusal) → r ≡ Refused why → among (number why) (2 ∷ 3 ∷ 4 ∷ 6 ∷ []) ≡ true → First why (early-order p tape (length words))
+  unfolding early
+  early-first why e m = go (decLe 1 (early p tape (length words) .number))
+    where
+      go : Dec (1 ≤ early p tape (length words) .number) → First why (early-order p tape (length words))
+      go (yes n) = refused-first (early-order p tape (length words)) (answer 0 0) refl why (sym (h .refuses n .0) ∙ ap parsed-answer e)
+      go (no n) =
+          let q = greedily-among (root p) tape code code-now (parsed-answer r) (h .reads (omega arith)) in
+          absurd (early-apart why m (subst (λ a. among (a .number) (0 ∷ 5 ∷ 7 ∷ []) ≡ true) (ap parsed-answer e) q))
 
   pub only-2 : obeys p ≡ false → Only (Tree-fault 0)
   only-2 o = only (Tree-fault 0) (here (ap not o))
