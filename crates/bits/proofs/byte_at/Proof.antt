@@ -1,7 +1,8 @@
 -- `bits::byte_at` meets its contract: at the start of a byte the byte, elsewhere a part of two (crate binary, specs/Reading.antt). Assumes nothing.
 use native.Mathlib.Omega.{arith}
-use mathlib.Core.Path.{sym, ap₂, _∙_}
+use mathlib.Core.Path.{_≡_, sym, ap₂, _∙_}
 use Prim.Native.Nat.{_+_, _*_, _-_, _/_, _%_, _^_}
+use lib.ListN.{getD}
 use Rattle.binary.specs.Reading.{number-at-whole, number-at-parts}
 use borrow.Author.Needs.{needs}
 use Rattle.bits.proofs.byte_at.Statement.{statement}
@@ -51,8 +52,12 @@ cast-result c = search needs
 returns-2 : tie.Need-returns-2
 returns-2 c =
     let s = c .before .before .before .before .before .before in
-    ap₂ (λ x y. (x * 256 + y) / 2 ^ (8 - s .args .i % 8) % 256) (c .before .before .wide .ensures .0) (c .wide2 .ensures .0)
-    ∙ sym (number-at-parts 8 (s .args .code .now) (λ k. c .before .shared-slice-known4 .given k .fits) (s .args .i) (omega arith) (omega arith))
+    let xs = s .args .code .now in
+    let i = s .args .i in
+    let first : c .before .before .wide .result ≡ getD xs (i / 8) 0 = c .before .before .wide .ensures .0 in
+    let second : c .wide2 .result ≡ getD xs (i / 8 + 1) 0 = c .wide2 .ensures .0 in
+    ap₂ (λ x y. (x * 256 + y) / 2 ^ (8 - i % 8) % 256) first second
+    ∙ sym (number-at-parts 8 xs (λ k. c .before .shared-slice-known4 .given k .fits) i (omega arith) (omega arith))
 
 pub byte-at-spec : {M : Type 1} → statement M
 byte-at-spec =

@@ -1,9 +1,10 @@
 -- `bits::handed_good` meets its contract, each way out by one law of crate binary, specs/Handed.antt. Assumes nothing.
 use native.Mathlib.Omega.{arith}
-use mathlib.Core.Path.{sym, ap, _∙_}
-use Prim.Native.Nat.{_/_}
+use mathlib.Core.Path.{_≡_, sym, ap, _∙_}
+use Prim.Native.Nat.{_/_, _%_}
 use lib.Dec.{eqb}
 use lib.ListN.{getD}
+use Rattle.binary.specs.Bits.{high-bits}
 use Rattle.binary.specs.Handed.{handed-over, handed-within, exact-wrong, exact-whole, exact-begun}
 use borrow.Author.Needs.{needs}
 use Rattle.bits.proofs.handed_good.Statement.{statement}
@@ -41,7 +42,8 @@ returns-4 c =
     let s = c .before .before .before .before .before .before .before in
     let xs = s .args .code .now in
     let n = s .args .count in
-    ap (λ h. eqb h (getD xs (n / 8) 0)) (c .high-bits .ensures)
+    let kept : c .high-bits .result ≡ high-bits 8 (n % 8) (getD xs (n / 8) 0) = c .high-bits .ensures in
+    ap (λ h. eqb h (getD xs (n / 8) 0)) kept
     ∙ sym (handed-within xs n (omega arith) ∙ exact-begun 8 xs n (omega arith) (omega arith) (λ z. omega arith))
 
 pub handed-good-spec : {M : Type 1} → statement M

@@ -1,9 +1,10 @@
 -- `bits::set_bit` meets its contract: one store is `write` of one bit (crate binary, specs/Writing.antt). Assumes nothing.
 use native.Mathlib.Omega.{arith}
-use mathlib.Core.Path.{sym, ap₂, _∙_}
+use mathlib.Core.Path.{_≡_, sym, ap₂, _∙_}
 use Prim.Native.Nat.{_*_, _-_, _/_, _%_, _^_}
 use lib.Bits.{bitOr}
-use lib.ListN.{set}
+use lib.ListN.{getD, set}
+use Rattle.binary.specs.Bits.{high-bits}
 use Rattle.binary.specs.Writing.{write-bit}
 use borrow.Author.Needs.{needs}
 use Rattle.bits.proofs.set_bit.Statement.{statement}
@@ -39,9 +40,11 @@ same-length c = search needs
 returns : tie.Need-returns
 returns c =
     let s = c .before .before .before .before in
-    ap₂ (λ h v. set (s .args .code .now) (s .args .i / 8) (bitOr h ((v * 2 ^ (7 - s .args .i % 8)) % 256))) (c .before .high-bits .ensures)
-    (c .bit-value .ensures)
-    ∙ sym (write-bit 8 (s .args .code .now) (λ k. c .before .before .slice-known2 .given k .fits) (s .args .i) (omega arith) (omega arith) (s .args .value))
+    let xs = s .args .code .now in
+    let i = s .args .i in
+    let kept : c .before .high-bits .result ≡ high-bits 8 (i % 8) (getD xs (i / 8) 0) = c .before .high-bits .ensures in
+    ap₂ (λ h v. set xs (i / 8) (bitOr h ((v * 2 ^ (7 - i % 8)) % 256))) kept (c .bit-value .ensures)
+    ∙ sym (write-bit 8 xs (λ k. c .before .before .slice-known2 .given k .fits) i (omega arith) (omega arith) (s .args .value))
 
 pub set-bit-spec : {M : Type 1} → statement M
 set-bit-spec =

@@ -4,6 +4,7 @@ use Rattle.walks.specs.Lines.{in-range-yes, in-range-low, in-range-high}
 use Rattle.walks.specs.Words.{word-short, word-range, word-outside}
 use native.Mathlib.Omega.{arith}
 use mathlib.Core.Path.{_∙_}
+use Prim.Native.Nat.{_<_}
 use borrow.Author.Needs.{needs}
 use Rattle.walks.proofs.walk_range.Statement.{statement}
 use Rattle.walks.proofs.walk_range.Tie as tie
@@ -28,13 +29,17 @@ returns-2 c m f = c .failed2 .ensures ∙ walk-is _ _ _ _ _
     (word-outside _ _ (omega arith) m _ _ _ _ (omega arith) (c .before .before .byte-at .ensures)
     (in-range-low _ _ _ (c .before .before .before .before .before .pre .0) (c .before .if2 .taken)))
 
+-- the byte lies above the range
+above : (c : tie.After-failed3) → c .before .before .before .before .before .before .args .high < c .before .before .before .byte-at .result
+above c = c .before .if3 .taken
+
 failed-requires-3 : tie.Need-failed-requires-3
 failed-requires-3 c κs = search needs
 
 returns-3 : tie.Need-returns-3
 returns-3 c m f = c .failed3 .ensures ∙ walk-is _ _ _ _ _
     (word-outside _ _ (omega arith) m _ _ _ _ (omega arith) (c .before .before .before .byte-at .ensures)
-    (in-range-high _ _ _ (c .before .before .before .before .before .before .pre .0) (c .before .before .if2 .left) (c .before .if3 .taken)))
+    (in-range-high _ _ _ (c .before .before .before .before .before .before .pre .0) (c .before .before .if2 .left) (above c)))
 
 add-went : tie.Need-add-went
 add-went c = search needs
