@@ -1,11 +1,11 @@
 -- Document 03's lines and fields are those of loading: the same cut, and each field says the same place, account or letter.
-use mathlib.Core.Path.{_≡_, refl, sym, ap, _∙_}
+use mathlib.Core.Path.{_≡_, refl, sym, ap, subst, _∙_}
 use mathlib.Core.Bool.{Bool, true, false, _&&_, not, cond, false≢true}
 use mathlib.Core.List.{List, [], _∷_, map}
 use Prim.Native.Nat.{ℕ, suc, _+_, _*_, _-_, _≤_, _<_}
 use native.Mathlib.Omega.{arith}
 use native.Mathlib.Decide.{decLe}
-use borrow.Author.Tests.{leb-true, le-leb, ltb-true, lt-ltb, eqb-false, ne-eqb}
+use borrow.Author.Tests.{leb-true, le-leb, lt-leb, eqb-true, ltb-true, lt-ltb, eqb-false, ne-eqb}
 use lib.Dec.{ltb, leb, eqb}
 use lib.ListN.{length, getD}
 use Rattle.syntax.specs.Bools.{and-fst, and-snd}
@@ -106,3 +106,56 @@ letter-same [] h = absurd (false≢true h)
 letter-same (a ∷ []) h = (h, refl)
 letter-same (a ∷ b ∷ more) h =
     absurd (false≢true (sym (long more) ∙ and-fst (eqb (suc (suc (length more))) 1) (leb 33 a && leb a 126) h))
+
+-- ── and the other way ──
+pub place-back : (w : List ℕ) → place w < 64 → place-value w ≡ place w
+unfolding place-value is-digit place one-digit two-digits digit
+place-back [] h = absurd (omega arith)
+place-back (a ∷ []) h = go (leb 48 a && leb a 57) refl h
+  where
+    go : (d : Bool) → (leb 48 a && leb a 57) ≡ d → cond (ltb (cond d (a - 48) 10) 10) (cond d (a - 48) 10) 64 < 64
+        → cond d (a - 48) 64 ≡ cond (ltb (cond d (a - 48) 10) 10) (cond d (a - 48) 10) 64
+    go false e k = absurd (omega arith)
+    go true e k = let z = leb-true a 57 (and-snd (leb 48 a) (leb a 57) e) in rw (lt-ltb (a - 48) 10 (omega arith)) refl
+place-back (a ∷ b ∷ []) h = go (leb 48 a && leb a 57) refl (leb 48 b && leb b 57) (eqb a 48) refl h
+  where
+    go : (d : Bool) → (leb 48 a && leb a 57) ≡ d → (f : Bool) → (z : Bool) → eqb a 48 ≡ z
+        → cond ((leb 1 (cond d (a - 48) 10) && leb (cond d (a - 48) 10) 9)
+        && (leb (cond f (b - 48) 10) 9 && ltb (10 * cond d (a - 48) 10 + cond f (b - 48) 10) 64)) (10 * cond d (a - 48) 10 + cond f (b - 48) 10) 64 < 64
+        → cond (d && (f && not z)) (10 * (a - 48) + (b - 48)) 64
+        ≡ cond ((leb 1 (cond d (a - 48) 10) && leb (cond d (a - 48) 10) 9)
+        && (leb (cond f (b - 48) 10) 9 && ltb (10 * cond d (a - 48) 10 + cond f (b - 48) 10) 64)) (10 * cond d (a - 48) 10 + cond f (b - 48) 10) 64
+    go false e f z n k = absurd (omega arith)
+    go true e false z n k = absurd (none-here (leb 1 (a - 48) && leb (a - 48) 9) k)
+      where
+        none-here : (g : Bool) → cond (g && false) (10 * (a - 48) + 10) 64 < 64 → ⊥
+        none-here true q = omega arith
+        none-here false q = omega arith
+    go true e true true n k =
+        let q = eqb-true a 48 n in
+        let z : a - 48 ≡ 0 = omega arith in
+        absurd (no-zero (a - 48) z k)
+      where
+        no-zero : (x : ℕ) → x ≡ 0
+            → cond ((leb 1 x && leb x 9) && (leb (b - 48) 9 && ltb (10 * x + (b - 48)) 64)) (10 * x + (b - 48)) 64 < 64 → ⊥
+        no-zero x e q =
+            let o : leb 1 x ≡ false = lt-leb 1 x (omega arith) in
+            let r : cond ((false && leb x 9) && (leb (b - 48) 9 && ltb (10 * x + (b - 48)) 64)) (10 * x + (b - 48)) 64 < 64 =
+            subst (λ c. cond ((c && leb x 9) && (leb (b - 48) 9 && ltb (10 * x + (b - 48)) 64)) (10 * x + (b - 48)) 64 < 64) o q in
+            omega (arith, r)
+    go true e true false n k = within ((leb 1 (a - 48) && leb (a - 48) 9) && (leb (b - 48) 9 && ltb (10 * (a - 48) + (b - 48)) 64)) k
+      where
+        within : (g : Bool) → cond g (10 * (a - 48) + (b - 48)) 64 < 64 → 10 * (a - 48) + (b - 48) ≡ cond g (10 * (a - 48) + (b - 48)) 64
+        within true q = refl
+        within false q = absurd (omega arith)
+place-back (a ∷ b ∷ c ∷ more) h = absurd (omega arith)
+
+pub is-place-back : (w : List ℕ) → ltb (place w) 64 ≡ true → is-place w ≡ true
+unfolding is-place
+is-place-back w h = ap (λ k. ltb k 64) (place-back w (ltb-true (place w) 64 h)) ∙ h
+
+pub letter-back : (w : List ℕ) → is-letter (single w) ≡ true → (is-letter-field w ≡ true) × (getD w 0 0 ≡ single w)
+unfolding is-letter-field is-letter single
+letter-back [] h = absurd (false≢true h)
+letter-back (a ∷ []) h = (h, refl)
+letter-back (a ∷ b ∷ more) h = absurd (false≢true h)
