@@ -21,5 +21,6 @@ pub mod Paper03Same
 pub mod Paper03Fields
 pub mod Paper03Load
 pub mod Paper03Tree
+pub mod Paper03Refusals
 pub mod Paper03Promise
 pub mod Paper03Promised

@@ -23,10 +23,10 @@ use Rattle.theorems.specs.Paper03Read.{node-as, line-as}
 use Rattle.theorems.specs.Paper03Fields.{row-of, place-same, is-place-same, long, account-same, letter-same}
 
 -- ── kinds ──
-abbrev kind-by : ℕ → ℕ
+abbrev pub kind-by : ℕ → ℕ
 kind-by b = cond (eqb b 69) 0 (cond (eqb b 76) 1 (cond (eqb b 82) 2 (cond (eqb b 83) 3 (cond (eqb b 65) 4 (cond (eqb b 75) 5 6)))))
 
-kind-same : (w : List ℕ) → kind-value w ≡ kind-by (single w)
+pub kind-same : (w : List ℕ) → kind-value w ≡ kind-by (single w)
 unfolding kind-value single
 kind-same [] = refl
 kind-same (a ∷ []) = refl
@@ -56,7 +56,7 @@ kinds c = go (eqb c 69) refl (eqb c 76) refl (eqb c 82) refl (eqb c 83) refl (eq
     go false h false hl false hr false hs false ha false hk = no-kind refl
 
 -- ── a line: what its kind needs ──
-abbrev needs : (k : ℕ) → (ws : List (List ℕ)) → Bool
+abbrev pub needs : (k : ℕ) → (ws : List (List ℕ)) → Bool
 needs k ws =
     cond (eqb k 0) (eqb (length ws) 3)
     (cond (eqb k 1) (eqb (length ws) 4 && is-letter-field (field ws 3))

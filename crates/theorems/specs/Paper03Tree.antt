@@ -29,7 +29,7 @@ use Rattle.theorems.specs.Paper03Load.{formed}
 use Rattle.theorems.specs.Paper03Same.{Lists}
 
 -- ── parts and names ──
-parts-same : (c : ℕ) (n : Own-node) → parts-03 (node-as c n) ≡ parts n
+pub parts-same : (c : ℕ) (n : Own-node) → parts-03 (node-as c n) ≡ parts n
 unfolding parts-03
 parts-same c (Leaf-node Nothing) = refl
 parts-same c (Leaf-node (Letter x)) = refl
@@ -38,12 +38,12 @@ parts-same c (Sequence x y) = refl
 parts-same c (Alternative x y) = refl
 parts-same c (Star x) = refl
 
-member-same : (v : ℕ) (xs : List ℕ) → member-03 v xs ≡ member v xs
+pub member-same : (v : ℕ) (xs : List ℕ) → member-03 v xs ≡ member v xs
 unfolding member-03
 member-same v [] = refl
 member-same v (x ∷ xs) = ap (λ b. eqb x v || b) (member-same v xs)
 
-member-append : (v : ℕ) (xs ys : List ℕ) → member v (xs ++ ys) ≡ (member v xs || member v ys)
+pub member-append : (v : ℕ) (xs ys : List ℕ) → member v (xs ++ ys) ≡ (member v xs || member v ys)
 member-append v [] ys = refl
 member-append v (x ∷ xs) ys = ap (λ b. eqb x v || b) (member-append v xs ys) ∙ assoc (eqb x v) (member v xs) (member v ys)
   where
@@ -58,7 +58,7 @@ not-below i q = go (ltb q i) refl
     go true e = lt-leb i q (ltb-true q i e)
     go false e = le-leb i q (ltb-false q i e)
 
-bad-same : (i : ℕ) (seen ps : List ℕ) → part-bad i seen ps ≡ not (rightly-named i seen ps)
+pub bad-same : (i : ℕ) (seen ps : List ℕ) → part-bad i seen ps ≡ not (rightly-named i seen ps)
 unfolding part-bad
 bad-same i seen [] = refl
 bad-same i seen (q ∷ qs) =
@@ -72,14 +72,14 @@ bad-same i seen (q ∷ qs) =
 
 -- ── the lines from one on ──
 module _ (p : Pattern) where
-  abbrev From : (i : ℕ) → List Line → Type 0
+  abbrev pub From : (i : ℕ) → List Line → Type 0
   From i zs = (j : ℕ) → j < length zs → line-at p (i + j) ≡ getD zs j blank
 
   module _ (i : ℕ) (z : Line) (zs : List Line) (h : From i (z ∷ zs)) where
-    later : From (suc i) zs
+    pub later : From (suc i) zs
     later j l = let e : suc i + j ≡ i + suc j = omega arith in ap (line-at p) e ∙ h (suc j) (omega arith)
 
-    named : parts-03 (line-as z) ≡ parts (node-at p i)
+    pub named : parts-03 (line-as z) ≡ parts (node-at p i)
     named =
         let e : i + 0 ≡ i = omega arith in
         parts-same (z .account) (z .node) ∙ ap (λ x. parts (x .node)) (sym (h 0 (omega arith)) ∙ ap (line-at p) e)
@@ -155,11 +155,11 @@ nodes-at [] l h = absurd (omega arith)
 nodes-at (x ∷ xs) zero h = refl
 nodes-at (x ∷ xs) (suc l) h = nodes-at xs l (omega arith)
 
-table-line : (xs : List Line) (i : ℕ) → i < length xs → line-at (table xs) i ≡ getD xs i blank
+pub table-line : (xs : List Line) (i : ℕ) → i < length xs → line-at (table xs) i ≡ getD xs i blank
 unfolding table
 table-line xs i h = List·getD-append xs (replicate (64 - length xs) blank) blank i h
 
-table-count : (xs : List Line) → table xs .count ≡ length xs
+pub table-count : (xs : List Line) → table xs .count ≡ length xs
 unfolding table
 table-count xs = refl
 
@@ -198,7 +198,7 @@ accepted text (x ∷ xs) e ns f some-line = record {
   nodes = ns;
 }
 
-as-many : (ls : List Text-line) → length (nodes-in ls) ≡ length ls
+pub as-many : (ls : List Text-line) → length (nodes-in ls) ≡ length ls
 unfolding nodes-in
 as-many [] = refl
 as-many (x ∷ ls) = ap suc (as-many ls)
