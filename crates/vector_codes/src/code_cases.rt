@@ -3,6 +3,11 @@
 // cells, words and code bytes are lent, in decimal. The lent parts are the starts of larger arrays, whose cells are
 // set before each call. Each `put_` function puts its bytes into `out` from `at` on and answers where they end. What does
 // not fit is left out.
+ghost use Rattle.canonical.specs.Canonicalize.{canonicalized-answer};
+ghost use Rattle.codes.specs.Flatten.{flattened-answer};
+ghost use Rattle.codes.specs.Totals.{totals-outcome};
+ghost use Rattle.text.specs.Text.{Puts};
+ghost use Rattle.vector_codes.specs.Answers.{answer-text};
 use canonical::Canonicalized;
 use canonical::canonicalize;
 use codes::Flattened;
@@ -36,21 +41,27 @@ use vector_text::say_bad;
 const ALL_LETTERS: usize = 3700;
 
 // Number and value, from the start of `out`.
-fn put_flattened(out: &mut [u8], answer: Flattened) -> usize {
+fn put_flattened(out: &mut [u8], answer: Flattened) -> usize
+    ensures { λ r. ⌜ Puts (now (out .entry)) 0 (answer-text (flattened-answer answer)) (now (out .exit)) r ⌝ }
+{
     match answer {
         Flattened::Letters(letters) => put_pair(out, 0, 0, letters as u64),
         Flattened::Refused(why) => put_refusal(out, 0, why),
     }
 }
 
-fn put_outcome(out: &mut [u8], answer: TotalsOutcome) -> usize {
+fn put_outcome(out: &mut [u8], answer: TotalsOutcome) -> usize
+    ensures { λ r. ⌜ Puts (now (out .entry)) 0 (answer-text (totals-outcome answer)) (now (out .exit)) r ⌝ }
+{
     match answer {
         TotalsOutcome::Added => put_pair(out, 0, 0, 0),
         TotalsOutcome::Refused(why) => put_refusal(out, 0, why),
     }
 }
 
-fn put_canonicalized(out: &mut [u8], answer: Canonicalized) -> usize {
+fn put_canonicalized(out: &mut [u8], answer: Canonicalized) -> usize
+    ensures { λ r. ⌜ Puts (now (out .entry)) 0 (answer-text (canonicalized-answer answer)) (now (out .exit)) r ⌝ }
+{
     match answer {
         Canonicalized::Bits(count) => put_pair(out, 0, 0, count as u64),
         Canonicalized::Refused(why) => put_refusal(out, 0, why),

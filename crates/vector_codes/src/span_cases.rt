@@ -1,6 +1,9 @@
 // Showing a visit's piece: what the services answer, one line a case, fields parted by tabs. Behind the pattern's text a
 // case has the tape and the code's bytes, both in hexadecimal, and the code's bit count, the node and the visit, in
 // decimal.
+ghost use Rattle.spans.specs.Spans.{span-outcome};
+ghost use Rattle.text.specs.Text.{Puts};
+ghost use Rattle.vector_codes.specs.Answers.{answer-text};
 use spans::SpanOutcome;
 use spans::Spanned;
 use spans::piece;
@@ -20,7 +23,9 @@ use vector_text::rest;
 use vector_text::say_bad;
 
 // Number and value, from the start of `out`.
-fn put_outcome(out: &mut [u8], outcome: SpanOutcome) -> usize {
+fn put_outcome(out: &mut [u8], outcome: SpanOutcome) -> usize
+    ensures { λ r. ⌜ Puts (now (out .entry)) 0 (answer-text (span-outcome outcome)) (now (out .exit)) r ⌝ }
+{
     match outcome {
         SpanOutcome::Shown => put_pair(out, 0, 0, 0),
         SpanOutcome::Refused(why) => put_refusal(out, 0, why),

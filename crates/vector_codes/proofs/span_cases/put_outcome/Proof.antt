@@ -1,0 +1,44 @@
+-- `vector_codes::span_cases::put_outcome` meets its contract: one law for both ways.
+use mathlib.Core.Path.{sym, ap}
+use Rattle.spans.specs.Spans.{span-outcome}
+use Rattle.vector_codes.specs.Answers.{puts-answer}
+use borrow.Author.Needs.{needs}
+use Rattle.vector_codes.proofs.span_cases.put_outcome.Statement.{statement}
+use Rattle.vector_codes.proofs.span_cases.put_outcome.Tie as tie
+
+enum-told : tie.Need-enum-told
+enum-told c = search needs
+
+put-pair-requires : tie.Need-put-pair-requires
+put-pair-requires c κs = search needs
+
+enum-known-outcome : tie.Need-enum-known-outcome
+enum-known-outcome c = search needs
+
+put-refusal-requires : tie.Need-put-refusal-requires
+put-refusal-requires c κs = search needs
+
+same-length : tie.Need-same-length
+same-length c = search needs
+
+returns : tie.Need-returns
+returns c = puts-answer _ _ (ap span-outcome (sym (c .before .before .before .before .enum-told .given .1))) (c .before .before .put-pair .ensures)
+
+same-length-2 : tie.Need-same-length-2
+same-length-2 c = search needs
+
+returns-2 : tie.Need-returns-2
+returns-2 c = puts-answer _ _ (ap span-outcome (sym (c .before .before .before .before .before .outcome .given .1))) (c .before .before .put-refusal .ensures)
+
+pub put-outcome-spec : {M : Type 1} → statement M
+put-outcome-spec =
+    tie.close
+    (tie.spec
+    enum-told
+    put-pair-requires
+    enum-known-outcome
+    put-refusal-requires
+    same-length
+    returns
+    same-length-2
+    returns-2)

@@ -1,0 +1,2 @@
+-- Answers as text.
+pub mod Answers
