@@ -13,7 +13,7 @@ use Rattle.syntax.specs.Table.{obeys}
 use Rattle.syntax.specs.Trees.{root}
 use Rattle.bits.specs.Bits.{cell-count, pack, in-front}
 use Rattle.semantics.specs.Code.{Canonical}
-use Rattle.first_sweep.specs.StateSets.{words as state-sets}
+use Rattle.steps.specs.StateSets.{words as state-sets}
 use Rattle.canonical.specs.declared.Canonicalized.{Canonicalized}
 use Rattle.canonical.specs.declared.Canonicalized.the-variants.{Bits, Refused}
 use Rattle.agree.specs.declared.Agreement.{Agreement}

@@ -20,7 +20,7 @@ use Rattle.bits.specs.Writing.{take-in-front, length-in-front}
 use Rattle.semantics.specs.Code.{Canonical}
 use Rattle.semantics.specs.Sweeps.{greedy}
 use Rattle.semantics.specs.GreedyLaws.{greedy-canonical}
-use Rattle.first_sweep.specs.StateSets.{words}
+use Rattle.steps.specs.StateSets.{words}
 use Rattle.first_sweep.specs.Meaning.{words-length}
 use Rattle.walks.specs.Whole.{whole-code, letters-of}
 use Rattle.codes.specs.FlattenLaws.{flatten-fills}

@@ -29,7 +29,7 @@ use Rattle.bits.specs.Bits.{in-front}
 use Rattle.semantics.specs.Value.{Value, flat}
 use Rattle.semantics.specs.LetterLaws.{Lettered, flat-letters}
 use Rattle.semantics.specs.VisitLaws.{All}
-use Rattle.first_sweep.specs.StateSets.{words}
+use Rattle.steps.specs.StateSets.{words}
 use Rattle.codes.specs.declared.Flattened.{Flattened}
 use Rattle.codes.specs.declared.Flattened.the-variants.{Letters, Refused as Not-flattened}
 use Rattle.walks.specs.Whole.{whole-code, letters-of}

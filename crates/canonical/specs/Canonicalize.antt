@@ -11,7 +11,7 @@ use Rattle.refusals.specs.Refusals.{Answer, answer, refused}
 use Rattle.refusals.specs.Checks.{Check, first-cause}
 use Rattle.syntax.specs.Trees.{root}
 use Rattle.bits.specs.Bits.{in-front}
-use Rattle.first_sweep.specs.StateSets.{words as state-sets}
+use Rattle.steps.specs.StateSets.{words as state-sets}
 use Rattle.codes.specs.declared.Flattened.{Flattened}
 use Rattle.codes.specs.declared.Flattened.the-variants.{Refused as Not-flattened}
 use Rattle.walks.specs.Whole.{letters-of}

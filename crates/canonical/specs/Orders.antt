@@ -21,7 +21,7 @@ use Rattle.bits.specs.Bits.{cell-count, in-front}
 use Rattle.semantics.specs.Code.{Canonical}
 use Rattle.semantics.specs.Sweeps.{greedy}
 use Rattle.semantics.specs.GreedyLaws.{greedy-canonical}
-use Rattle.first_sweep.specs.StateSets.{words as state-sets}
+use Rattle.steps.specs.StateSets.{words as state-sets}
 use Rattle.walks.specs.Whole.{whole-code}
 use Rattle.codes.specs.Flatten.{flatten-order}
 use Rattle.codes.specs.FlattenLaws.{flatten-refused, flatten-fills}

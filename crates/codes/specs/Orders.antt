@@ -1,4 +1,4 @@
--- Spelling and totalling a code: the first cause that holds is answered, whatever later causes hold, and all is left as it was.
+-- Spelling a code: the first cause that holds is answered, whatever later causes hold, and all is left as it was.
 use mathlib.Core.Path.{_≡_, refl, sym, ap, _∙_}
 use mathlib.Core.Bool.{true, false, not}
 use mathlib.Core.List.{List, [], _∷_}
@@ -17,21 +17,13 @@ use Rattle.refusals.specs.CheckLaws.{refused-first}
 use Rattle.walks.specs.Whole.{whole-code, letters-of}
 use Rattle.codes.specs.declared.Flattened.{Flattened}
 use Rattle.codes.specs.declared.Flattened.the-variants.{Refused}
-use Rattle.codes.specs.declared.TotalsOutcome.the-variants.{Refused as No-totals}
-use Rattle.codes.specs.declared.Totalled.{Totalled}
 use Rattle.codes.specs.Flatten.{flatten-order, flatten-answer, flattened-answer, Flattens}
-use Rattle.codes.specs.Totals.{totals-order, totals-answer, totals-outcome, no-litres, refused-totals, Totals}
 use Rattle.codes.specs.FlattenLaws.{flatten-refused}
-use Rattle.codes.specs.TotalsLaws.{totals-refused}
-use Rattle.codes.specs.Unique.{flattens-one, totals-one}
+use Rattle.codes.specs.Unique.{flattens-one}
 
 -- 01: "Spelling a code: 2, 8, 3, 9."
 pub flatten-numbers : (p : Pattern) (code : List ℕ) (count size : ℕ) → numbers (flatten-order p code count size) ≡ 2 ∷ 8 ∷ 3 ∷ 9 ∷ []
 flatten-numbers p code count size = refl
-
--- 01: "Totalling litres: 2, 8, 3."
-pub totals-numbers : (p : Pattern) (code : List ℕ) (count : ℕ) → numbers (totals-order p code count) ≡ 2 ∷ 8 ∷ 3 ∷ []
-totals-numbers p code count = refl
 
 module _ (p : Pattern) (code : List ℕ) (count : ℕ) where
   abbrev letters : ℕ
@@ -63,23 +55,3 @@ module _ (p : Pattern) (code : List ℕ) (count : ℕ) where
     flatten-only-9 o w f l =
         flatten-only (TapeTooShort letters)
         (past (ap not o) (past (ap not w) (past (le-ltb letter-limit letters f) (here (lt-ltb (length tape) letters l)))))
-
-  module _ (r : Totalled) (h : Totals p code count r) where
-    abbrev No-litres : Refusal → Type 0
-    No-litres why = (r .outcome ≡ No-totals why) × (r .litres ≡ no-litres)
-
-    pub totals-only : (why : Refusal) → First why (totals-order p code count) → No-litres why
-    totals-only why f = totals-one p code count r (refused-totals why) h (totals-refused p code count why f)
-
-    pub totals-first : (why : Refusal) → r .outcome ≡ No-totals why → First why (totals-order p code count)
-    unfolding totals-answer
-    totals-first why e = refused-first (totals-order p code count) (answer 0 0) refl why (sym (h .answers) ∙ ap totals-outcome e)
-
-    pub totals-only-2 : obeys p ≡ false → No-litres (Tree-fault 0)
-    totals-only-2 o = totals-only (Tree-fault 0) (here (ap not o))
-
-    pub totals-only-8 : obeys p ≡ true → whole-code (root p) code count ≡ false → No-litres NotACode
-    totals-only-8 o w = totals-only NotACode (past (ap not o) (here (ap not w)))
-
-    pub totals-only-3 : obeys p ≡ true → whole-code (root p) code count ≡ true → letter-limit < letters → No-litres TapeTooLong
-    totals-only-3 o w l = totals-only TapeTooLong (past (ap not o) (past (ap not w) (here (lt-ltb letter-limit letters l))))

@@ -1,4 +1,4 @@
-// Services on codes: spelling a code, litres by account, and whether a code spells a tape. Each walks a code once, into cells of its own, and
+// Services on codes: spelling a code, and whether a code spells a tape. Each walks a code once, into cells of its own, and
 // nothing of the caller's is written before the whole code is tested.
 ghost use mathlib.Core.Path.{_≡_};
 ghost use Prim.Native.Nat.{_≤_, _<_};
@@ -7,17 +7,14 @@ ghost use Rattle.syntax.specs.Letter.{letter-limit};
 ghost use Rattle.table.specs.Cells.{Good, tree-in};
 ghost use Rattle.codes.specs.Spells.{code-of-tape};
 ghost use Rattle.codes.specs.Flatten.{Flattens};
-ghost use Rattle.codes.specs.Totals.{Totals, refused-totals};
 
 mod compare; // compare.rt: whether a buffer begins with a tape
 mod front; // front.rt: copying a buffer's first letters
-mod sums; // sums.rt: adding up entries
 
 use compare::begins;
 use entries::enter;
 use front::put_front;
 use refusals::Refusal;
-use sums::add_up;
 use syntax::Pattern;
 use syntax::obeys_rules;
 use table::table_of;
@@ -70,56 +67,4 @@ pub fn flatten(p: Pattern, code: &[u8], count: u32, tape: &mut [u8]) -> Flattene
     }
     put_front(&own, letters, tape);
     Flattened::Letters(measured.letters)
-}
-
-// What totalling answers: that the litres are added up, or why not.
-pub enum TotalsOutcome {
-    Added,
-    Refused(Refusal),
-}
-
-// The answer, and the litres of accounts 0 to 9.
-pub struct Totalled {
-    pub outcome: TotalsOutcome,
-    pub litres: [u32; 10],
-}
-
-impl Totalled {
-    // Accounts 0 to `Pattern::MAX_ACCOUNT`.
-    pub const ACCOUNTS: usize = 10;
-}
-
-fn no_totals(why: Refusal) -> Totalled
-    ensures { λ r. ⌜ r ≡ refused-totals why ⌝ }
-{
-    Totalled {
-        outcome: TotalsOutcome::Refused(why),
-        litres: [0; Totalled::ACCOUNTS],
-    }
-}
-
-// Litres by account. The whole code is walked before anything is added.
-pub fn totals(p: Pattern, code: &[u8], count: u32) -> Totalled
-    ensures { λ r. ⌜ Totals p (now (code .entry)) count r ⌝ }
-{
-    if !obeys_rules(p) {
-        return no_totals(Refusal::Tree(0));
-    }
-    let table = table_of(p);
-    let root = p.count - 1;
-    let mut letters = [0u8; Pattern::MAX_LETTERS];
-    let mut accounts = [0u8; Pattern::MAX_LETTERS];
-    let measured = enter(&table, root, code, count, &mut letters, &mut accounts);
-    if !measured.whole {
-        return no_totals(Refusal::NotACode);
-    }
-    let n = measured.letters as usize;
-    if Pattern::MAX_LETTERS < n {
-        return no_totals(Refusal::TapeTooLong);
-    }
-    let litres = add_up(&letters, &accounts, n);
-    Totalled {
-        outcome: TotalsOutcome::Added,
-        litres,
-    }
 }

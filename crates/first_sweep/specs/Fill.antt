@@ -10,7 +10,7 @@ use Rattle.syntax.specs.Letter.{is-letter, letter-limit}
 use Rattle.syntax.specs.Trees.{root}
 use Rattle.syntax.specs.TreeLaws.{Rules}
 use Rattle.bits.specs.Bits.{in-front}
-use Rattle.first_sweep.specs.StateSets.{words}
+use Rattle.steps.specs.StateSets.{words}
 use Rattle.first_sweep.specs.Sweep.{Sweepable, sweep-of}
 use Rattle.table.specs.Cells.{Holds}
 use Rattle.masks.specs.Leaves.{letter-cells, letter-cell}

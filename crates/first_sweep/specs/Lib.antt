@@ -1,9 +1,4 @@
-pub mod StateSets
-pub mod StateLaws
-pub mod Steps
-pub mod Stepping
 pub mod Sweep
-pub mod Memo
 pub mod SweepWords
 pub mod Fill
 pub mod Meaning

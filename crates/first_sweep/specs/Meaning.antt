@@ -21,9 +21,9 @@ use Rattle.semantics.specs.Sweeps.{can, readable}
 use Rattle.semantics.specs.AutomatonLaws.{after, Passes, guarded-iff}
 use Rattle.masks.specs.Nodes.{said, node-word, word-says}
 use Rattle.masks.specs.Closure.{reach, passes, reaches, nowhere, leaf-mask, end-mask}
-use Rattle.first_sweep.specs.StateSets.{Is-state-set, state-set, words}
+use Rattle.steps.specs.StateSets.{Is-state-set, state-set, words}
 use Rattle.masks.specs.Planting.{root-planted}
-use Rattle.first_sweep.specs.StateLaws.{state-bit, state-set-is}
+use Rattle.steps.specs.StateLaws.{state-bit, state-set-is}
 
 -- ---- the words of a fill
 pub words-length : (p : Pattern) (tape : List ℕ) → length (words p tape) ≡ 2 * (length tape + 1)

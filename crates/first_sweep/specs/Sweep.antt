@@ -10,9 +10,9 @@ use lib.Seq.{drop-cons, drop-length, drop-set-lt}
 use Rattle.syntax.specs.Letter.{letter-limit}
 use Rattle.bits.specs.Bits.{in-front}
 use Rattle.semantics.specs.Sweeps.{at-end}
-use Rattle.first_sweep.specs.declared.Words.{Words}
+use Rattle.steps.specs.declared.Words.{Words}
 use Rattle.masks.specs.Leaves.{letter-cells, entry}
-use Rattle.first_sweep.specs.Steps.{step-of}
+use Rattle.steps.specs.Steps.{step-of}
 
 -- the flag 1 word of the first position of a fill
 abbrev pub first-one : List ℕ → ℕ

@@ -15,9 +15,9 @@ use Rattle.table.specs.Cells.{follower-in, Holds}
 use Rattle.masks.specs.Nodes.{word-past-last}
 use Rattle.masks.specs.Closure.{leaf-mask}
 use Rattle.bits.specs.Unions.{pick, union}
-use Rattle.first_sweep.specs.StateSets.{state-set, words}
+use Rattle.steps.specs.StateSets.{state-set, words}
 use Rattle.masks.specs.Leaves.{takes, takers, entry}
-use Rattle.first_sweep.specs.Steps.{behind, live, step-of, state-step, state-end}
+use Rattle.steps.specs.Steps.{behind, live, step-of, state-step, state-end}
 use Rattle.first_sweep.specs.Sweep.{first-one, put, sweep-of}
 use Rattle.masks.specs.Masks.{Masks-of}
 

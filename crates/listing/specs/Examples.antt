@@ -3,7 +3,7 @@ use mathlib.Core.Path.{_≡_, refl}
 use mathlib.Core.List.{List, [], _∷_}
 use Prim.Native.Nat.{ℕ}
 use Rattle.syntax.specs.Letter.{is-letter, in-range, first-bad}
-use Rattle.loading.specs.Text.{
+use Rattle.fields.specs.Text.{
   rows,
   digit,
   one-digit,
@@ -27,24 +27,13 @@ use Rattle.syntax.specs.Trees.{tree-of, root}
 use Rattle.semantics.specs.Sweeps.{readable, greedy}
 use Rattle.semantics.specs.Accounts.{accounts, litres, total, totals}
 use Rattle.semantics.specs.Decode.{value-of}
-use Rattle.first_sweep.specs.StateSets.{state-set}
+use Rattle.steps.specs.StateSets.{state-set}
 use Rattle.masks.specs.Nodes.{node-word}
 use Rattle.bits.specs.Bits.{bits-of, pack, word-of, count-below}
 use Rattle.parser.specs.Parse.{early}
 use Rattle.text.specs.Text.{digits, decimal, hex-digit, hex-byte, hex, entry, line, refused-line}
-use Rattle.listing.specs.Listing.{
-  tape-line,
-  account-line,
-  account-lines,
-  open-lines,
-  listing,
-  read-listing,
-  early-cause,
-  pattern-listing,
-  closed,
-  tape-of,
-  listing-of,
-}
+use Rattle.listing.specs.Listing.{listing, read-listing, early-cause, pattern-listing, closed, tape-of, listing-of}
+use Rattle.listing_lines.specs.LineBytes.{tape-line, account-line, account-lines, open-lines}
 
 -- the pattern's text, line by line
 abbrev pub worked-text : List ℕ

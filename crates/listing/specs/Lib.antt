@@ -1,7 +1,6 @@
 -- What must be believed: the bytes of a listing.
 pub mod Listing
 -- The lines: one law for each way of the code, and how long they can be.
-pub mod Lines
 -- The service: laws of its ways.
 pub mod ListingLaws
 -- What the definition means for values, the theorem behind its computed parts.

@@ -29,10 +29,10 @@ use Rattle.semantics.specs.Accounts.{totals}
 use Rattle.semantics.specs.Decode.{value-of}
 use Rattle.semantics.specs.Sweeps.{readable, greedy}
 use Rattle.semantics.specs.GreedyLaws.{greedy-canonical, readable-iff}
-use Rattle.first_sweep.specs.StateSets.{words as state-sets}
+use Rattle.steps.specs.StateSets.{words as state-sets}
 use Rattle.first_sweep.specs.Meaning.{words-length}
-use Rattle.codes.specs.declared.Totalled.{Totalled}
-use Rattle.codes.specs.Totals.{entries-by, entries-of, totals-answer, totals-litres, Totals}
+use Rattle.totals.specs.declared.Totalled.{Totalled}
+use Rattle.totals.specs.Totals.{entries-by, entries-of, totals-answer, totals-litres, Totals}
 use Rattle.canonical.specs.RoundTrip.{canonical-whole, canonical-spells}
 use Rattle.parser.specs.declared.Parsed.{Parsed}
 use Rattle.parser.specs.declared.Parsed.the-variants.{Bits, Refused}
@@ -42,22 +42,9 @@ use Rattle.listing.specs.declared.Listed.{Listed}
 use Rattle.listing.specs.declared.Listed.the-variants.{Bytes, TooShort}
 use Rattle.text.specs.Text.{Puts, refused-line}
 use Rattle.text.specs.Putting.{puts-then, puts-front}
-use Rattle.listing.specs.Listing.{
-  tape-line,
-  account-lines,
-  open-lines,
-  listing,
-  read-listing,
-  early-cause,
-  pattern-listing,
-  closed,
-  tape-of,
-  listing-of,
-  word-limit,
-  room,
-  Lists,
-}
-use Rattle.listing.specs.Lines.{tape-length, open-length}
+use Rattle.listing.specs.Listing.{listing, read-listing, early-cause, pattern-listing, closed, tape-of, listing-of, word-limit, room, Lists}
+use Rattle.listing_lines.specs.LineBytes.{tape-line, account-lines, open-lines}
+use Rattle.listing_lines.specs.Lines.{tape-length, open-length}
 
 -- ── a listing put in front of a buffer, where there is room for it ──
 pub record Shows (old bytes now : List ℕ) (end : ℕ) : Type 0 where

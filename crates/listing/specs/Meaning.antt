@@ -21,9 +21,10 @@ use Rattle.semantics.specs.Decode.{value-of}
 use Rattle.semantics.specs.Sweeps.{readable, greedy}
 use Rattle.semantics.specs.CodeLaws.{value-of-code}
 use Rattle.semantics.specs.GreedyLaws.{canonical-greedy, readable-iff}
-use Rattle.first_sweep.specs.StateSets.{words}
+use Rattle.steps.specs.StateSets.{words}
 use Rattle.text.specs.Text.{refused-line}
-use Rattle.listing.specs.Listing.{tape-line, account-lines, open-lines, listing, read-listing, early-cause, pattern-listing, tape-of, listing-of}
+use Rattle.listing.specs.Listing.{listing, read-listing, early-cause, pattern-listing, tape-of, listing-of}
+use Rattle.listing_lines.specs.LineBytes.{tape-line, account-lines, open-lines}
 use Rattle.listing.specs.ListingLaws.{refused-by, read-by}
 
 -- the lines of a tape whose greedy value is v: letters, bits and bytes of its code; litres by account; open nodes of each position

@@ -15,10 +15,10 @@ use Rattle.refusals.specs.declared.Refusal.the-variants.{Tree as Tree-fault, Ta
 use Rattle.syntax.specs.Letter.{letter-limit}
 use Rattle.refusals.specs.Refusals.{Answer, refused}
 use Rattle.syntax.specs.Table.{obeys}
-use Rattle.loading.specs.Text.{Row, byte-front, rows, place, single, account, line-of, row-line, fault, line-front, forms}
+use Rattle.fields.specs.Text.{Row, byte-front, rows, place, single, account, line-of, row-line, fault, line-front, forms}
 use Rattle.loading.specs.Load.{forms-answer, forms-table, load-answer, load-table}
-use Rattle.loading.specs.Scans.{first-fields, first-closed, first-size, parts-say, account-says}
-use Rattle.loading.specs.Scanning.{
+use Rattle.scanning.specs.Scans.{first-fields, first-closed, first-size, parts-say, account-says}
+use Rattle.scanning.specs.Scanning.{
   line-no-place,
   line-no-long,
   line-no-kind,

@@ -6,19 +6,16 @@ ghost use Rattle.listing.specs.Listing.{listing, pattern-listing, listin
 ghost use Rattle.listing.specs.ListingLaws.{Read, Shows, Letters};
 ghost use Rattle.semantics.specs.Sweeps.{greedy};
 ghost use Rattle.syntax.specs.Trees.{root};
-
-mod lines; // lines.rt: the lines of a listing
-
-use codes::totals;
-use lines::put_accounts;
-use lines::put_open;
-use lines::put_tape;
+use listing_lines::put_accounts;
+use listing_lines::put_open;
+use listing_lines::put_tape;
 use loading::Outcome;
 use loading::load;
 use parser::Parsed;
 use parser::parse;
 use syntax::Pattern;
 use text::put_refused;
+use totals::totals;
 
 // Bytes that hold every listing: at most 131,100 for the first line, 30 for each account, 27 for each position.
 pub const MAX_LISTING: usize = 262144;

@@ -1,10 +1,4 @@
-pub mod Text
 pub mod Load
-pub mod Fields
-pub mod Scans
-pub mod Cuts
-pub mod Scanning
-pub mod Parsing
 pub mod ReadLines
 pub mod Lines
 pub mod Loading

@@ -13,12 +13,12 @@ use lib.Seq.{take-suc-set, drop-set-lt, drop-cons, length-take-le, drop-drop}
 use Rattle.syntax.specs.declared.Line.{Line}
 use Rattle.syntax.specs.declared.Pattern.{Pattern}
 use Rattle.loading.specs.declared.lines.Read.{Read}
-use Rattle.loading.specs.declared.scan.Scanned.{Scanned}
-use Rattle.loading.specs.declared.scan.Scanned.the-variants.{Line as Scan-line, Fault as No-line}
-use Rattle.loading.specs.Text.{Row, byte-front, row-front, rows, line-of, row-line, Forms, good, fault, line-front, forms}
+use Rattle.scanning.specs.declared.Scanned.{Scanned}
+use Rattle.scanning.specs.declared.Scanned.the-variants.{Line as Scan-line, Fault as No-line}
+use Rattle.fields.specs.Text.{Row, byte-front, row-front, rows, line-of, row-line, Forms, good, fault, line-front, forms}
 use Rattle.syntax.specs.Table.{blank, no-lines}
 use Rattle.loading.specs.Load.{table}
-use Rattle.loading.specs.Scans.{first-fields, first-closed, first-size, scan-of, scan-by, scanned}
+use Rattle.scanning.specs.Scans.{first-fields, first-closed, first-size, scan-of, scan-by, scanned}
 use Rattle.loading.specs.ReadLines.{read-as, Reads-lines, lines-front, Read-so-far}
 
 -- ── the first line of a text ──

@@ -11,7 +11,7 @@ use Rattle.loading.specs.declared.Outcome.{Outcome}
 use Rattle.loading.specs.declared.Outcome.the-variants.{Lines, Refused}
 use Rattle.loading.specs.declared.Loaded.{Loaded}
 use Rattle.refusals.specs.Refusals.{Answer, answer, refused}
-use Rattle.loading.specs.Text.{rows, Forms, good, fault, forms}
+use Rattle.fields.specs.Text.{rows, Forms, good, fault, forms}
 use Rattle.syntax.specs.Table.{blank, no-lines, tree-fault}
 
 -- loading answers 0 and the line count, or a refusal's number and line

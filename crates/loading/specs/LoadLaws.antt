@@ -14,8 +14,8 @@ use Rattle.syntax.specs.declared.Node.the-variants.{Leaf as Leaf-node, Sequence
 use Rattle.syntax.specs.declared.Line.{Line}
 use Rattle.syntax.specs.declared.Pattern.{Pattern}
 use Rattle.syntax.specs.Letter.{is-letter}
-use Rattle.loading.specs.Text.{place, single, account, when, node-of-none, node-of-one, range-of, parts-of, node-of-two, node-of, with-account}
-use Rattle.loading.specs.Text.{Row, line-of, row-line, rows, Forms, good, fault, line-front, forms}
+use Rattle.fields.specs.Text.{place, single, account, when, node-of-none, node-of-one, range-of, parts-of, node-of-two, node-of, with-account}
+use Rattle.fields.specs.Text.{Row, line-of, row-line, rows, Forms, good, fault, line-front, forms}
 use Rattle.syntax.specs.Table.{blank, no-lines, line-at, node-good, line-good, badly-formed, lowest, tree-fault, is-none, obeys}
 use Rattle.syntax.specs.Lowest.{none-lowest}
 use Rattle.loading.specs.Load.{table, tree-answer, tree-table, forms-answer, forms-table, load-answer, load-table}

@@ -12,7 +12,7 @@ use Rattle.syntax.specs.declared.Line.{Line}
 use Rattle.refusals.specs.declared.Refusal.the-variants.{LineForm, Tree}
 use Rattle.loading.specs.declared.Outcome.the-variants.{Lines}
 use Rattle.loading.specs.declared.lines.Read.{Read}
-use Rattle.loading.specs.Text.{Row, rows, row-line, Forms, good, fault, line-front, forms}
+use Rattle.fields.specs.Text.{Row, rows, row-line, Forms, good, fault, line-front, forms}
 use Rattle.syntax.specs.Table.{tree-fault}
 use Rattle.loading.specs.ReadLines.{read-as, Reads-lines}
 use Rattle.loading.specs.Load.{table, tree-answer, tree-table, forms-answer, forms-table, load-answer, load-table, refused-load, Loads}

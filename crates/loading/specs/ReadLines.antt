@@ -6,7 +6,7 @@ use lib.ListN.{length, take, drop, replicate}
 use Rattle.syntax.specs.declared.Line.{Line}
 use Rattle.syntax.specs.declared.Pattern.{Pattern}
 use Rattle.loading.specs.declared.lines.Read.{Read}
-use Rattle.loading.specs.Text.{rows, Forms, good, fault, forms}
+use Rattle.fields.specs.Text.{rows, Forms, good, fault, forms}
 use Rattle.syntax.specs.Table.{blank}
 use Rattle.loading.specs.Load.{table}
 

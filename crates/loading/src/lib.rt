@@ -4,9 +4,7 @@
 ghost use mathlib.Core.Path.{_≡_};
 ghost use Rattle.loading.specs.Load.{refused-load, Loads};
 
-mod field; // field.rt: one field of a text and its value
 mod lines; // lines.rt: the lines of a text
-mod scan; // scan.rt: one line of a text
 
 use lines::read_lines;
 use refusals::Refusal;

@@ -1,7 +1,7 @@
 // The lines of a pattern text, read once from front to back.
 ghost use Rattle.loading.specs.ReadLines.{Reads-lines};
-use super::scan::Scanned;
-use super::scan::scan_line;
+use scanning::Scanned;
+use scanning::scan_line;
 use syntax::Pattern;
 
 // Stands for the line of a fault where there is none: no line is reported past `Pattern::MAX_LINES`.

@@ -16,7 +16,7 @@ use Rattle.semantics.specs.Value.{Value, flat}
 use Rattle.semantics.specs.Code.{IsCode, Spells, NoEmptyRound}
 use Rattle.semantics.specs.Sweeps.{readable, greedy}
 use Rattle.semantics.specs.GreedyLaws.{greedy-canonical, readable-iff}
-use Rattle.first_sweep.specs.StateSets.{words}
+use Rattle.steps.specs.StateSets.{words}
 use Rattle.first_sweep.specs.Meaning.{root-says}
 use Rattle.parser.specs.ParseLaws.{root-index, greedy-few}
 

@@ -23,7 +23,7 @@ use Rattle.semantics.specs.Value.{Value, flat}
 use Rattle.semantics.specs.Code.{Canonical}
 use Rattle.semantics.specs.Sweeps.{readable, greedy}
 use Rattle.semantics.specs.GreedyLaws.{greedy-canonical, readable-iff}
-use Rattle.first_sweep.specs.StateSets.{words as state-sets}
+use Rattle.steps.specs.StateSets.{words as state-sets}
 use Rattle.parser.specs.declared.Parsed.{Parsed}
 use Rattle.parser.specs.declared.Parsed.the-variants.{Refused}
 use Rattle.parser.specs.Parse.{parsed-answer, early-order, early, Reads-greedily, Parses}

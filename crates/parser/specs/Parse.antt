@@ -16,7 +16,7 @@ use Rattle.syntax.specs.Trees.{root}
 use Rattle.bits.specs.Bits.{cell-count, pack, in-front}
 use Rattle.semantics.specs.Value.{Value, flat}
 use Rattle.semantics.specs.Code.{Canonical}
-use Rattle.first_sweep.specs.StateSets.{words as state-sets}
+use Rattle.steps.specs.StateSets.{words as state-sets}
 use Rattle.parser.specs.declared.Parsed.{Parsed}
 use Rattle.parser.specs.declared.Parsed.the-variants.{Bits, Refused}
 

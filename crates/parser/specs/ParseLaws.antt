@@ -33,8 +33,8 @@ use Rattle.semantics.specs.AutomatonLaws.{after}
 use Rattle.semantics.specs.BoundLaws.{nodes, choices-nodes, code-fits, bits-bound}
 use Rattle.semantics.specs.SecondSweepLaws.{wrote}
 use Rattle.semantics.specs.GreedyLaws.{greedy-canonical, canonical-greedy, readable-iff}
-use Rattle.first_sweep.specs.StateSets.{state-set, words}
-use Rattle.first_sweep.specs.StateLaws.{state-bit}
+use Rattle.steps.specs.StateSets.{state-set, words}
+use Rattle.steps.specs.StateLaws.{state-bit}
 use Rattle.first_sweep.specs.Meaning.{words-length, words-at}
 use Rattle.first_sweep.specs.Fill.{Fillable}
 use Rattle.second_sweep.specs.declared.Swept.{Swept}

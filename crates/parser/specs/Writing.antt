@@ -12,7 +12,7 @@ use Rattle.syntax.specs.Table.{obeys}
 use Rattle.syntax.specs.Trees.{root}
 use Rattle.bits.specs.Bits.{bit, cell-count, pack, in-front}
 use Rattle.semantics.specs.Sweeps.{readable}
-use Rattle.first_sweep.specs.StateSets.{state-set}
+use Rattle.steps.specs.StateSets.{state-set}
 use Rattle.second_sweep.specs.Sweeping.{Ready}
 use Rattle.parser.specs.declared.Parsed.{Parsed}
 use Rattle.parser.specs.declared.Parsed.the-variants.{Bits, Refused}

@@ -15,7 +15,7 @@ use Rattle.loading.specs.Load.{load-answer, load-table}
 use Rattle.bits.specs.Bits.{count-below}
 use Rattle.bits.specs.Paper03.{is-bits, bools, mark-bit, Packs-back}
 use Rattle.semantics.specs.Decode.{is-code as is-code-of, spelled as spelled-of, hollow as hollow-of}
-use Rattle.first_sweep.specs.StateSets.{words}
+use Rattle.steps.specs.StateSets.{words}
 use Rattle.parser.specs.ChoiceLaws.{is-choice}
 use Rattle.theorems.specs.Paper03Codes.{before}
 

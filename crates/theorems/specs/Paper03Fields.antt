@@ -10,7 +10,7 @@ use lib.Dec.{ltb, leb, eqb}
 use lib.ListN.{length, getD}
 use Rattle.syntax.specs.Bools.{and-fst, and-snd}
 use Rattle.syntax.specs.Letter.{is-letter}
-use Rattle.loading.specs.Text.{Row, byte-front, row-front, rows, digit, one-digit, two-digits, place, single, account}
+use Rattle.fields.specs.Text.{Row, byte-front, row-front, rows, digit, one-digit, two-digits, place, single, account}
 use Rattle.theorems.specs.Paper03Pattern.{Line as Text-line, put-front, closed-empty, lines, put-piece, fields, is-digit, place-value, is-place}
 use Rattle.theorems.specs.Paper03Pattern.{is-letter as is-letter-field, account-value}
 

@@ -13,9 +13,9 @@ use Rattle.syntax.specs.declared.Node.{Node as Own-node}
 use Rattle.syntax.specs.declared.Node.the-variants.{Leaf as Leaf-node, Sequence, Alternative, Star}
 use Rattle.syntax.specs.declared.Line.{Line}
 use Rattle.syntax.specs.Bools.{and-fst, and-snd, and-intro}
-use Rattle.loading.specs.Text.{place, single, account, when}
-use Rattle.loading.specs.Text.{node-of-none, node-of-one, range-of, parts-of, node-of-two, node-of, with-account, line-of, row-line}
-use Rattle.loading.specs.Text.{good, fault, line-front, forms}
+use Rattle.fields.specs.Text.{place, single, account, when}
+use Rattle.fields.specs.Text.{node-of-none, node-of-one, range-of, parts-of, node-of-two, node-of, with-account, line-of, row-line}
+use Rattle.fields.specs.Text.{good, fault, line-front, forms}
 use Rattle.theorems.specs.Paper03Pattern.{Node, Line as Text-line, fields, place-value, is-place}
 use Rattle.theorems.specs.Paper03Pattern.{is-letter as is-letter-field, account-value, kind-value, field, line-good, node-in, nodes-in, forms-from}
 use Rattle.theorems.specs.Paper03Pattern.{refusal}

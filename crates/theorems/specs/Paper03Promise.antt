@@ -8,7 +8,7 @@ use lib.Dec.{eqb}
 use lib.ListN.{length, getD}
 use Rattle.loading.specs.Load.{load-table}
 use Rattle.bits.specs.Paper03.{is-bits, mark-bit, Packs-back}
-use Rattle.first_sweep.specs.StateSets.{words}
+use Rattle.steps.specs.StateSets.{words}
 use Rattle.theorems.specs.Paper03Pattern.{Node, load-refusal, loaded, root}
 use Rattle.theorems.specs.Paper03Codes.{is-code, spelled, hollow, Greedy}
 use Rattle.theorems.specs.Paper03.{tape-good}

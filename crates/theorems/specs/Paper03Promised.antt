@@ -15,7 +15,7 @@ use Rattle.syntax.specs.Table.{line-at, node-at}
 use Rattle.loading.specs.Load.{load-answer, load-table}
 use Rattle.bits.specs.Bits.{bit, count-below}
 use Rattle.bits.specs.Paper03.{mark-bit, packs-back}
-use Rattle.first_sweep.specs.StateSets.{words}
+use Rattle.steps.specs.StateSets.{words}
 use Rattle.parser.specs.ChoiceLaws.{is-choice}
 use Rattle.theorems.specs.Paper03Pattern.{Node, no-node, node, load-refusal, loaded, root}
 use Rattle.theorems.specs.Paper03Codes.{is-code, spelled, Greedy}

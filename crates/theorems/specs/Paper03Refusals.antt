@@ -17,8 +17,8 @@ use Rattle.syntax.specs.Bools.{and-fst, and-snd, and-intro}
 use Rattle.syntax.specs.Letter.{is-letter}
 use Rattle.syntax.specs.Table.{blank, line-at, node-at, parts, member, named-below, rightly-named, wrongly-names, unnamed, lowest, or-else, tree-fault}
 use Rattle.refusals.specs.Refusals.{Answer}
-use Rattle.loading.specs.Text.{place, single, account, when, node-of-none, node-of-one, range-of, parts-of, node-of-two, node-of}
-use Rattle.loading.specs.Text.{with-account, line-of, row-line, rows, Forms, good, fault, line-front, forms}
+use Rattle.fields.specs.Text.{place, single, account, when, node-of-none, node-of-one, range-of, parts-of, node-of-two, node-of}
+use Rattle.fields.specs.Text.{with-account, line-of, row-line, rows, Forms, good, fault, line-front, forms}
 use Rattle.loading.specs.Load.{table, tree-answer, forms-answer, load-answer}
 use Rattle.theorems.specs.Paper03Pattern.{Line as Text-line, lines, fields, place-value, is-place, is-letter as is-letter-field, account-value}
 use Rattle.theorems.specs.Paper03Pattern.{kind-value, field, line-good, node-in, nodes-in, Refusal, refusal, forms-from, load-refusal}

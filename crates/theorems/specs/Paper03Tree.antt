@@ -17,7 +17,7 @@ use Rattle.syntax.specs.declared.Pattern.{Pattern}
 use Rattle.syntax.specs.Table.{blank, line-at, node-at, parts, member, named-below, rightly-named, wrongly-names, unnamed, lowest, or-else, tree-fault}
 use Rattle.syntax.specs.Lowest.{none-lowest}
 use Rattle.semantics.specs.Basics.{or-left, or-right, or-cases}
-use Rattle.loading.specs.Text.{rows, good, forms}
+use Rattle.fields.specs.Text.{rows, good, forms}
 use Rattle.loading.specs.Load.{table, tree-answer, tree-table, forms-answer, forms-table, load-answer, load-table}
 use Rattle.loading.specs.LoadLaws.{loaded-obeys}
 use Rattle.theorems.specs.Paper03Pattern.{no-node, node, Line as Text-line, lines, nodes-in, forms-from, Refusal, refusal, load-refusal, loaded}

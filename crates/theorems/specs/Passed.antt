@@ -19,7 +19,7 @@ use Rattle.semantics.specs.Accounts.{totals}
 use Rattle.semantics.specs.Visits.{Visit}
 use Rattle.walks.specs.Whole.{whole-code, letters-of}
 use Rattle.codes.specs.Flatten.{flatten-answer, flatten-tape}
-use Rattle.codes.specs.Totals.{entries-of, no-litres, totals-answer, totals-litres}
+use Rattle.totals.specs.Totals.{entries-of, no-litres, totals-answer, totals-litres}
 use Rattle.codes.specs.Spells.{same, code-of-tape}
 use Rattle.spans.specs.Spans.{span-visit, span-answer, span-shown}
 

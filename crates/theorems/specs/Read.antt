@@ -18,7 +18,7 @@ use Rattle.syntax.specs.Trees.{root}
 use Rattle.bits.specs.Bits.{bit, test-bit, cell-count, pack, in-front}
 use Rattle.semantics.specs.Sweeps.{readable, greedy}
 use Rattle.semantics.specs.GreedyLaws.{readable-iff}
-use Rattle.first_sweep.specs.StateSets.{words}
+use Rattle.steps.specs.StateSets.{words}
 use Rattle.first_sweep.specs.Meaning.{words-at}
 use Rattle.parser.specs.declared.Parsed.the-variants.{Bits, Refused}
 use Rattle.parser.specs.Parse.{parsed-answer, Parses}

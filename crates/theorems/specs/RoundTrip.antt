@@ -25,14 +25,14 @@ use Rattle.semantics.specs.Decode.{value-of}
 use Rattle.semantics.specs.Sweeps.{greedy}
 use Rattle.semantics.specs.CodeLaws.{value-of-code}
 use Rattle.semantics.specs.GreedyLaws.{canonical-greedy}
-use Rattle.first_sweep.specs.StateSets.{words}
+use Rattle.steps.specs.StateSets.{words}
 use Rattle.codes.specs.declared.Flattened.{Flattened}
 use Rattle.codes.specs.declared.Flattened.the-variants.{Letters, Refused as Not-flattened}
-use Rattle.codes.specs.declared.Totalled.{Totalled}
-use Rattle.codes.specs.declared.TotalsOutcome.{TotalsOutcome}
-use Rattle.codes.specs.declared.TotalsOutcome.the-variants.{Added, Refused as Not-added}
+use Rattle.totals.specs.declared.Totalled.{Totalled}
+use Rattle.totals.specs.declared.TotalsOutcome.{TotalsOutcome}
+use Rattle.totals.specs.declared.TotalsOutcome.the-variants.{Added, Refused as Not-added}
 use Rattle.codes.specs.Flatten.{flattened-answer, Flattens}
-use Rattle.codes.specs.Totals.{entries-by, entries-of, totals-outcome, Totals}
+use Rattle.totals.specs.Totals.{entries-by, entries-of, totals-outcome, Totals}
 use Rattle.spans.specs.declared.Spanned.{Spanned}
 use Rattle.spans.specs.Spans.{visit-by, span-visit, span-answer, start-of, size-of, span-shown, span-outcome, Spans}
 use Rattle.parser.specs.declared.Parsed.the-variants.{Bits as Parsed-bits}

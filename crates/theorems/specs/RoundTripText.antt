@@ -13,12 +13,13 @@ use Rattle.semantics.specs.Value.{Value}
 use Rattle.semantics.specs.Order.{Greedy}
 use Rattle.semantics.specs.Accounts.{accounts, totals}
 use Rattle.semantics.specs.Visits.{visit}
-use Rattle.first_sweep.specs.StateSets.{words}
+use Rattle.steps.specs.StateSets.{words}
 use Rattle.parser.specs.declared.Parsed.{Parsed}
 use Rattle.parser.specs.declared.Parsed.the-variants.{Bits, Refused}
 use Rattle.parser.specs.Parse.{parsed-answer, Parses}
 use Rattle.canonical.specs.Canonicalize.{canonicalized-answer}
-use Rattle.wumbyra.specs.Packed.{unpacked, Parses-text, Flattens-text, Canonicalizes-text, shown-answer, span-text, total-text, in-cells, Totals-text}
+use Rattle.packing.specs.Packing.{unpacked, in-cells}
+use Rattle.wumbyra.specs.Packed.{Parses-text, Flattens-text, Canonicalizes-text, shown-answer, span-text, total-text, Totals-text}
 use Rattle.wumbyra.specs.Unique.{unpacked-same}
 use Rattle.theorems.specs.Passed.{visit-answer}
 use Rattle.theorems.specs.RoundTrip.{written, flattens-back, parse-canonicalize, totals-greedy, span-greedy}

@@ -11,7 +11,8 @@ use Rattle.loading.specs.Load.{load-answer, load-table}
 use Rattle.bits.specs.Bits.{cell-count}
 use Rattle.semantics.specs.Code.{Canonical}
 use Rattle.canonical.specs.Demand.{Code, spells, Equal, Earliest}
-use Rattle.wumbyra.specs.Packed.{unpacked, Canonicalizes-text}
+use Rattle.packing.specs.Packing.{unpacked}
+use Rattle.wumbyra.specs.Packed.{Canonicalizes-text}
 
 -- a code of the pattern that the text writes, of at most 3,600 letters: bytes and a bit count
 abbrev pub Code-of : (text : List ℕ) → Type 0

@@ -10,7 +10,7 @@ use Rattle.loading.specs.LoadLaws.{loaded-obeys}
 use Rattle.bits.specs.Bits.{cell-count}
 use Rattle.canonical.specs.Demand.{spells, Run, Settled, Earliest, Settles-well as Settles-run, Third-demand as Of-tables}
 use Rattle.canonical.specs.Demanded.{spells-same, third-demand}
-use Rattle.wumbyra.specs.Packed.{unpacked}
+use Rattle.packing.specs.Packing.{unpacked}
 use Rattle.wumbyra.specs.Unique.{unpacked-same}
 use Rattle.theorems.specs.ThirdDemand.{Code-of, Call, count-of, bytes-of, Settles-well, Third-demand}
 

@@ -5,21 +5,21 @@
 // not fit is left out.
 ghost use Rattle.canonical.specs.Canonicalize.{canonicalized-answer};
 ghost use Rattle.codes.specs.Flatten.{flattened-answer};
-ghost use Rattle.codes.specs.Totals.{totals-outcome};
+ghost use Rattle.totals.specs.Totals.{totals-outcome};
 ghost use Rattle.text.specs.Text.{Puts};
 ghost use Rattle.vector_codes.specs.Answers.{answer-text};
 use canonical::Canonicalized;
 use canonical::canonicalize;
 use codes::Flattened;
-use codes::Totalled;
-use codes::TotalsOutcome;
 use codes::flatten;
-use codes::totals;
 use syntax::Pattern;
 use text::least;
 use text::put_pair;
 use text::put_parted;
 use text::put_refusal;
+use totals::Totalled;
+use totals::TotalsOutcome;
+use totals::totals;
 use vector_text::ALL_BYTES;
 use vector_text::ALL_WORDS;
 use vector_text::BYTE_BEFORE;

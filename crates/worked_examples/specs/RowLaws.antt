@@ -18,7 +18,7 @@ use Rattle.syntax.specs.Trees.{root, tree-of}
 use Rattle.syntax.specs.TreeLaws.{obeys-iff}
 use Rattle.bits.specs.Bits.{bit, bits-of, test-bit, cell-count, pack, in-front, held, exact, handed-good}
 use Rattle.bits.specs.Packing.{length-pack}
-use Rattle.loading.specs.Text.{
+use Rattle.fields.specs.Text.{
   rows as text-rows,
   digit,
   one-digit,
@@ -44,17 +44,17 @@ use Rattle.semantics.specs.Decode.{value-of, is-code, spelled}
 use Rattle.semantics.specs.Sweeps.{readable, greedy}
 use Rattle.semantics.specs.GreedyLaws.{greedy-canonical}
 use Rattle.semantics.specs.VisitLaws.{All}
-use Rattle.first_sweep.specs.StateSets.{words}
-use Rattle.first_sweep.specs.StateLaws.{state-bit}
+use Rattle.steps.specs.StateSets.{words}
+use Rattle.steps.specs.StateLaws.{state-bit}
 use Rattle.walks.specs.Whole.{whole-code, letters-of}
 use Rattle.parser.specs.declared.Parsed.{Parsed}
 use Rattle.parser.specs.declared.Parsed.the-variants.{Refused}
-use Rattle.parser.specs.Parse.{parsed-answer, Parses}
+use Rattle.parser.specs.Parse.{parsed-answer, Reads-greedily, Parses}
 use Rattle.parser.specs.ParseLaws.{Tested, filled-at, root-index, parse-unreadable}
 use Rattle.parser.specs.Rejected.{reads-greedy}
 use Rattle.parser.specs.Unique.{parses-one}
 use Rattle.canonical.specs.declared.Canonicalized.{Canonicalized}
-use Rattle.canonical.specs.Canonicalize.{canonicalized-answer, Read-by, Canonicalizes}
+use Rattle.canonical.specs.Canonicalize.{canonicalized-answer, Canonicalizes}
 use Rattle.canonical.specs.CanonicalLaws.{settles}
 use Rattle.canonical.specs.RoundTrip.{letters-readable}
 use Rattle.worked_examples.specs.Texts.{P1, P2, P3, P4, P5, Listing}
@@ -160,10 +160,12 @@ module _ (text tape : List ℕ) (a : Answer) (bytes : List ℕ) (loads : load-an
       let whole = and-fst (whole-code u code count) (leb (length tape) letter-limit) tested in
       let few = leb-true (length tape) letter-limit (and-snd (whole-code u code count) (leb (length tape) letter-limit) tested) in
       let s = settles (load-table text) code count ts us ws vs xs ys r k (good text loads) whole (rw same few) (rw same cells) (rw same room) in
-      let w = subst (λ ls. (us ≡ in-front ls ts) × Read-by false (load-table text) ls ws vs xs ys (canonicalized-answer r)) same s in
+      let w =
+      subst (λ ls. (us ≡ in-front ls ts) × (vs ≡ in-front (words (load-table text) ls) ws) × Reads-greedily u ls xs ys (canonicalized-answer r))
+      same s in
       let reads : readable u tape ≡ true = rw same at (letters-readable (load-table text) code count whole) in
       let fits : cell-count 8 (length (greedy u tape)) ≤ length xs = rw (← length-pack 8 (greedy u tape), eb) fit in
-      let m = w .1 .1 .fits (greedy u tape) (greedy-canonical u tape reads) fits in
+      let m = w .2 .fits (greedy u tape) (greedy-canonical u tape reads) fits in
       (m .0 ∙ ea, w .0, m .1 ∙ ap (λ c. in-front c xs) eb)
 
   says : (q : Asked) → So q

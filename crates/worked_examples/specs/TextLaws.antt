@@ -6,8 +6,8 @@ use Rattle.syntax.specs.Letter.{is-letter}
 use Rattle.syntax.specs.Table.{wrongly-names, unnamed, tree-fault}
 use Rattle.syntax.specs.Tree.{Label, Tree, nothing, letter, range, seq, alt, star}
 use Rattle.syntax.specs.Trees.{root, tree-of}
-use Rattle.loading.specs.Text.{rows, digit, one-digit, two-digits, place, single, account}
-use Rattle.loading.specs.Text.{node-of-none, node-of-one, range-of, parts-of, node-of-two, node-of, line-of, row-line, forms}
+use Rattle.fields.specs.Text.{rows, digit, one-digit, two-digits, place, single, account}
+use Rattle.fields.specs.Text.{node-of-none, node-of-one, range-of, parts-of, node-of-two, node-of, line-of, row-line, forms}
 use Rattle.loading.specs.Load.{table, load-table}
 use Rattle.semantics.specs.Examples as short
 use Rattle.worked_examples.specs.Texts.{P1, P2, P3, P4, P5}

@@ -2,15 +2,15 @@
 use mathlib.Core.Path.{_≡_}
 use mathlib.Core.Option.{Option, none, some}
 use mathlib.Core.List.{List}
-use Prim.Native.Nat.{ℕ, _+_, _*_, _/_, _%_}
-use lib.ListN.{length, take, getD}
+use Prim.Native.Nat.{ℕ, _+_, _*_}
+use lib.ListN.{length, getD}
 use Rattle.syntax.specs.declared.Pattern.{Pattern}
 use Rattle.refusals.specs.Refusals.{Answer, answer}
 use Rattle.loading.specs.Load.{load-table}
-use Rattle.bits.specs.Bits.{in-front}
+use Rattle.packing.specs.Packing.{unpacked, in-cells}
 use Rattle.semantics.specs.Visits.{Visit}
 use Rattle.codes.specs.Flatten.{flatten-answer, flatten-tape}
-use Rattle.codes.specs.Totals.{totals-answer, totals-litres}
+use Rattle.totals.specs.Totals.{totals-answer, totals-litres}
 use Rattle.spans.specs.Spans.{span-answer, span-shown}
 use Rattle.parser.specs.declared.Parsed.{Parsed}
 use Rattle.parser.specs.Parse.{parsed-answer, Parses}
@@ -20,10 +20,6 @@ use Rattle.canonical.specs.Canonicalize.{canonicalized-answer, Canonicalizes}
 -- the version 1.0.0 as one number: major × 10000 + minor × 100 + patch
 abbrev pub version-number : ℕ
 version-number = 1 * 10000 + 0 * 100 + 0
-
--- the number is the upper 32 bits, the value the lower 32
-abbrev pub unpacked : ℕ → Answer
-unpacked r = answer (r / 4294967296) (r % 4294967296)
 
 -- THE PROMISE of reading a tape from C: answer and buffers are those that the service promises on the table of the text
 pub record Parses-text (text tape words words-now code code-now : List ℕ) (r : ℕ) : Type 0 where
@@ -53,10 +49,6 @@ span-text text tape code count l k = shown-answer (span-answer (load-table text)
 -- the litres of one account; 0 for an account above 9, and 0 if refused, since the totals are then
 unfoldable pub total-text : (text code : List ℕ) → (count account : ℕ) → Answer
 total-text text code count a = answer (totals-answer (load-table text) code count .number) (getD (totals-litres (load-table text) code count) a 0)
-
--- as many of the totals as there are cells, from account 0 on, in front of what the cells behind them held
-abbrev pub in-cells : (totals cells : List ℕ) → List ℕ
-in-cells totals cells = in-front (take (length cells) totals) cells
 
 -- THE PROMISE of all totals from C: the answer of totalling, whose value is 0, and its totals in the lent cells; these are 0 if it is refused
 pub record Totals-text (text code : List ℕ) (count : ℕ) (cells cells-now : List ℕ) (r : ℕ) : Type 0 where

@@ -16,13 +16,12 @@ use Rattle.refusals.specs.Refusals.{answer, refused, number}
 use Rattle.refusals.specs.RefusalLaws.{number-positive}
 use Rattle.refusals.specs.Checks.{Clear}
 use Rattle.refusals.specs.CheckLaws.{zero-clear}
-use Rattle.bits.specs.Fields.{splits-back, joins-back}
 use Rattle.loading.specs.Load.{load-table, load-answer, outcome-answer, Loads}
 use Rattle.semantics.specs.Visits.{Visit}
 use Rattle.codes.specs.declared.Flattened.{Flattened}
-use Rattle.codes.specs.declared.Totalled.{Totalled}
+use Rattle.totals.specs.declared.Totalled.{Totalled}
 use Rattle.codes.specs.Flatten.{flattened-answer, Flattens}
-use Rattle.codes.specs.Totals.{totals-outcome, Totals}
+use Rattle.totals.specs.Totals.{totals-outcome, Totals}
 use Rattle.spans.specs.declared.Spanned.{Spanned}
 use Rattle.spans.specs.declared.SpanOutcome.the-variants.{Shown, Refused}
 use Rattle.spans.specs.Spans.{span-visit, span-order, span-answer, start-of, size-of, span-shown, span-outcome, Spans}
@@ -32,15 +31,8 @@ use Rattle.parser.specs.declared.Parsed.{Parsed}
 use Rattle.parser.specs.Parse.{parsed-answer, Parses}
 use Rattle.canonical.specs.declared.Canonicalized.{Canonicalized}
 use Rattle.canonical.specs.Canonicalize.{canonicalized-answer, Canonicalizes}
-use Rattle.wumbyra.specs.Packed.{unpacked, Parses-text, Flattens-text, Canonicalizes-text, shown-answer, span-text, total-text, in-cells, Totals-text}
-
--- unpacking takes back what was packed
-pub unpack : (n v : ℕ) → v < 4294967296 → unpacked (n * 4294967296 + v) ≡ answer n v
-unpack n v h = let (a, b) = splits-back 32 n v h in ap₂ (λ x y. answer x y) a b
-
--- an answer is nothing but its two parts: number << 32 | value
-pub repack : (r : ℕ) → r ≡ unpacked r .number * 4294967296 + unpacked r .value
-repack r = joins-back 32 r
+use Rattle.packing.specs.Packing.{unpacked, in-cells}
+use Rattle.wumbyra.specs.Packed.{Parses-text, Flattens-text, Canonicalizes-text, shown-answer, span-text, total-text, Totals-text}
 
 -- ── a service's promise on the loaded table ──
 module _ (text : List ℕ) (l : Loaded) (h : Loads text l) where

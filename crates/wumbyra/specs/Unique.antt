@@ -8,7 +8,8 @@ use Rattle.parser.specs.Parse.{parsed-answer}
 use Rattle.parser.specs.Unique.{parses-one}
 use Rattle.canonical.specs.Canonicalize.{canonicalized-answer}
 use Rattle.canonical.specs.Unique.{canonicalizes-one}
-use Rattle.wumbyra.specs.Packed.{unpacked, Parses-text, Flattens-text, Totals-text, Canonicalizes-text, span-text, total-text}
+use Rattle.packing.specs.Packing.{unpacked}
+use Rattle.wumbyra.specs.Packed.{Parses-text, Flattens-text, Totals-text, Canonicalizes-text, span-text, total-text}
 
 pub unpacked-same : (r s : ℕ) → unpacked r ≡ unpacked s → r ≡ s
 unpacked-same r s e = same-parts 32 r s (ap (λ a. a .number) e) (ap (λ a. a .value) e)

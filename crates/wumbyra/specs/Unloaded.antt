@@ -8,14 +8,15 @@ use native.Mathlib.Omega.{arith}
 use lib.ListN.{getD, replicate}
 use Rattle.syntax.specs.declared.Pattern.{Pattern}
 use Rattle.refusals.specs.Refusals.{answer}
-use Rattle.loading.specs.Text.{rows, Forms, good, fault, forms}
+use Rattle.fields.specs.Text.{rows, Forms, good, fault, forms}
 use Rattle.syntax.specs.Table.{no-lines, obeys, tree-fault}
 use Rattle.loading.specs.Load.{table, tree-answer, forms-answer, tree-table, forms-table, load-answer, load-table}
 use Rattle.codes.specs.Flatten.{flatten-answer}
-use Rattle.codes.specs.Totals.{no-litres, totals-answer, totals-litres}
+use Rattle.totals.specs.Totals.{no-litres, totals-answer, totals-litres}
 use Rattle.spans.specs.Spans.{span-answer, span-shown}
 use Rattle.parser.specs.Parse.{early}
-use Rattle.wumbyra.specs.Packed.{unpacked, span-text, total-text, in-cells, Totals-text}
+use Rattle.packing.specs.Packing.{unpacked, in-cells}
+use Rattle.wumbyra.specs.Packed.{span-text, total-text, Totals-text}
 
 by-tree : (p : Pattern) (o : Option ℕ) → 1 ≤ tree-answer p o .number → tree-table p o ≡ no-lines
 by-tree p none h = absurd (omega arith)

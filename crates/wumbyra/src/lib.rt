@@ -3,31 +3,27 @@
 // Contracts unpack an answer, as a caller does: quotient and remainder need no condition. Load, flatten, span and totals are equations; parse and
 // canonicalize hand on the promise of their service, so that nothing is said twice.
 ghost use mathlib.Core.Path.{_≡_};
-ghost use Prim.Native.Nat.{min};
-ghost use lib.ListN.{getD};
-ghost use Rattle.refusals.specs.Refusals.{answer, refused};
-ghost use Rattle.loading.specs.Load.{outcome-answer, load-answer};
-ghost use Rattle.codes.specs.Flatten.{flattened-answer};
-ghost use Rattle.codes.specs.Totals.{totals-outcome};
-ghost use Rattle.parser.specs.Parse.{parsed-answer};
-ghost use Rattle.canonical.specs.Canonicalize.{canonicalized-answer};
-ghost use Rattle.wumbyra.specs.Packed.{version-number, unpacked, Parses-text, Flattens-text, Canonicalizes-text};
-ghost use Rattle.wumbyra.specs.Packed.{span-text, total-text, in-cells, Totals-text};
-use canonical::Canonicalized;
+ghost use Rattle.loading.specs.Load.{load-answer};
+ghost use Rattle.packing.specs.Packing.{unpacked};
+ghost use Rattle.wumbyra.specs.Packed.{version-number, Parses-text, Flattens-text, Canonicalizes-text};
+ghost use Rattle.wumbyra.specs.Packed.{span-text, total-text, Totals-text};
 use canonical::canonicalize;
-use codes::Flattened;
-use codes::TotalsOutcome;
 use codes::flatten;
-use codes::totals;
-use loading::Outcome;
 use loading::load;
-use parser::Parsed;
+use packing::litres_of;
+use packing::of_canonicalized;
+use packing::of_flattened;
+use packing::of_outcome;
+use packing::of_parsed;
+use packing::of_refusal;
+use packing::of_totals;
+use packing::packed;
+use packing::put_totals;
+use packing::totals_number;
 use parser::parse;
-use refusals::Refusal;
-use refusals::number_of;
-use refusals::value_of;
 use spans::SpanOutcome;
 use spans::span;
+use totals::totals;
 
 // The version of the interface. A change that a caller may notice raises one of these numbers, and the header's with it.
 const VERSION_MAJOR: u32 = 1;
@@ -43,101 +39,6 @@ pub extern "C" fn wumbyra_version() -> u32
     ensures { λ r. ⌜ r ≡ version-number ⌝ }
 {
     VERSION_NUMBER
-}
-
-fn packed(number: u32, value: u32) -> u64
-    ensures { λ r. ⌜ unpacked r ≡ answer number value ⌝ }
-{
-    number as u64 * 4294967296 + value as u64
-}
-
-fn of_refusal(why: Refusal) -> u64
-    ensures { λ r. ⌜ unpacked r ≡ refused why ⌝ }
-{
-    packed(number_of(why), value_of(why))
-}
-
-fn of_outcome(outcome: Outcome) -> u64
-    ensures { λ r. ⌜ unpacked r ≡ outcome-answer outcome ⌝ }
-{
-    match outcome {
-        Outcome::Lines(n) => packed(0, n),
-        Outcome::Refused(why) => of_refusal(why),
-    }
-}
-
-fn of_parsed(parsed: Parsed) -> u64
-    ensures { λ r. ⌜ unpacked r ≡ parsed-answer parsed ⌝ }
-{
-    match parsed {
-        Parsed::Bits(n) => packed(0, n),
-        Parsed::Refused(why) => of_refusal(why),
-    }
-}
-
-fn of_flattened(flattened: Flattened) -> u64
-    ensures { λ r. ⌜ unpacked r ≡ flattened-answer flattened ⌝ }
-{
-    match flattened {
-        Flattened::Letters(n) => packed(0, n),
-        Flattened::Refused(why) => of_refusal(why),
-    }
-}
-
-fn of_canonicalized(canonicalized: Canonicalized) -> u64
-    ensures { λ r. ⌜ unpacked r ≡ canonicalized-answer canonicalized ⌝ }
-{
-    match canonicalized {
-        Canonicalized::Bits(n) => packed(0, n),
-        Canonicalized::Refused(why) => of_refusal(why),
-    }
-}
-
-fn of_totals(outcome: TotalsOutcome) -> u64
-    ensures { λ r. ⌜ unpacked r ≡ totals-outcome outcome ⌝ }
-{
-    match outcome {
-        TotalsOutcome::Added => packed(0, 0),
-        TotalsOutcome::Refused(why) => of_refusal(why),
-    }
-}
-
-fn totals_number(outcome: TotalsOutcome) -> u32
-    ensures { λ r. ⌜ r ≡ totals-outcome outcome .number ⌝ }
-{
-    match outcome {
-        TotalsOutcome::Added => 0,
-        TotalsOutcome::Refused(why) => number_of(why),
-    }
-}
-
-// The litres of an account, 0 for one that there is not.
-fn litres_of(litres: &[u32], account: u32) -> u32
-    ensures { λ r. ⌜ r ≡ getD (now (litres .entry)) account 0 ⌝ }
-{
-    let i = account as usize;
-    if litres.len() <= i {
-        return 0;
-    }
-    litres[i]
-}
-
-fn least(a: usize, b: usize) -> usize
-    ensures { λ r. ⌜ r ≡ min a b ⌝ }
-{
-    if a < b { a } else { b }
-}
-
-// As many totals as there are cells, from account 0 on. The cells behind them are left as they are.
-fn put_totals(totals: &[u32], cells: &mut [u32])
-    ensures { λ _. ⌜ now (cells .exit) ≡ in-cells (now (totals .entry)) (now (cells .entry)) ⌝ }
-{
-    let n = least(totals.len(), cells.len());
-    let mut i = 0;
-    while i < n {
-        cells[i] = totals[i];
-        i += 1;
-    }
 }
 
 #[no_mangle]

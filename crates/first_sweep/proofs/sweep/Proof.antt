@@ -3,7 +3,7 @@ use native.Mathlib.Omega.{arith}
 use lib.ListN.{length, length-set}
 use mathlib.Core.Path.{_≡_, refl, _∙_}
 use Rattle.first_sweep.specs.Sweep.{Filling, filling-start, filling-down, filling-end}
-use Rattle.first_sweep.specs.Memo.{Remembers, remembers-start}
+use Rattle.steps.specs.Memo.{Remembers, remembers-start}
 use borrow.Author.Needs.{needs}
 use Rattle.first_sweep.proofs.sweep.Statement.{statement}
 use Rattle.first_sweep.proofs.sweep.Tie as tie

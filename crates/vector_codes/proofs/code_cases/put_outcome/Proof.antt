@@ -1,6 +1,6 @@
 -- `vector_codes::code_cases::put_outcome` meets its contract: one law for both ways.
 use mathlib.Core.Path.{sym, ap}
-use Rattle.codes.specs.Totals.{totals-outcome}
+use Rattle.totals.specs.Totals.{totals-outcome}
 use Rattle.vector_codes.specs.Answers.{puts-answer}
 use borrow.Author.Needs.{needs}
 use Rattle.vector_codes.proofs.code_cases.put_outcome.Statement.{statement}

@@ -1,0 +1,35 @@
+-- `packing::of_flattened` meets its contract.
+use mathlib.Core.Path.{sym, ap, _∙_}
+use Rattle.codes.specs.Flatten.{flattened-answer}
+use borrow.Author.Needs.{needs}
+use Rattle.packing.proofs.of_flattened.Statement.{statement}
+use Rattle.packing.proofs.of_flattened.Tie as tie
+
+enum-known-flattened : tie.Need-enum-known-flattened
+enum-known-flattened c = search needs
+
+packed-requires : tie.Need-packed-requires
+packed-requires c κs = search needs
+
+enum-known-flattened-2 : tie.Need-enum-known-flattened-2
+enum-known-flattened-2 c = search needs
+
+of-refusal-requires : tie.Need-of-refusal-requires
+of-refusal-requires c κs = search needs
+
+returns : tie.Need-returns
+returns c = c .packed .ensures ∙ sym (ap flattened-answer (c .before .before .flattened .given .1))
+
+returns-2 : tie.Need-returns-2
+returns-2 c = c .of-refusal .ensures ∙ sym (ap flattened-answer (c .before .before .flattened2 .given .1))
+
+pub of-flattened-spec : {M : Type 1} → statement M
+of-flattened-spec =
+    tie.close
+    (tie.spec
+    enum-known-flattened
+    packed-requires
+    enum-known-flattened-2
+    of-refusal-requires
+    returns
+    returns-2)

@@ -1,0 +1,114 @@
+// Answers for callers from C, each one number: the cause's number (0: none) in its upper 32 bits, the value beside it in the lower 32.
+ghost use mathlib.Core.Path.{_≡_};
+ghost use Prim.Native.Nat.{min};
+ghost use lib.ListN.{getD};
+ghost use Rattle.refusals.specs.Refusals.{answer, refused};
+ghost use Rattle.loading.specs.Load.{outcome-answer};
+ghost use Rattle.codes.specs.Flatten.{flattened-answer};
+ghost use Rattle.totals.specs.Totals.{totals-outcome};
+ghost use Rattle.parser.specs.Parse.{parsed-answer};
+ghost use Rattle.canonical.specs.Canonicalize.{canonicalized-answer};
+ghost use Rattle.packing.specs.Packing.{unpacked, in-cells};
+use canonical::Canonicalized;
+use codes::Flattened;
+use loading::Outcome;
+use parser::Parsed;
+use refusals::Refusal;
+use refusals::number_of;
+use refusals::value_of;
+use totals::TotalsOutcome;
+
+pub fn packed(number: u32, value: u32) -> u64
+    ensures { λ r. ⌜ unpacked r ≡ answer number value ⌝ }
+{
+    number as u64 * 4294967296 + value as u64
+}
+
+pub fn of_refusal(why: Refusal) -> u64
+    ensures { λ r. ⌜ unpacked r ≡ refused why ⌝ }
+{
+    packed(number_of(why), value_of(why))
+}
+
+pub fn of_outcome(outcome: Outcome) -> u64
+    ensures { λ r. ⌜ unpacked r ≡ outcome-answer outcome ⌝ }
+{
+    match outcome {
+        Outcome::Lines(n) => packed(0, n),
+        Outcome::Refused(why) => of_refusal(why),
+    }
+}
+
+pub fn of_parsed(parsed: Parsed) -> u64
+    ensures { λ r. ⌜ unpacked r ≡ parsed-answer parsed ⌝ }
+{
+    match parsed {
+        Parsed::Bits(n) => packed(0, n),
+        Parsed::Refused(why) => of_refusal(why),
+    }
+}
+
+pub fn of_flattened(flattened: Flattened) -> u64
+    ensures { λ r. ⌜ unpacked r ≡ flattened-answer flattened ⌝ }
+{
+    match flattened {
+        Flattened::Letters(n) => packed(0, n),
+        Flattened::Refused(why) => of_refusal(why),
+    }
+}
+
+pub fn of_canonicalized(canonicalized: Canonicalized) -> u64
+    ensures { λ r. ⌜ unpacked r ≡ canonicalized-answer canonicalized ⌝ }
+{
+    match canonicalized {
+        Canonicalized::Bits(n) => packed(0, n),
+        Canonicalized::Refused(why) => of_refusal(why),
+    }
+}
+
+pub fn of_totals(outcome: TotalsOutcome) -> u64
+    ensures { λ r. ⌜ unpacked r ≡ totals-outcome outcome ⌝ }
+{
+    match outcome {
+        TotalsOutcome::Added => packed(0, 0),
+        TotalsOutcome::Refused(why) => of_refusal(why),
+    }
+}
+
+pub fn totals_number(outcome: TotalsOutcome) -> u32
+    ensures { λ r. ⌜ r ≡ totals-outcome outcome .number ⌝ }
+{
+    match outcome {
+        TotalsOutcome::Added => 0,
+        TotalsOutcome::Refused(why) => number_of(why),
+    }
+}
+
+// The litres of an account, 0 for one that there is not.
+pub fn litres_of(litres: &[u32], account: u32) -> u32
+    ensures { λ r. ⌜ r ≡ getD (now (litres .entry)) account 0 ⌝ }
+{
+    let i = account as usize;
+    if litres.len() <= i {
+        return 0;
+    }
+    litres[i]
+}
+
+fn least(a: usize, b: usize) -> usize
+    ensures { λ r. ⌜ r ≡ min a b ⌝ }
+{
+    if a < b { a } else { b }
+}
+
+// As many totals as there are cells, from account 0 on. The cells behind them are left as they are.
+pub fn put_totals(totals: &[u32], cells: &mut [u32])
+    ensures { λ _. ⌜ now (cells .exit) ≡ in-cells (now (totals .entry)) (now (cells .entry)) ⌝ }
+{
+    let n = least(totals.len(), cells.len());
+    let mut i = 0;
+    while i < n {
+        cells[i] = totals[i];
+        i += 1;
+    }
+}

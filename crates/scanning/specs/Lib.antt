@@ -1,0 +1,4 @@
+pub mod Scans
+pub mod Cuts
+pub mod Scanning
+pub mod Parsing

@@ -1,0 +1,120 @@
+-- Laws of parsing: what a kind and its fields say, one law for each way of the code.
+use mathlib.Core.Path.{_≡_, refl, sym, ap}
+use mathlib.Core.Bool.{Bool, true, false, _&&_, cond}
+use mathlib.Core.List.{List}
+use mathlib.Core.Option.{Option, none, some}
+use Prim.Native.Nat.{ℕ, _≤_, _<_}
+use native.Mathlib.Omega.{arith}
+use borrow.Author.Tests.{eq-eqb, ne-eqb, lt-ltb, le-ltb, le-leb, lt-leb}
+use lib.Dec.{eqb, ltb}
+use Rattle.syntax.specs.declared.Leaf.the-variants.{Letter, Range}
+use Rattle.syntax.specs.declared.Node.{Node}
+use Rattle.syntax.specs.declared.Node.the-variants.{Leaf as Leaf-node, Sequence, Alternative, Star}
+use Rattle.scanning.specs.declared.Parsed.the-variants.{Node as Parsed-node, Fault as No-node}
+use Rattle.syntax.specs.Letter.{is-letter}
+use Rattle.syntax.specs.LetterLaws.{letter-small}
+use Rattle.fields.specs.Text.{place, single, when, node-of-one, range-of, parts-of, node-of-two}
+use Rattle.scanning.specs.Scans.{parsed}
+
+pub big-no-letter : (c : ℕ) → 255 < c → is-letter c ≡ false
+big-no-letter c h = go (is-letter c) refl
+  where
+    go : (b : Bool) → is-letter c ≡ b → b ≡ false
+    go true e = absurd (omega (arith, letter-small c e))
+    go false e = refl
+
+module _ (k : ℕ) (x : List ℕ) where
+  module _ (c : ℕ) (h : k ≡ 76) (e : c ≡ single x) where
+    pub one-letter : is-letter c ≡ true → Parsed-node (Leaf-node (Letter c)) ≡ parsed (node-of-one k x)
+    unfolding node-of-one
+    one-letter l = rw (eq-eqb k 76 h, ← e, l)
+
+    pub one-no-letter : is-letter c ≡ false → No-node ≡ parsed (node-of-one k x)
+    unfolding node-of-one
+    one-no-letter l = rw (eq-eqb k 76 h, ← e, l)
+
+  module _ (p : ℕ) (n : k ≡ 76 → ⊥) (h : k ≡ 75) (e : p ≡ place x) where
+    pub one-star : p < 64 → Parsed-node (Star p) ≡ parsed (node-of-one k x)
+    unfolding node-of-one
+    one-star l = rw (ne-eqb k 76 n, eq-eqb k 75 h, ← e, lt-ltb p 64 l)
+
+    pub one-no-star : 64 ≤ p → No-node ≡ parsed (node-of-one k x)
+    unfolding node-of-one
+    one-no-star l = rw (ne-eqb k 76 n, eq-eqb k 75 h, ← e, le-ltb p 64 l)
+
+  pub one-other : (k ≡ 76 → ⊥) → (k ≡ 75 → ⊥) → No-node ≡ parsed (node-of-one k x)
+  unfolding node-of-one
+  one-other n m = rw (ne-eqb k 76 n, ne-eqb k 75 m)
+
+module _ (a b : ℕ) where
+  pub range-no-low : is-letter a ≡ false → No-node ≡ parsed (range-of a b)
+  unfolding range-of
+  range-no-low h = rw h
+
+  module _ (ha : is-letter a ≡ true) where
+    pub range-no-high : is-letter b ≡ false → No-node ≡ parsed (range-of a b)
+    unfolding range-of
+    range-no-high h = rw (ha, h)
+
+    module _ (hb : is-letter b ≡ true) where
+      pub range-good : a ≤ b → Parsed-node (Leaf-node (Range a b)) ≡ parsed (range-of a b)
+      unfolding range-of
+      range-good l = rw (ha, hb, le-leb a b l)
+
+      pub range-reversed : b < a → No-node ≡ parsed (range-of a b)
+      unfolding range-of
+      range-reversed l = rw (ha, hb, lt-leb a b l)
+
+neither : (b c : Bool) → _≡_ {A = Option Node} (cond b none (cond c none none)) none
+neither true c = refl
+neither false true = refl
+neither false false = refl
+
+parts-no-second : (f : ℕ → ℕ → Node) (p q : ℕ) → 64 ≤ q → parts-of f p q ≡ none
+unfolding parts-of
+parts-no-second f p q l = rw (le-ltb q 64 l) (go (ltb p 64))
+  where
+    go : (b : Bool) → when (b && false) (f p q) ≡ none
+    go true = refl
+    go false = refl
+
+parts-no-first : (f : ℕ → ℕ → Node) (p q : ℕ) → 64 ≤ p → parts-of f p q ≡ none
+unfolding parts-of
+parts-no-first f p q l = rw (le-ltb p 64 l)
+
+parts-good : (f : ℕ → ℕ → Node) (p q : ℕ) → p < 64 → q < 64 → parts-of f p q ≡ some (f p q)
+unfolding parts-of
+parts-good f p q l m = rw (lt-ltb p 64 l, lt-ltb q 64 m)
+
+module _ (k : ℕ) (x y : List ℕ) where
+  pub two-range : k ≡ 82 → parsed (range-of (single x) (single y)) ≡ parsed (node-of-two k x y)
+  unfolding node-of-two
+  two-range h = rw (eq-eqb k 82 h)
+
+  module _ (n : k ≡ 82 → ⊥) where
+    two-none : parts-of Sequence (place x) (place y) ≡ none → parts-of Alternative (place x) (place y) ≡ none → No-node ≡ parsed (node-of-two k x y)
+    unfolding node-of-two
+    two-none e f = rw (ne-eqb k 82 n, e, f) (ap parsed (sym (neither (eqb k 83) (eqb k 65))))
+
+    pub two-no-first : (p : ℕ) → p ≡ place x → 64 ≤ p → No-node ≡ parsed (node-of-two k x y)
+    two-no-first p e h =
+        let l : 64 ≤ place x = omega arith in
+        two-none (parts-no-first Sequence (place x) (place y) l) (parts-no-first Alternative (place x) (place y) l)
+
+    pub two-no-second : (q : ℕ) → q ≡ place y → 64 ≤ q → No-node ≡ parsed (node-of-two k x y)
+    two-no-second q e h =
+        let l : 64 ≤ place y = omega arith in
+        two-none (parts-no-second Sequence (place x) (place y) l) (parts-no-second Alternative (place x) (place y) l)
+
+    module _ (p q : ℕ) (ep : p ≡ place x) (eq : q ≡ place y) (lp : p < 64) (lq : q < 64) where
+      pub two-sequence : k ≡ 83 → Parsed-node (Sequence p q) ≡ parsed (node-of-two k x y)
+      unfolding node-of-two
+      two-sequence h = rw (ne-eqb k 82 n, eq-eqb k 83 h, ← ep, ← eq, parts-good Sequence p q lp lq)
+
+      pub two-alternative : (k ≡ 83 → ⊥) → k ≡ 65 → Parsed-node (Alternative p q) ≡ parsed (node-of-two k x y)
+      unfolding node-of-two
+      two-alternative m h = rw (ne-eqb k 82 n, ne-eqb k 83 m, eq-eqb k 65 h, ← ep, ← eq, parts-good Alternative p q lp lq)
+
+    pub two-other : (k ≡ 83 → ⊥) → (k ≡ 65 → ⊥) → No-node ≡ parsed (node-of-two k x y)
+    unfolding node-of-two
+    two-other m h = rw (ne-eqb k 82 n, ne-eqb k 83 m, ne-eqb k 65 h)

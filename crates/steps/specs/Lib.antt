@@ -1,0 +1,5 @@
+pub mod StateSets
+pub mod StateLaws
+pub mod Steps
+pub mod Stepping
+pub mod Memo

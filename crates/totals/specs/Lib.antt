@@ -1,0 +1,5 @@
+pub mod Totals
+pub mod Sums
+pub mod TotalsLaws
+pub mod Unique
+pub mod Orders

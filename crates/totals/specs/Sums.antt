@@ -1,0 +1,155 @@
+-- Adding up entries: the sums of two arrays of letters and accounts are the totals of the entries in them.
+use mathlib.Core.Path.{_≡_, refl, sym, ap, ap₂, _∙_}
+use mathlib.Core.Bool.{Bool, true, false, cond}
+use mathlib.Core.List.{List, [], _∷_, _++_, map}
+use Prim.Native.Nat.{ℕ, zero, suc, _+_, _*_, _≤_, _<_}
+use native.Mathlib.Omega.{arith}
+use native.Mathlib.Nat.{add-zero, zero-add}
+use lib.Dec.{eqb}
+use borrow.Author.Tests.{eqb-true, eqb-false}
+use lib.ListN.{length, length-append, getD, set, replicate, length-set}
+use lib.Seq.{getD-set-same, getD-set-other}
+use Rattle.syntax.specs.Letter.{letter-limit}
+use Rattle.syntax.specs.Table.{account-limit}
+use Rattle.semantics.specs.Accounts.{litres, total, totals}
+use Rattle.semantics.specs.AccountLaws.{letters, litres-small, total-small}
+use Rattle.semantics.specs.VisitLaws.{All}
+use Rattle.entries.specs.Entries.{Entries, accounts-in}
+use Rattle.entries.specs.WholeLaws.{length-accounts}
+use Rattle.totals.specs.Totals.{no-litres}
+
+-- ── the entries in front of two arrays ──
+abbrev pub pairs : (n : ℕ) → (letters accounts : List ℕ) → Entries
+pairs zero xs ys = []
+pairs (suc n) [] ys = []
+pairs (suc n) (x ∷ xs) [] = []
+pairs (suc n) (x ∷ xs) (y ∷ ys) = (x, y) ∷ pairs n xs ys
+
+-- each of them has an account
+pub record Owned (accounts : List ℕ) (n : ℕ) : Type 0 where
+  pub wide : n ≤ length accounts
+  pub own : (i : ℕ) → i < n → getD accounts i 0 ≤ account-limit
+
+pub pairs-entries : (es : Entries) (xs ys : List ℕ) → pairs (length es) (letters es ++ xs) (accounts-in es ++ ys) ≡ es
+pairs-entries [] xs ys = refl
+pairs-entries (e ∷ es) xs ys = ap (λ fs. (e .0, e .1) ∷ fs) (pairs-entries es xs ys)
+
+pairs-length : (n : ℕ) (xs ys : List ℕ) → length (pairs n xs ys) ≤ n
+pairs-length zero xs ys = omega arith
+pairs-length (suc n) [] ys = omega arith
+pairs-length (suc n) (x ∷ xs) [] = omega arith
+pairs-length (suc n) (x ∷ xs) (y ∷ ys) = omega (arith, pairs-length n xs ys)
+
+pairs-next : (n : ℕ) (xs ys : List ℕ) → n < length xs → n < length ys → pairs (suc n) xs ys ≡ pairs n xs ys ++ ((getD xs n 0, getD ys n 0) ∷ [])
+pairs-next n [] ys h k = absurd (omega arith)
+pairs-next n (x ∷ xs) [] h k = absurd (omega arith)
+pairs-next zero (x ∷ xs) (y ∷ ys) h k = refl
+pairs-next (suc n) (x ∷ xs) (y ∷ ys) h k = ap (λ fs. (x, y) ∷ fs) (pairs-next n xs ys (omega arith) (omega arith))
+
+entries-own : (es : Entries) (ys : List ℕ) → All (λ e. e .1 < account-limit + 1) es → (i : ℕ) → i < length es → getD (accounts-in es ++ ys) i 0 ≤ account-limit
+entries-own [] ys h i k = absurd (omega arith)
+entries-own (e ∷ es) ys h zero k = omega (arith, h .0)
+entries-own (e ∷ es) ys h (suc i) k = entries-own es ys (h .1) i (omega arith)
+
+pub entries-owned : (es : Entries) (ys : List ℕ) → All (λ e. e .1 < account-limit + 1) es → (n : ℕ) → n ≡ length es → Owned (accounts-in es ++ ys) n
+entries-owned es ys h n e =
+    record { wide = omega (arith, length-append (accounts-in es) ys, length-accounts es); own = λ i k. entries-own es ys h i (omega arith) }
+
+-- ── adding ──
+unfoldable pub charge-one : (sums : List ℕ) → (account c : ℕ) → List ℕ
+charge-one s a c = set s a (getD s a 0 + litres c)
+
+-- entry after entry
+abbrev charge : (sums : List ℕ) → Entries → List ℕ
+charge s [] = s
+charge s (e ∷ es) = charge (charge-one s (e .1) (e .0)) es
+
+charge-append : (es fs : Entries) (s : List ℕ) → charge s (es ++ fs) ≡ charge (charge s es) fs
+charge-append [] fs s = refl
+charge-append (e ∷ es) fs s = charge-append es fs (charge-one s (e .1) (e .0))
+
+one-length : (s : List ℕ) (a c : ℕ) → length (charge-one s a c) ≡ length s
+unfolding charge-one
+one-length s a c = length-set s a (getD s a 0 + litres c)
+
+charge-length : (es : Entries) (s : List ℕ) → length (charge s es) ≡ length s
+charge-length [] s = refl
+charge-length (e ∷ es) s = charge-length es (charge-one s (e .1) (e .0)) ∙ one-length s (e .1) (e .0)
+
+charge-step : (s : List ℕ) (b a c : ℕ) → a < length s → (t : Bool) → eqb b a ≡ t → getD (charge-one s b c) a 0 ≡ getD s a 0 + cond t (litres c) 0
+unfolding charge-one
+charge-step s b a c h true q = ap (λ z. getD (set s z (getD s z 0 + litres c)) a 0) (eqb-true b a q) ∙ getD-set-same s a (getD s a 0 + litres c) 0 h
+charge-step s b a c h false q = getD-set-other s b a (getD s b 0 + litres c) 0 (λ e. eqb-false b a q (sym e)) ∙ sym (add-zero (getD s a 0))
+
+-- each sum grows by its account's total
+charge-total : (es : Entries) (s : List ℕ) (a : ℕ) → a < length s → getD (charge s es) a 0 ≡ getD s a 0 + total a es
+unfolding total
+charge-total [] s a h = sym (add-zero (getD s a 0))
+charge-total (e ∷ es) s a h =
+    let k = one-length s (e .1) (e .0) in
+    let i = charge-total es (charge-one s (e .1) (e .0)) a (omega arith) in
+    let j = charge-step s (e .1) a (e .0) h (eqb (e .1) a) refl in
+    omega arith
+
+-- ── the sums of a list of entries are its totals ──
+abbrev count-from : (i n : ℕ) → List ℕ
+count-from i zero = []
+count-from i (suc n) = i ∷ count-from (suc i) n
+
+listed : (xs : List ℕ) (f : ℕ → ℕ) (i : ℕ) → ((j : ℕ) → j < length xs → getD xs j 0 ≡ f (i + j)) → xs ≡ map f (count-from i (length xs))
+listed [] f i h = refl
+listed (x ∷ xs) f i h =
+    let e : i + 0 ≡ i = omega arith in
+    ap₂ (λ y ys. y ∷ ys) (h 0 (omega arith) ∙ ap f e)
+    (listed xs f (suc i) (λ j k. let g : i + suc j ≡ suc i + j = omega arith in h (suc j) (omega arith) ∙ ap f g))
+
+getD-zeros : (n j : ℕ) → _≡_ {A = ℕ} (getD (replicate n 0) j 0) 0
+getD-zeros zero zero = refl
+getD-zeros zero (suc j) = refl
+getD-zeros (suc n) zero = refl
+getD-zeros (suc n) (suc j) = getD-zeros n j
+
+sum-total : (es : Entries) (a : ℕ) → a < account-limit + 1 → getD (charge no-litres es) a 0 ≡ total a es
+sum-total es a h = charge-total es no-litres a h ∙ ap (λ x. x + total a es) (getD-zeros (account-limit + 1) a) ∙ zero-add (total a es)
+
+charge-totals : (es : Entries) → charge no-litres es ≡ totals es
+unfolding totals
+charge-totals es =
+    let n : length (charge no-litres es) ≡ account-limit + 1 = charge-length es no-litres in
+    listed (charge no-litres es) (λ a. total a es) 0 (λ j k. sum-total es j (omega arith) ∙ ap (λ a. total a es) (sym (zero-add j)))
+    ∙ ap (λ z. map (λ a. total a es) (count-from 0 z)) n
+
+-- ── the loop: i entries are added up ──
+pub record Summed (letters accounts sums : List ℕ) (n i : ℕ) : Type 0 where
+  pub low : i ≤ n
+  pub is : sums ≡ charge no-litres (pairs i letters accounts)
+
+module _ (xs ys : List ℕ) (n : ℕ) where
+  pub summed-start : Summed xs ys no-litres n 0
+  summed-start = record { low = omega arith; is = refl }
+
+  module _ (s : List ℕ) (i : ℕ) (k : Summed xs ys s n i) where
+    pub summed-size : length s ≡ account-limit + 1
+    summed-size = ap length (k .is) ∙ charge-length (pairs i xs ys) no-litres
+
+    -- no sum passes nine litres a letter
+    pub summed-room : i < n → n ≤ letter-limit → (a c : ℕ) → a ≤ account-limit → getD s a 0 + litres c ≤ 9 * letter-limit
+    summed-room h few a c o =
+        let e = ap (λ z. getD z a 0) (k .is) ∙ sum-total (pairs i xs ys) a (omega arith) in
+        omega (arith, total-small a (pairs i xs ys), pairs-length i xs ys, litres-small c)
+
+    pub summed-next : i < n → n ≤ length xs → n ≤ length ys → (s' : List ℕ) → s' ≡ charge-one s (getD ys i 0) (getD xs i 0) → Summed xs ys s' n (i + 1)
+    summed-next h long wide s' e =
+        let z : suc i ≡ i + 1 = omega arith in
+        record {
+          low = omega arith;
+          is = e ∙ ap (λ q. charge-one q (getD ys i 0) (getD xs i 0)) (k .is)
+              ∙ sym (charge-append (pairs i xs ys) ((getD xs i 0, getD ys i 0) ∷ []) no-litres)
+              ∙ ap (charge no-litres) (sym (pairs-next i xs ys (omega arith) (omega arith)) ∙ ap (λ j. pairs j xs ys) z);
+        }
+
+    pub summed-end : n ≤ i → s ≡ totals (pairs n xs ys)
+    summed-end h =
+        let low = k .low in
+        let e : i ≡ n = omega arith in
+        k .is ∙ ap (λ j. charge no-litres (pairs j xs ys)) e ∙ charge-totals (pairs n xs ys)
