@@ -24,3 +24,5 @@ pub mod Paper03Tree
 pub mod Paper03Refusals
 pub mod Paper03Promise
 pub mod Paper03Promised
+pub mod Paper03Entry
+pub mod Paper03Spell

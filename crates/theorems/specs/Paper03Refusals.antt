@@ -5,7 +5,7 @@ use mathlib.Core.Option.{Option, none, some, Option·none-ne-some}
 use mathlib.Core.List.{List, [], _∷_, _++_, map}
 use Prim.Native.Nat.{ℕ, zero, suc, _+_, _-_, _≤_, _<_}
 use native.Mathlib.Omega.{arith}
-use borrow.Author.Tests.{leb-true, leb-false, le-ltb, lt-ltb, eqb-true, eqb-false, eq-eqb, ne-eqb}
+use borrow.Author.Tests.{leb-true, leb-false, le-ltb, lt-ltb, eqb-true, ne-eqb}
 use lib.Dec.{ltb, leb, eqb}
 use lib.ListN.{length, getD}
 use Rattle.syntax.specs.declared.Leaf.the-variants.{Nothing, Letter, Range}
@@ -15,13 +15,13 @@ use Rattle.syntax.specs.declared.Line.{Line}
 use Rattle.syntax.specs.declared.Pattern.{Pattern}
 use Rattle.syntax.specs.Bools.{and-fst, and-snd, and-intro}
 use Rattle.syntax.specs.Letter.{is-letter}
-use Rattle.syntax.specs.Table.{blank, line-at, node-at, parts, member, named-below, rightly-named, wrongly-names, unnamed, lowest, or-else, tree-fault}
+use Rattle.syntax.specs.Table.{line-at, node-at, parts, member, named-below, wrongly-names, unnamed, lowest, or-else, tree-fault}
 use Rattle.refusals.specs.Refusals.{Answer}
 use Rattle.fields.specs.Text.{place, single, account, when, node-of-none, node-of-one, range-of, parts-of, node-of-two, node-of}
-use Rattle.fields.specs.Text.{with-account, line-of, row-line, rows, Forms, good, fault, line-front, forms}
+use Rattle.fields.specs.Text.{with-account, line-of, row-line, Forms, good, fault, line-front, forms}
 use Rattle.loading.specs.Load.{table, tree-answer, forms-answer, load-answer}
 use Rattle.theorems.specs.Paper03Pattern.{Line as Text-line, lines, fields, place-value, is-place, is-letter as is-letter-field, account-value}
-use Rattle.theorems.specs.Paper03Pattern.{kind-value, field, line-good, node-in, nodes-in, Refusal, refusal, forms-from, load-refusal}
+use Rattle.theorems.specs.Paper03Pattern.{kind-value, field, line-good, nodes-in, Refusal, refusal, forms-from, load-refusal}
 use Rattle.theorems.specs.Paper03Pattern.{parts as parts-03, member as member-03, part-bad, tree-from, all-parts, unnamed-from}
 use Rattle.theorems.specs.Paper03Pattern.{or-else as or-refusal, tree-refusal}
 use Rattle.theorems.specs.Paper03Read.{line-as}
