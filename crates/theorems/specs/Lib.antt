@@ -15,13 +15,14 @@ pub mod Paper03Codes
 pub mod Numbers
 pub mod Paper03
 pub mod Paper03Laws
--- The same by 03's own definitions.
+-- 03's own definitions of codes and texts come to the same: codes, fields, lines, the tree, refusals.
 pub mod Paper03Read
 pub mod Paper03Same
 pub mod Paper03Fields
 pub mod Paper03Load
 pub mod Paper03Tree
 pub mod Paper03Refusals
+-- So 03's statements hold as they stand there, and its contract of spelling is met.
 pub mod Paper03Promise
 pub mod Paper03Promised
 pub mod Paper03Entry
