@@ -7,6 +7,7 @@ use mathlib.Core.List.{List}
 use Prim.Native.Nat.{ℕ, _+_, _*_, _≤_}
 use native.Mathlib.Omega.{arith}
 use lib.ListN.{length, take}
+use lib.Seq.{take-all}
 use Rattle.syntax.specs.declared.Pattern.{Pattern}
 use Rattle.refusals.specs.Refusals.{answer, number}
 use Rattle.refusals.specs.RefusalLaws.{number-positive}
@@ -51,6 +52,10 @@ use Rattle.theorems.specs.Passed.{visit-answer, flatten-answers, flatten
 -- are handed on, not the cells past them.
 abbrev pub written : (count : ℕ) → (code-now : List ℕ) → List ℕ
 written n ys = take (cell-count 8 n) ys
+
+-- a buffer of just so many bytes is handed on as it is
+pub written-all : (n : ℕ) (ys : List ℕ) → length ys ≤ cell-count 8 n → written n ys ≡ ys
+written-all n ys h = take-all (cell-count 8 n) ys h
 
 -- number 0 is the answer of what is given, not of a refusal
 letters-given : (r : Flattened) (n : ℕ) → flattened-answer r ≡ answer 0 n → r ≡ Letters n
