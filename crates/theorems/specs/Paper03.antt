@@ -1,7 +1,7 @@
 -- THE STATEMENTS OF DOCUMENT 03 (its specs/Promise.antt), over pattern texts, under 03's names and in 03's form. Definitions only; Paper03Laws
 -- has the proofs. Bits are the numbers 0 and 1, as 03 writes them; `is-bits`, `packed`, `handed` and `mark-bit` are 03's own (crate bits), and `before`.
--- What 03 says of the nodes of a text is said here of the table that loading gives, by the definitions that the contracts cite. Where a
--- statement's form differs from 03's, the words above it say how, and why it says no less.
+-- What 03 says of the nodes of a text is said here of the table that loading gives, by the definitions that the contracts cite; Paper03Promise
+-- has the statements by 03's own. Where a statement's form differs from 03's, the words above it say how, and why it says no less.
 use mathlib.Core.Path.{_≡_}
 use mathlib.Core.Bool.{Bool, true, false, _&&_}
 use mathlib.Core.List.{List, [], _∷_, _++_}
@@ -21,7 +21,7 @@ use Rattle.theorems.specs.Paper03Codes.{before}
 
 -- ── 03's words, by the definitions of this repository ──
 
--- 03: eqb (load-refusal bs .number) 0
+-- 03: eqb (load-refusal bs .number) 0. The two numbers are one for every text: Paper03Refusals, `same-refusal`.
 unfoldable pub is-pattern : (text : List ℕ) → Bool
 is-pattern text = eqb (load-answer text .number) 0
 

@@ -1,9 +1,9 @@
 -- Document 03's loading refuses what loading refuses, with the same number and line, for every text.
 use mathlib.Core.Path.{_≡_, refl, sym, ap, ap₂, subst, _∙_}
-use mathlib.Core.Bool.{Bool, true, false, _&&_, _||_, not, cond, false≢true, true≢false}
+use mathlib.Core.Bool.{Bool, true, false, _&&_, cond, true≢false}
 use mathlib.Core.Option.{Option, none, some, Option·none-ne-some}
-use mathlib.Core.List.{List, [], _∷_, _++_, map}
-use Prim.Native.Nat.{ℕ, zero, suc, _+_, _-_, _≤_, _<_}
+use mathlib.Core.List.{List, [], _∷_, map}
+use Prim.Native.Nat.{ℕ, suc, _-_, _≤_, _<_}
 use native.Mathlib.Omega.{arith}
 use borrow.Author.Tests.{leb-true, leb-false, le-ltb, lt-ltb, eqb-true, ne-eqb}
 use lib.Dec.{ltb, leb, eqb}
@@ -15,19 +15,18 @@ use Rattle.syntax.specs.declared.Line.{Line}
 use Rattle.syntax.specs.declared.Pattern.{Pattern}
 use Rattle.syntax.specs.Bools.{and-fst, and-snd, and-intro}
 use Rattle.syntax.specs.Letter.{is-letter}
-use Rattle.syntax.specs.Table.{line-at, node-at, parts, member, named-below, wrongly-names, unnamed, lowest, or-else, tree-fault}
+use Rattle.syntax.specs.Table.{tree-fault}
 use Rattle.refusals.specs.Refusals.{Answer}
 use Rattle.fields.specs.Text.{place, single, account, when, node-of-none, node-of-one, range-of, parts-of, node-of-two, node-of}
 use Rattle.fields.specs.Text.{with-account, line-of, row-line, Forms, good, fault, line-front, forms}
 use Rattle.loading.specs.Load.{table, tree-answer, forms-answer, load-answer}
 use Rattle.theorems.specs.Paper03Pattern.{Line as Text-line, lines, fields, place-value, is-place, is-letter as is-letter-field, account-value}
 use Rattle.theorems.specs.Paper03Pattern.{kind-value, field, line-good, nodes-in, Refusal, refusal, forms-from, load-refusal}
-use Rattle.theorems.specs.Paper03Pattern.{parts as parts-03, member as member-03, part-bad, tree-from, all-parts, unnamed-from}
 use Rattle.theorems.specs.Paper03Pattern.{or-else as or-refusal, tree-refusal}
 use Rattle.theorems.specs.Paper03Read.{line-as}
 use Rattle.theorems.specs.Paper03Fields.{row-of, rows-are, place-back, is-place-back, letter-back, account-same}
 use Rattle.theorems.specs.Paper03Load.{kind-by, kind-same, needs, line-in, formed}
-use Rattle.theorems.specs.Paper03Tree.{member-same, member-append, bad-same, From, later, named, length-nodes, table-line, table-count, as-many}
+use Rattle.theorems.specs.Paper03Tree.{tree-refused, tree-same, as-many}
 
 -- ── a line that says a node is of good form by 03 ──
 when-yes : {A : Type 0} (b : Bool) (x y : A) → when b x ≡ some y → b ≡ true
@@ -160,81 +159,6 @@ forms-same i (x ∷ ls) = go (leb 64 i) refl (row-line i (row-of x)) refl (forms
     go false e o r f h =
         good-is (leb-false 64 i e) o r (line-good i x) refl f h
         ∙ ap (λ b. forms-refusal (cond b (line-front i o f) (fault 64))) (sym (lt-ltb i 64 (leb-false 64 i e)))
-
--- ── the tree ──
-abbrev tree-refused : Option ℕ → Refusal
-tree-refused none = refusal 0 0
-tree-refused (some l) = refusal 2 l
-
-module _ (p : Pattern) where
-  wrong-same : (zs : List Line) (i : ℕ) → From p i zs → tree-from i (named-below p i) (map line-as zs) ≡ tree-refused (lowest (wrongly-names p) i (length zs))
-  unfolding tree-from
-  wrong-same [] i h = refl
-  wrong-same (z ∷ zs) i h =
-      ap₂ (λ b r. cond b (refusal 2 i) r) bad
-      (ap (λ ps. tree-from (suc i) (ps ++ named-below p i) (map line-as zs)) (named p i z zs h) ∙ wrong-same zs (suc i) (later p i z zs h))
-      ∙ by (wrongly-names p i) (lowest (wrongly-names p) (suc i) (length zs))
-    where
-      bad : part-bad i (named-below p i) (parts-03 (line-as z)) ≡ wrongly-names p i
-      bad = unfold wrongly-names in ap (part-bad i (named-below p i)) (named p i z zs h) ∙ bad-same i (named-below p i) (parts (node-at p i))
-
-      by : (b : Bool) (o : Option ℕ) → cond b (refusal 2 i) (tree-refused o) ≡ tree-refused (cond b (some i) o)
-      by true o = refl
-      by false o = refl
-
-  names-same : (zs : List Line) (i : ℕ) → From p i zs → (l : ℕ)
-      → member l (named-below p (i + length zs)) ≡ (member l (all-parts (map line-as zs)) || member l (named-below p i))
-  unfolding all-parts
-  names-same [] i h l = let k : i + 0 ≡ i = omega arith in ap (λ n. member l (named-below p n)) k
-  names-same (z ∷ zs) i h l =
-      let k : i + suc (length zs) ≡ suc i + length zs = omega arith in
-      let own = parts (node-at p i) in
-      let rest = all-parts (map line-as zs) in
-      ap (λ n. member l (named-below p n)) k ∙ names-same zs (suc i) (later p i z zs h) l
-      ∙ ap (λ b. member l rest || b) (member-append l own (named-below p i)) ∙ turn (member l rest) (member l own) (member l (named-below p i))
-      ∙ ap (λ b. b || member l (named-below p i))
-      (sym (member-append l own rest) ∙ ap (λ ps. member l (ps ++ all-parts (map line-as zs))) (sym (named p i z zs h)))
-    where
-      turn : (r o n : Bool) → (r || (o || n)) ≡ ((o || r) || n)
-      turn true true n = refl
-      turn true false n = refl
-      turn false true n = refl
-      turn false false n = refl
-
-unnamed-same : (k i : ℕ) (ns : List ℕ) (f : ℕ → Bool) → ((l : ℕ) → not (member l ns) ≡ f l) → unnamed-from k i ns ≡ tree-refused (lowest f i k)
-unfolding unnamed-from
-unnamed-same zero i ns f h = refl
-unnamed-same (suc k) i ns f h = go (member-03 i ns) (f i) (ap not (member-same i ns) ∙ h i) (lowest f (suc i) k) (unnamed-same k (suc i) ns f h)
-  where
-    go : (b c : Bool) → not b ≡ c → (o : Option ℕ) → unnamed-from k (suc i) ns ≡ tree-refused o
-        → cond b (unnamed-from k (suc i) ns) (refusal 2 i) ≡ tree-refused (cond c (some i) o)
-    go true true e o q = absurd (false≢true e)
-    go true false e o q = q
-    go false true e o q = refl
-    go false false e o q = absurd (true≢false e)
-
-tree-same : (xs : List Line) → tree-refusal (map line-as xs) ≡ tree-refused (tree-fault (table xs))
-unfolding tree-refusal tree-fault unnamed
-tree-same xs =
-    let p = table xs in
-    let n = table-count xs in
-    let from : From p 0 xs = λ j l. let e : 0 + j ≡ j = omega arith in ap (line-at p) e ∙ table-line xs j l in
-    let names : (l : ℕ) → not (member l (all-parts (map line-as xs))) ≡ not (member l (named-below p (p .count))) =
-    λ l.
-    let m : 0 + length xs ≡ p .count = omega arith in
-    ap not (sym (no-more (member l (all-parts (map line-as xs)))) ∙ sym (names-same p xs 0 from l) ∙ ap (λ k. member l (named-below p k)) m) in
-    ap₂ or-refusal (wrong-same p xs 0 from ∙ ap (λ k. tree-refused (lowest (wrongly-names p) 0 k)) (sym n))
-    (ap (λ k. unnamed-from (k - 1) 0 (all-parts (map line-as xs))) (length-nodes xs ∙ sym n)
-    ∙ unnamed-same (p .count - 1) 0 (all-parts (map line-as xs)) (λ l. not (member l (named-below p (p .count)))) names)
-    ∙ joined (lowest (wrongly-names p) 0 (p .count)) (lowest (λ l. not (member l (named-below p (p .count)))) 0 (p .count - 1))
-  where
-    no-more : (b : Bool) → (b || false) ≡ b
-    no-more true = refl
-    no-more false = refl
-
-    joined : (a b : Option ℕ) → or-refusal (tree-refused a) (tree-refused b) ≡ tree-refused (or-else a b)
-    joined none b = unfold or-refusal refusal in refl
-    joined (some l) b = unfold or-refusal refusal in refl
 
 -- ── loading ──
 -- a refusal of 03 against an answer here: the same number, and the same line where it refuses

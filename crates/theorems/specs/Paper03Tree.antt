@@ -1,8 +1,7 @@
--- Document 03's tree faults, and its loading as a whole: a text that 03 accepts loads, and its nodes are the lines of the table that loading gives.
+-- Document 03's tree faults are those of a table; and a text that 03 accepts loads, its nodes the lines of the table that loading gives.
 use mathlib.Core.Path.{_≡_, refl, sym, ap, ap₂, _∙_}
-use mathlib.Core.Bool.{Bool, true, false, _&&_, _||_, not, cond, false≢true}
-use mathlib.Core.Logic.{_⊎_, inl, inr, ⊎-elim}
-use mathlib.Core.Option.{none}
+use mathlib.Core.Bool.{Bool, true, false, _&&_, _||_, not, cond, false≢true, true≢false}
+use mathlib.Core.Option.{Option, none, some}
 use mathlib.Core.List.{List, [], _∷_, _++_, map}
 use Prim.Native.Nat.{ℕ, zero, suc, _+_, _-_, _<_}
 use native.Mathlib.Omega.{arith}
@@ -15,8 +14,6 @@ use Rattle.syntax.specs.declared.Node.the-variants.{Leaf as Leaf-node, Sequence
 use Rattle.syntax.specs.declared.Line.{Line}
 use Rattle.syntax.specs.declared.Pattern.{Pattern}
 use Rattle.syntax.specs.Table.{blank, line-at, node-at, parts, member, named-below, rightly-named, wrongly-names, unnamed, lowest, or-else, tree-fault}
-use Rattle.syntax.specs.Lowest.{none-lowest}
-use Rattle.semantics.specs.Basics.{or-left, or-right, or-cases}
 use Rattle.fields.specs.Text.{rows, good, forms}
 use Rattle.loading.specs.Load.{table, tree-answer, tree-table, forms-answer, forms-table, load-answer, load-table}
 use Rattle.loading.specs.LoadLaws.{loaded-obeys}
@@ -29,7 +26,7 @@ use Rattle.theorems.specs.Paper03Load.{formed}
 use Rattle.theorems.specs.Paper03Same.{Lists}
 
 -- ── parts and names ──
-pub parts-same : (c : ℕ) (n : Own-node) → parts-03 (node-as c n) ≡ parts n
+parts-same : (c : ℕ) (n : Own-node) → parts-03 (node-as c n) ≡ parts n
 unfolding parts-03
 parts-same c (Leaf-node Nothing) = refl
 parts-same c (Leaf-node (Letter x)) = refl
@@ -38,12 +35,12 @@ parts-same c (Sequence x y) = refl
 parts-same c (Alternative x y) = refl
 parts-same c (Star x) = refl
 
-pub member-same : (v : ℕ) (xs : List ℕ) → member-03 v xs ≡ member v xs
+member-same : (v : ℕ) (xs : List ℕ) → member-03 v xs ≡ member v xs
 unfolding member-03
 member-same v [] = refl
 member-same v (x ∷ xs) = ap (λ b. eqb x v || b) (member-same v xs)
 
-pub member-append : (v : ℕ) (xs ys : List ℕ) → member v (xs ++ ys) ≡ (member v xs || member v ys)
+member-append : (v : ℕ) (xs ys : List ℕ) → member v (xs ++ ys) ≡ (member v xs || member v ys)
 member-append v [] ys = refl
 member-append v (x ∷ xs) ys = ap (λ b. eqb x v || b) (member-append v xs ys) ∙ assoc (eqb x v) (member v xs) (member v ys)
   where
@@ -58,7 +55,7 @@ not-below i q = go (ltb q i) refl
     go true e = lt-leb i q (ltb-true q i e)
     go false e = le-leb i q (ltb-false q i e)
 
-pub bad-same : (i : ℕ) (seen ps : List ℕ) → part-bad i seen ps ≡ not (rightly-named i seen ps)
+bad-same : (i : ℕ) (seen ps : List ℕ) → part-bad i seen ps ≡ not (rightly-named i seen ps)
 unfolding part-bad
 bad-same i seen [] = refl
 bad-same i seen (q ∷ qs) =
@@ -70,71 +67,70 @@ bad-same i seen (q ∷ qs) =
     turn true false r = refl
     turn false m r = refl
 
+-- what 03 reports of a tree fault
+abbrev pub tree-refused : Option ℕ → Refusal
+tree-refused none = refusal 0 0
+tree-refused (some l) = refusal 2 l
+
 -- ── the lines from one on ──
 module _ (p : Pattern) where
-  abbrev pub From : (i : ℕ) → List Line → Type 0
+  abbrev From : (i : ℕ) → List Line → Type 0
   From i zs = (j : ℕ) → j < length zs → line-at p (i + j) ≡ getD zs j blank
 
   module _ (i : ℕ) (z : Line) (zs : List Line) (h : From i (z ∷ zs)) where
-    pub later : From (suc i) zs
+    later : From (suc i) zs
     later j l = let e : suc i + j ≡ i + suc j = omega arith in ap (line-at p) e ∙ h (suc j) (omega arith)
 
-    pub named : parts-03 (line-as z) ≡ parts (node-at p i)
+    named : parts-03 (line-as z) ≡ parts (node-at p i)
     named =
         let e : i + 0 ≡ i = omega arith in
         parts-same (z .account) (z .node) ∙ ap (λ x. parts (x .node)) (sym (h 0 (omega arith)) ∙ ap (line-at p) e)
 
-  tree-good : (zs : List Line) (i : ℕ) → From i zs → tree-from i (named-below p i) (map line-as zs) .number ≡ 0 → (j : ℕ) → j < length zs
-      → wrongly-names p (i + j) ≡ false
-  unfolding tree-from wrongly-names refusal
-  tree-good [] i h g j l = absurd (omega arith)
-  tree-good (z ∷ zs) i h g j l = go (part-bad i (named-below p i) (parts-03 (line-as z))) refl g j l (tree-good zs (suc i) (later i z zs h))
+  wrong-same : (zs : List Line) (i : ℕ) → From i zs → tree-from i (named-below p i) (map line-as zs) ≡ tree-refused (lowest (wrongly-names p) i (length zs))
+  unfolding tree-from
+  wrong-same [] i h = refl
+  wrong-same (z ∷ zs) i h =
+      ap₂ (λ b r. cond b (refusal 2 i) r) bad
+      (ap (λ ps. tree-from (suc i) (ps ++ named-below p i) (map line-as zs)) (named i z zs h) ∙ wrong-same zs (suc i) (later i z zs h))
+      ∙ by (wrongly-names p i) (lowest (wrongly-names p) (suc i) (length zs))
     where
-      go : (b : Bool) → part-bad i (named-below p i) (parts-03 (line-as z)) ≡ b
-          → cond b (refusal 2 i) (tree-from (suc i) (parts-03 (line-as z) ++ named-below p i) (map line-as zs)) .number ≡ 0 → (j : ℕ) → j < suc (length zs)
-          → (tree-from (suc i) (named-below p (suc i)) (map line-as zs) .number ≡ 0 → (j : ℕ) → j < length zs → wrongly-names p (suc i + j) ≡ false)
-          → wrongly-names p (i + j) ≡ false
-      go true e g j l ih = absurd (omega arith)
-      go false e g zero l ih =
-          let k : i + 0 ≡ i = omega arith in
-          ap (wrongly-names p) k ∙ sym (bad-same i (named-below p i) (parts (node-at p i)))
-          ∙ ap (part-bad i (named-below p i)) (sym (named i z zs h)) ∙ e
-      go false e g (suc j) l ih =
-          let k : i + suc j ≡ suc i + j = omega arith in
-          ap (wrongly-names p) k
-          ∙ ih (ap (λ ps. tree-from (suc i) (ps ++ named-below p i) (map line-as zs) .number) (sym (named i z zs h)) ∙ g) j (omega arith)
+      bad : part-bad i (named-below p i) (parts-03 (line-as z)) ≡ wrongly-names p i
+      bad = unfold wrongly-names in ap (part-bad i (named-below p i)) (named i z zs h) ∙ bad-same i (named-below p i) (parts (node-at p i))
 
-  all-named : (zs : List Line) (i : ℕ) → From i zs → (l : ℕ)
-      → (member l (all-parts (map line-as zs)) ≡ true) ⊎ (member l (named-below p i) ≡ true) → member l (named-below p (i + length zs)) ≡ true
+      by : (b : Bool) (o : Option ℕ) → cond b (refusal 2 i) (tree-refused o) ≡ tree-refused (cond b (some i) o)
+      by true o = refl
+      by false o = refl
+
+  names-same : (zs : List Line) (i : ℕ) → From i zs → (l : ℕ)
+      → member l (named-below p (i + length zs)) ≡ (member l (all-parts (map line-as zs)) || member l (named-below p i))
   unfolding all-parts
-  all-named [] i h l (inl e) = absurd (false≢true e)
-  all-named [] i h l (inr e) = let k : i + 0 ≡ i = omega arith in ap (λ n. member l (named-below p n)) k ∙ e
-  all-named (z ∷ zs) i h l e =
+  names-same [] i h l = let k : i + 0 ≡ i = omega arith in ap (λ n. member l (named-below p n)) k
+  names-same (z ∷ zs) i h l =
       let k : i + suc (length zs) ≡ suc i + length zs = omega arith in
-      ap (λ n. member l (named-below p n)) k ∙ all-named zs (suc i) (later i z zs h) l (go e)
+      let own = parts (node-at p i) in
+      let rest = all-parts (map line-as zs) in
+      ap (λ n. member l (named-below p n)) k ∙ names-same zs (suc i) (later i z zs h) l
+      ∙ ap (λ b. member l rest || b) (member-append l own (named-below p i)) ∙ turn (member l rest) (member l own) (member l (named-below p i))
+      ∙ ap (λ b. b || member l (named-below p i))
+      (sym (member-append l own rest) ∙ ap (λ ps. member l (ps ++ all-parts (map line-as zs))) (sym (named i z zs h)))
     where
-      into : (member l (parts (node-at p i)) || member l (named-below p i)) ≡ true → member l (named-below p (suc i)) ≡ true
-      into q = member-append l (parts (node-at p i)) (named-below p i) ∙ q
+      turn : (r o n : Bool) → (r || (o || n)) ≡ ((o || r) || n)
+      turn true true n = refl
+      turn true false n = refl
+      turn false true n = refl
+      turn false false n = refl
 
-      go : (member l (parts-03 (line-as z) ++ all-parts (map line-as zs)) ≡ true) ⊎ (member l (named-below p i) ≡ true)
-          → (member l (all-parts (map line-as zs)) ≡ true) ⊎ (member l (named-below p (suc i)) ≡ true)
-      go (inr q) = inr (into (or-right (member l (parts (node-at p i))) q))
-      go (inl q) =
-          ⊎-elim (λ a. inr (into (or-left (member l (named-below p i)) a))) (λ a. inl (a .1))
-          (or-cases (member l (parts (node-at p i))) (member l (all-parts (map line-as zs)))
-          (sym (member-append l (parts (node-at p i)) (all-parts (map line-as zs)))
-          ∙ ap (λ ps. member l (ps ++ all-parts (map line-as zs))) (sym (named i z zs h)) ∙ q))
-
-named-good : (k i : ℕ) (ns : List ℕ) → unnamed-from k i ns .number ≡ 0 → (j : ℕ) → j < k → member (i + j) ns ≡ true
-unfolding unnamed-from refusal
-named-good zero i ns h j l = absurd (omega arith)
-named-good (suc k) i ns h j l = go (member-03 i ns) refl h j l (named-good k (suc i) ns)
+unnamed-same : (k i : ℕ) (ns : List ℕ) (f : ℕ → Bool) → ((l : ℕ) → not (member l ns) ≡ f l) → unnamed-from k i ns ≡ tree-refused (lowest f i k)
+unfolding unnamed-from
+unnamed-same zero i ns f h = refl
+unnamed-same (suc k) i ns f h = go (member-03 i ns) (f i) (ap not (member-same i ns) ∙ h i) (lowest f (suc i) k) (unnamed-same k (suc i) ns f h)
   where
-    go : (b : Bool) → member-03 i ns ≡ b → cond b (unnamed-from k (suc i) ns) (refusal 2 i) .number ≡ 0 → (j : ℕ) → j < suc k
-        → (unnamed-from k (suc i) ns .number ≡ 0 → (j : ℕ) → j < k → member (suc i + j) ns ≡ true) → member (i + j) ns ≡ true
-    go false e g j l ih = absurd (omega arith)
-    go true e g zero l ih = let q : i + 0 ≡ i = omega arith in ap (λ v. member v ns) q ∙ sym (member-same i ns) ∙ e
-    go true e g (suc j) l ih = let q : i + suc j ≡ suc i + j = omega arith in ap (λ v. member v ns) q ∙ ih g j (omega arith)
+    go : (b c : Bool) → not b ≡ c → (o : Option ℕ) → unnamed-from k (suc i) ns ≡ tree-refused o
+        → cond b (unnamed-from k (suc i) ns) (refusal 2 i) ≡ tree-refused (cond c (some i) o)
+    go true true e o q = absurd (false≢true e)
+    go true false e o q = q
+    go false true e o q = refl
+    go false false e o q = absurd (true≢false e)
 
 -- neither of two refusals
 neither : (r s : Refusal) → or-refusal r s .number ≡ 0 → (r .number ≡ 0) × (s .number ≡ 0)
@@ -146,7 +142,7 @@ neither r s h = go (eqb (r .number) 0) refl h
     go false e q = absurd (eqb-false (r .number) 0 e q)
 
 -- ── a table's lines as nodes ──
-pub length-nodes : (xs : List Line) → length (map line-as xs) ≡ length xs
+length-nodes : (xs : List Line) → length (map line-as xs) ≡ length xs
 length-nodes [] = refl
 length-nodes (x ∷ xs) = ap suc (length-nodes xs)
 
@@ -155,30 +151,44 @@ nodes-at [] l h = absurd (omega arith)
 nodes-at (x ∷ xs) zero h = refl
 nodes-at (x ∷ xs) (suc l) h = nodes-at xs l (omega arith)
 
-pub table-line : (xs : List Line) (i : ℕ) → i < length xs → line-at (table xs) i ≡ getD xs i blank
+table-line : (xs : List Line) (i : ℕ) → i < length xs → line-at (table xs) i ≡ getD xs i blank
 unfolding table
 table-line xs i h = List·getD-append xs (replicate (64 - length xs) blank) blank i h
 
-pub table-count : (xs : List Line) → table xs .count ≡ length xs
+table-count : (xs : List Line) → table xs .count ≡ length xs
 unfolding table
 table-count xs = refl
 
-no-fault : (xs : List Line) → tree-refusal (map line-as xs) .number ≡ 0 → tree-fault (table xs) ≡ none
+pub tree-same : (xs : List Line) → tree-refusal (map line-as xs) ≡ tree-refused (tree-fault (table xs))
 unfolding tree-refusal tree-fault unnamed
-no-fault xs h =
+tree-same xs =
     let p = table xs in
     let n = table-count xs in
-    let (a, b) = neither (tree-from 0 [] (map line-as xs)) (unnamed-from (length (map line-as xs) - 1) 0 (all-parts (map line-as xs))) h in
     let from : From p 0 xs = λ j l. let e : 0 + j ≡ j = omega arith in ap (line-at p) e ∙ table-line xs j l in
-    let f : lowest (wrongly-names p) 0 (p .count) ≡ none = none-lowest (wrongly-names p) (p .count) 0
-    (λ i l k. let e : 0 + i ≡ i = omega arith in ap (wrongly-names p) (sym e) ∙ tree-good p xs 0 from a i (omega arith)) in
-    let g : lowest (unnamed p) 0 (p .count - 1) ≡ none = none-lowest (unnamed p) (p .count - 1) 0
-    (λ i l k.
-    let e : 0 + i ≡ i = omega arith in
+    let names : (l : ℕ) → not (member l (all-parts (map line-as xs))) ≡ not (member l (named-below p (p .count))) =
+    λ l.
     let m : 0 + length xs ≡ p .count = omega arith in
-    let q = named-good (length (map line-as xs) - 1) 0 (all-parts (map line-as xs)) b i (omega (arith, length-nodes xs)) in
-    ap not (ap (λ c. member i (named-below p c)) (sym m) ∙ all-named p xs 0 from i (inl (ap (λ v. member v (all-parts (map line-as xs))) (sym e) ∙ q)))) in
-    ap₂ or-else f g
+    ap not (sym (no-more (member l (all-parts (map line-as xs)))) ∙ sym (names-same p xs 0 from l) ∙ ap (λ k. member l (named-below p k)) m) in
+    ap₂ or-refusal (wrong-same p xs 0 from ∙ ap (λ k. tree-refused (lowest (wrongly-names p) 0 k)) (sym n))
+    (ap (λ k. unnamed-from (k - 1) 0 (all-parts (map line-as xs))) (length-nodes xs ∙ sym n)
+    ∙ unnamed-same (p .count - 1) 0 (all-parts (map line-as xs)) (λ l. not (member l (named-below p (p .count)))) names)
+    ∙ joined (lowest (wrongly-names p) 0 (p .count)) (lowest (λ l. not (member l (named-below p (p .count)))) 0 (p .count - 1))
+  where
+    no-more : (b : Bool) → (b || false) ≡ b
+    no-more true = refl
+    no-more false = refl
+
+    joined : (a b : Option ℕ) → or-refusal (tree-refused a) (tree-refused b) ≡ tree-refused (or-else a b)
+    joined none b = unfold or-refusal refusal in refl
+    joined (some l) b = unfold or-refusal refusal in refl
+
+no-fault : (xs : List Line) → tree-refusal (map line-as xs) .number ≡ 0 → tree-fault (table xs) ≡ none
+unfolding refusal
+no-fault xs h = go (tree-fault (table xs)) (sym (ap (λ r. r .number) (tree-same xs)) ∙ h)
+  where
+    go : (o : Option ℕ) → tree-refused o .number ≡ 0 → o ≡ none
+    go none e = refl
+    go (some l) e = absurd (omega arith)
 
 -- ── loading ──
 pub record Loads-03 (text : List ℕ) : Type 0 where
