@@ -1,13 +1,19 @@
--- The start of a case's line: what a service answers, in numbers.
+-- Parts of a case's line: what a service answers, in numbers, and the piece of a visit.
 use mathlib.Core.Path.{_≡_, subst}
-use mathlib.Core.List.{List}
+use mathlib.Core.List.{List, _++_}
 use Prim.Native.Nat.{ℕ}
 use Rattle.refusals.specs.Refusals.{Answer}
-use Rattle.text.specs.Text.{Puts, pair}
+use lib.ListN.{length}
+use Rattle.text.specs.Text.{Puts, field, pair}
+use Rattle.vector_text.specs.Cases.{shown-text}
 
 -- number and value, parted by a tab
 abbrev pub answer-text : Answer → List ℕ
 answer-text a = pair (a .number) (a .value)
+
+-- start and length of a piece, the length of what is returned, and its letters, each behind a tab
+abbrev pub piece-text : (start size : ℕ) → (piece : List ℕ) → List ℕ
+piece-text start size piece = field start ++ field size ++ field (length piece) ++ shown-text (length piece) piece
 
 -- one law for every way of answering
 pub puts-answer : {out after : List ℕ} {r : ℕ} (a b : Answer) → b ≡ a → Puts out 0 (answer-text b) after r → Puts out 0 (answer-text a) after r

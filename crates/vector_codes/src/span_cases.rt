@@ -3,7 +3,7 @@
 // decimal.
 ghost use Rattle.spans.specs.Spans.{span-outcome};
 ghost use Rattle.text.specs.Text.{Puts};
-ghost use Rattle.vector_codes.specs.Answers.{answer-text};
+ghost use Rattle.vector_codes.specs.Answers.{answer-text, piece-text};
 use spans::SpanOutcome;
 use spans::Spanned;
 use spans::piece;
@@ -32,17 +32,24 @@ fn put_outcome(out: &mut [u8], outcome: SpanOutcome) -> usize
     }
 }
 
+// Where the piece starts and how long it is, and the piece with its own length.
+fn put_piece(out: &mut [u8], at: usize, start: u32, length: u32, piece: &[u8]) -> usize
+    ensures { λ r. ⌜ Puts (now (out .entry)) at (piece-text start length (now (piece .entry))) (now (out .exit)) r ⌝ }
+{
+    let a = put_parted(out, at, b'\t', start as u64);
+    let b = put_parted(out, a, b'\t', length as u64);
+    let c = put_parted(out, b, b'\t', piece.len() as u64);
+    put_shown(out, c, piece, piece.len())
+}
+
 // Prints the line of a case, which takes less than 1,024 bytes: number, value, start, length, and the piece with its own
 // length.
 fn print_spanned(spanned: Spanned, piece: &[u8]) {
     let outcome = spanned.outcome;
     let mut out = [0u8; 1024];
     let a = put_outcome(&mut out, outcome);
-    let b = put_parted(&mut out, a, b'\t', spanned.start as u64);
-    let c = put_parted(&mut out, b, b'\t', spanned.length as u64);
-    let d = put_parted(&mut out, c, b'\t', piece.len() as u64);
-    let e = put_shown(&mut out, d, piece, piece.len());
-    print_line(&mut out, e);
+    let b = put_piece(&mut out, a, spanned.start, spanned.length, piece);
+    print_line(&mut out, b);
 }
 
 // Each service is called for itself.
