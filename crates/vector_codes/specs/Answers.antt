@@ -5,7 +5,7 @@ use Prim.Native.Nat.{ℕ}
 use Rattle.refusals.specs.Refusals.{Answer}
 use lib.ListN.{length}
 use Rattle.text.specs.Text.{Puts, field, pair}
-use Rattle.vector_text.specs.Cases.{shown-text}
+use Rattle.vector_text.specs.Cases.{part, bytes-digest, shown-text}
 
 -- number and value, parted by a tab
 abbrev pub answer-text : Answer → List ℕ
@@ -14,6 +14,10 @@ answer-text a = pair (a .number) (a .value)
 -- start and length of a piece, the length of what is returned, and its letters, each behind a tab
 abbrev pub piece-text : (start size : ℕ) → (piece : List ℕ) → List ℕ
 piece-text start size piece = field start ++ field size ++ field (length piece) ++ shown-text (length piece) piece
+
+-- digests of the tape's cells that are lent, and of those past them
+abbrev pub letters-text : (lent : ℕ) → (tape : List ℕ) → List ℕ
+letters-text lent tape = field (bytes-digest 1 (part 0 lent tape)) ++ field (bytes-digest 1 (part lent (length tape) tape))
 
 -- one law for every way of answering
 pub puts-answer : {out after : List ℕ} {r : ℕ} (a b : Answer) → b ≡ a → Puts out 0 (answer-text b) after r → Puts out 0 (answer-text a) after r

@@ -7,7 +7,7 @@ ghost use Rattle.canonical.specs.Canonicalize.{canonicalized-answer};
 ghost use Rattle.codes.specs.Flatten.{flattened-answer};
 ghost use Rattle.totals.specs.Totals.{totals-outcome};
 ghost use Rattle.text.specs.Text.{Puts};
-ghost use Rattle.vector_codes.specs.Answers.{answer-text};
+ghost use Rattle.vector_codes.specs.Answers.{answer-text, letters-text};
 use canonical::Canonicalized;
 use canonical::canonicalize;
 use codes::Flattened;
@@ -82,13 +82,20 @@ fn put_litres(out: &mut [u8], at: usize, litres: &[u32]) -> usize {
     end
 }
 
+// The digests of the cells lent and of those past them.
+fn put_letters(out: &mut [u8], at: usize, tape: &[u8], lent: usize) -> usize
+    ensures { λ r. ⌜ Puts (now (out .entry)) at (letters-text lent (now (tape .entry))) (now (out .exit)) r ⌝ }
+{
+    let end = put_digest(out, at, tape, 0, lent);
+    put_digest(out, end, tape, lent, tape.len())
+}
+
 // Prints the line of spelling, with `lent` cells of the tape lent. This line and the next two take less than 1,024 bytes.
 fn print_flattening(answer: Flattened, tape: &[u8], lent: usize) {
     let mut out = [0u8; 1024];
     let a = put_flattened(&mut out, answer);
-    let b = put_digest(&mut out, a, tape, 0, lent);
-    let c = put_digest(&mut out, b, tape, lent, tape.len());
-    print_line(&mut out, c);
+    let b = put_letters(&mut out, a, tape, lent);
+    print_line(&mut out, b);
 }
 
 // The line of totalling.
