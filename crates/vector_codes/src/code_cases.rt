@@ -7,7 +7,7 @@ ghost use Rattle.canonical.specs.Canonicalize.{canonicalized-answer};
 ghost use Rattle.codes.specs.Flatten.{flattened-answer};
 ghost use Rattle.totals.specs.Totals.{totals-outcome};
 ghost use Rattle.text.specs.Text.{Puts};
-ghost use Rattle.vector_codes.specs.Answers.{answer-text, letters-text};
+ghost use Rattle.vector_codes.specs.Answers.{answer-text, letters-text, settled-text};
 use canonical::Canonicalized;
 use canonical::canonicalize;
 use codes::Flattened;
@@ -115,14 +115,30 @@ struct Lent {
     bytes: usize,
 }
 
-// The line of settling: all cells past those lent have one digest, the tape's first.
+// The digest of the tape's cells lent, and what is left in words and code. All cells past those lent have one digest, the
+// tape's first.
+fn put_settled(
+    out: &mut [u8],
+    at: usize,
+    tape: &[u8],
+    words: &[u64],
+    code: &[u8],
+    lent: Lent,
+) -> usize
+    ensures { λ r. ⌜ Puts (now (out .entry)) at (settled-text lent (now (tape .entry)) (now (words .entry)) (now (code .entry))) (now (out .exit)) r ⌝ }
+{
+    let letters = lent.letters;
+    let end = put_digest(out, at, tape, 0, letters);
+    let past = of_bytes(START, tape, letters, tape.len());
+    put_left(out, end, past, words, lent.words, code, lent.bytes)
+}
+
+// The line of settling.
 fn print_settling(answer: Canonicalized, tape: &[u8], words: &[u64], code: &[u8], lent: Lent) {
     let mut out = [0u8; 1024];
     let a = put_canonicalized(&mut out, answer);
-    let b = put_digest(&mut out, a, tape, 0, lent.letters);
-    let past = of_bytes(START, tape, lent.letters, tape.len());
-    let c = put_left(&mut out, b, past, words, lent.words, code, lent.bytes);
-    print_line(&mut out, c);
+    let b = put_settled(&mut out, a, tape, words, code, lent);
+    print_line(&mut out, b);
 }
 
 // Spells the code with the first `most` cells lent, as far as there are any.
