@@ -1,10 +1,13 @@
 -- Parts of a case's line: what a service answers, in numbers, and the piece of a visit.
-use mathlib.Core.Path.{_≡_, subst}
-use mathlib.Core.List.{List, _++_}
-use Prim.Native.Nat.{ℕ}
+use mathlib.Core.Path.{_≡_, sym, ap, ap₂, subst, _∙_}
+use mathlib.Core.Bool.{cond}
+use mathlib.Core.List.{List, [], _∷_, _++_}
+use Prim.Native.Nat.{ℕ, _+_, _≤_, _<_}
+use lib.Dec.{eqb}
 use Rattle.refusals.specs.Refusals.{Answer}
-use lib.ListN.{length}
-use Rattle.text.specs.Text.{Puts, field, pair}
+use lib.ListN.{length, drop, getD}
+use Rattle.text.specs.Text.{Puts, parted, field, pair}
+use Rattle.text.specs.Putting.{drop-next, drop-done}
 use Rattle.vector_text.specs.Cases.{part, bytes-digest, shown-text, left-text}
 use Rattle.vector_codes.specs.declared.code_cases.Lent.{Lent}
 
@@ -15,6 +18,19 @@ answer-text a = pair (a .number) (a .value)
 -- start and length of a piece, the length of what is returned, and its letters, each behind a tab
 abbrev pub piece-text : (start size : ℕ) → (piece : List ℕ) → List ℕ
 piece-text start size piece = field start ++ field size ++ field (length piece) ++ shown-text (length piece) piece
+
+-- totals from account i on: a tab stands before the first number, commas before the others
+abbrev pub litres-text : (i : ℕ) → (litres : List ℕ) → List ℕ
+litres-text i [] = []
+litres-text i (n ∷ ns) = parted (cond (eqb i 0) 9 44) n ++ litres-text (i + 1) ns
+
+pub litres-turn : (i : ℕ) (xs : List ℕ) (by n : ℕ) → i < length xs → by ≡ cond (eqb i 0) 9 44 → n ≡ getD xs i 0
+    → litres-text i (drop i xs) ≡ parted by n ++ litres-text (i + 1) (drop (i + 1) xs)
+litres-turn i xs by n h e f =
+    ap (litres-text i) (drop-next i xs h) ∙ ap₂ (λ b k. parted b k ++ litres-text (i + 1) (drop (i + 1) xs)) (sym e) (sym f)
+
+pub litres-over : (i : ℕ) (xs : List ℕ) → length xs ≤ i → litres-text i (drop i xs) ≡ []
+litres-over i xs h = ap (litres-text i) (drop-done i xs h)
 
 -- digests of the tape's cells that are lent, and of those past them
 abbrev pub letters-text : (lent : ℕ) → (tape : List ℕ) → List ℕ

@@ -3,11 +3,12 @@
 // cells, words and code bytes are lent, in decimal. The lent parts are the starts of larger arrays, whose cells are
 // set before each call. Each `put_` function puts its bytes into `out` from `at` on and answers where they end. What does
 // not fit is left out.
+ghost use mathlib.Core.Path.{_≡_};
 ghost use Rattle.canonical.specs.Canonicalize.{canonicalized-answer};
 ghost use Rattle.codes.specs.Flatten.{flattened-answer};
 ghost use Rattle.totals.specs.Totals.{totals-outcome};
 ghost use Rattle.text.specs.Text.{Puts};
-ghost use Rattle.vector_codes.specs.Answers.{answer-text, letters-text, settled-text};
+ghost use Rattle.vector_codes.specs.Answers.{answer-text, litres-text, letters-text, settled-text};
 use canonical::Canonicalized;
 use canonical::canonicalize;
 use codes::Flattened;
@@ -68,12 +69,16 @@ fn put_canonicalized(out: &mut [u8], answer: Canonicalized) -> usize
     }
 }
 
-fn wide(litres: u32) -> u64 {
+fn wide(litres: u32) -> u64
+    ensures { λ r. ⌜ r ≡ litres ⌝ }
+{
     litres as u64
 }
 
-fn put_litres(out: &mut [u8], at: usize, litres: &[u32]) -> usize {
-    let mut end = at;
+fn put_litres(out: &mut [u8], at: usize, litres: &[u32]) -> usize
+    ensures { λ r. ⌜ Puts (now (out .entry)) at (litres-text 0 (now (litres .entry))) (now (out .exit)) r ⌝ }
+{
+    let mut end = least(at, out.len());
     let mut i = 0;
     while i < litres.len() {
         end = put_parted(out, end, part_before(i), wide(litres[i]));

@@ -25,13 +25,17 @@ same-length : tie.Need-same-length
 same-length c = search needs
 
 returns : tie.Need-returns
-returns c = puts-answer _ _ (ap flattened-answer (sym (c .before .before .before .before .before .answer .given .1))) (c .before .before .put-pair .ensures)
+returns c =
+    let told = c .before .before .before .before .before in
+    puts-answer _ _ (ap flattened-answer (sym (told .answer .given .1))) (c .before .before .put-pair .ensures)
 
 same-length-2 : tie.Need-same-length-2
 same-length-2 c = search needs
 
 returns-2 : tie.Need-returns-2
-returns-2 c = puts-answer _ _ (ap flattened-answer (sym (c .before .before .before .before .before .answer2 .given .1))) (c .before .before .put-refusal .ensures)
+returns-2 c =
+    let told = c .before .before .before .before .before in
+    puts-answer _ _ (ap flattened-answer (sym (told .answer2 .given .1))) (c .before .before .put-refusal .ensures)
 
 pub put-flattened-spec : {M : Type 1} → statement M
 put-flattened-spec =

@@ -22,13 +22,17 @@ same-length : tie.Need-same-length
 same-length c = search needs
 
 returns : tie.Need-returns
-returns c = puts-answer _ _ (ap span-outcome (sym (c .before .before .before .before .enum-told .given .1))) (c .before .before .put-pair .ensures)
+returns c =
+    let told = c .before .before .before .before in
+    puts-answer _ _ (ap span-outcome (sym (told .enum-told .given .1))) (c .before .before .put-pair .ensures)
 
 same-length-2 : tie.Need-same-length-2
 same-length-2 c = search needs
 
 returns-2 : tie.Need-returns-2
-returns-2 c = puts-answer _ _ (ap span-outcome (sym (c .before .before .before .before .before .outcome .given .1))) (c .before .before .put-refusal .ensures)
+returns-2 c =
+    let told = c .before .before .before .before .before in
+    puts-answer _ _ (ap span-outcome (sym (told .outcome .given .1))) (c .before .before .put-refusal .ensures)
 
 pub put-outcome-spec : {M : Type 1} → statement M
 put-outcome-spec =
