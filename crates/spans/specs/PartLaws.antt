@@ -27,3 +27,8 @@ part-of-tape p lent piece code count l k r s letters place = record {
 pub pieces-apart : (v w : Option Visit) (tape one two : RefT (List ℕ)) → Part-of-tape v tape one → Part-of-tape w tape two
     → (start-of v ≡ start-of w → ⊥) → one .ptr ≡ two .ptr → ⊥
 pieces-apart v w tape one two a b apart e = apart (omega (arith, a .offset, b .offset, ap (λ x. x .1) e))
+
+-- the promise fixes letters and place
+pub piece-one : (v : Option Visit) (tape one two : RefT (List ℕ)) → Part-of-tape v tape one → Part-of-tape v tape two
+    → (one .now ≡ two .now) × (one .ptr .0 ≡ two .ptr .0) × (one .ptr .1 ≡ two .ptr .1)
+piece-one v tape one two a b = (a .letters ∙ sym (b .letters), a .block ∙ sym (b .block), a .offset ∙ sym (b .offset))
