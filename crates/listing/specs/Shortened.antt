@@ -16,7 +16,8 @@ use Rattle.syntax.specs.Letter.{letter-limit}
 use Rattle.refusals.specs.Refusals.{Answer, refused}
 use Rattle.syntax.specs.Table.{obeys}
 use Rattle.fields.specs.Text.{Row, byte-front, rows, place, single, account, line-of, row-line, fault, line-front, forms}
-use Rattle.loading.specs.Load.{forms-answer, forms-table, load-answer, load-table}
+use Rattle.loading.specs.Load.{load-answer, load-table}
+use Rattle.loading.specs.LoadForms.{forms-answer, forms-table, load-answer-is, load-table-is}
 use Rattle.scanning.specs.Scans.{first-fields, first-closed, first-size, parts-say, account-says}
 use Rattle.scanning.specs.Scanning.{
   line-no-place,
@@ -194,12 +195,11 @@ short-forms (suc k) i e text m h = next-forms k i (omega arith) (λ t n g. short
 
 module _ (text : List ℕ) (m : ℕ) (h : 1025 ≤ m) where
   pub load-answer-short : load-answer (take m text) ≡ load-answer text
-  unfolding load-answer
-  load-answer-short = ap forms-answer (short-forms 64 0 (omega arith) text m (omega arith))
+  load-answer-short =
+      load-answer-is (take m text) ∙ ap forms-answer (short-forms 64 0 (omega arith) text m (omega arith)) ∙ sym (load-answer-is text)
 
   pub load-table-short : load-table (take m text) ≡ load-table text
-  unfolding load-table
-  load-table-short = ap forms-table (short-forms 64 0 (omega arith) text m (omega arith))
+  load-table-short = load-table-is (take m text) ∙ ap forms-table (short-forms 64 0 (omega arith) text m (omega arith)) ∙ sym (load-table-is text)
 
 -- ── the tape ──
 -- what a tape that is too long is answered by

@@ -1,6 +1,9 @@
 pub mod Load
+pub mod LoadForms
 pub mod ReadLines
 pub mod Lines
 pub mod Loading
 pub mod LoadLaws
+-- The promise fixes outcome and table; the order of the causes.
 pub mod Unique
+pub mod Orders

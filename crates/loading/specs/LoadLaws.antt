@@ -5,20 +5,25 @@ use mathlib.Core.List.{List, [], _∷_}
 use mathlib.Core.Option.{Option, none, some}
 use Prim.Native.Nat.{ℕ, zero, suc, _+_, _-_, _≤_, _<_}
 use native.Mathlib.Omega.{arith}
-use borrow.Author.Tests.{ltb-true, le-leb}
+use borrow.Author.Tests.{ltb-true, le-leb, ne-eqb}
 use lib.Dec.{eqb, ltb, leb}
 use lib.ListN.{length, getD, replicate, List·getD-append}
 use Rattle.syntax.specs.declared.Leaf.the-variants.{Nothing, Letter, Range}
 use Rattle.syntax.specs.declared.Node.{Node}
 use Rattle.syntax.specs.declared.Node.the-variants.{Leaf as Leaf-node, Sequence, Alternative, Star}
 use Rattle.syntax.specs.declared.Line.{Line}
-use Rattle.syntax.specs.declared.Pattern.{Pattern}
 use Rattle.syntax.specs.Letter.{is-letter}
 use Rattle.fields.specs.Text.{place, single, account, when, node-of-none, node-of-one, range-of, parts-of, node-of-two, node-of, with-account}
 use Rattle.fields.specs.Text.{Row, line-of, row-line, rows, Forms, good, fault, line-front, forms}
 use Rattle.syntax.specs.Table.{blank, no-lines, line-at, node-good, line-good, badly-formed, lowest, tree-fault, is-none, obeys}
 use Rattle.syntax.specs.Lowest.{none-lowest}
-use Rattle.loading.specs.Load.{table, tree-answer, tree-table, forms-answer, forms-table, load-answer, load-table}
+use Rattle.refusals.specs.declared.Refusal.{Refusal}
+use Rattle.refusals.specs.Refusals.{answer}
+use Rattle.refusals.specs.RefusalLaws.{number-positive}
+use Rattle.refusals.specs.Checks.{First}
+use Rattle.refusals.specs.CheckLaws.{first-answered}
+use Rattle.loading.specs.Load.{table, written, load-order, load-answer, load-table, refused-load, Loads}
+use Rattle.loading.specs.LoadForms.{tree-answer, tree-table, forms-answer, forms-table, load-answer-is, load-table-is}
 use Rattle.syntax.specs.TableTest.{good-table}
 use Rattle.loading.specs.Loading.{forms-few}
 
@@ -116,8 +121,7 @@ pub record Accepted (text : List ℕ) : Type 0 where
   pub no-fault : tree-fault (table lines) ≡ none
 
 accepted : (text : List ℕ) → load-answer text .number ≡ 0 → Accepted text
-unfolding load-answer load-table
-accepted text h = go (forms 0 (rows text)) refl h
+accepted text h = go (forms 0 (rows text)) refl (sym (ap (λ a. a .number) (load-answer-is text)) ∙ h)
   where
     go : (f : Forms) → forms 0 (rows text) ≡ f → forms-answer f .number ≡ 0 → Accepted text
     go (fault j) e h = absurd (omega arith)
@@ -129,7 +133,7 @@ accepted text h = go (forms 0 (rows text)) refl h
         by none q h = record {
           lines = x ∷ xs;
           written = line-by-line (rows text) 0 (x ∷ xs) e;
-          table-is = ap forms-table e ∙ ap (tree-table (table (x ∷ xs))) q;
+          table-is = load-table-is text ∙ ap forms-table e ∙ ap (tree-table (table (x ∷ xs))) q;
           one = omega arith;
           few = omega (arith, forms-few (rows text) 0 (x ∷ xs) (omega arith) e);
           no-fault = q;
@@ -177,18 +181,19 @@ loaded-obeys text h = let a = accepted text h in ap obeys (a .table-is) ∙ pass
 
 -- 01: "A refused load gives a table of no lines, itself a departure from the tree rules."
 pub refused-no-lines : (text : List ℕ) → (load-answer text .number ≡ 0 → ⊥) → load-table text ≡ no-lines
-unfolding load-answer load-table
-refused-no-lines text h = go (forms 0 (rows text)) h
-  where
-    by : (p : Pattern) (o : Option ℕ) → (tree-answer p o .number ≡ 0 → ⊥) → tree-table p o ≡ no-lines
-    by p (some l) h = refl
-    by p none h = absurd (h refl)
-
-    go : (f : Forms) → (forms-answer f .number ≡ 0 → ⊥) → forms-table f ≡ no-lines
-    go (fault j) h = refl
-    go (good []) h = refl
-    go (good (x ∷ xs)) h = by (table (x ∷ xs)) (tree-fault (table (x ∷ xs))) h
+unfolding load-table
+refused-no-lines text h = rw (ne-eqb (load-answer text .number) 0 h)
 
 pub refused-fails : (text : List ℕ) → (load-answer text .number ≡ 0 → ⊥) → obeys (load-table text) ≡ false
 unfolding obeys no-lines
 refused-fails text h = ap obeys (refused-no-lines text h)
+
+-- the first cause that holds is answered, and the table has no lines
+pub load-refused : (text : List ℕ) (why : Refusal) → First why (load-order text) → Loads text (refused-load why)
+unfolding load-answer
+load-refused text why f =
+    let e = first-answered f (answer 0 (written (forms 0 (rows text)) .count)) in
+    record {
+      answers = sym e;
+      gives = sym (refused-no-lines text (λ z. omega (arith, number-positive why, sym (ap (λ a. a .number) e) ∙ z)));
+    }

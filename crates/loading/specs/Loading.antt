@@ -15,7 +15,8 @@ use Rattle.loading.specs.declared.lines.Read.{Read}
 use Rattle.fields.specs.Text.{Row, rows, row-line, Forms, good, fault, line-front, forms}
 use Rattle.syntax.specs.Table.{tree-fault}
 use Rattle.loading.specs.ReadLines.{read-as, Reads-lines}
-use Rattle.loading.specs.Load.{table, tree-answer, tree-table, forms-answer, forms-table, load-answer, load-table, refused-load, Loads}
+use Rattle.loading.specs.Load.{table, load-answer, load-table, refused-load, Loads}
+use Rattle.loading.specs.LoadForms.{tree-answer, tree-table, forms-answer, forms-table, load-answer-is, load-table-is}
 
 -- ── how many lines are read, and where a form fault can be ──
 pub forms-few : (rs : List Row) (i : ℕ) (xs : List Line) → i ≤ 64 → forms i rs ≡ good xs → i + length xs ≤ 64
@@ -47,12 +48,12 @@ forms-fault (r ∷ rs) i j h = go (forms-fault rs (suc i) j) (ltb i 64) refl (ro
 -- ── the ways of loading ──
 module _ (text : List ℕ) (r : Read) (h : Reads-lines text r) where
   pub load-form : r .fault ≤ 64 → Loads text (refused-load (LineForm (r .fault)))
-  unfolding Reads-lines load-answer load-table
+  unfolding Reads-lines
   load-form l = go (forms 0 (rows text)) refl h
     where
       go : (f : Forms) → forms 0 (rows text) ≡ f → read-as f r → Loads text (refused-load (LineForm (r .fault)))
       go (good xs) e q = absurd (omega arith)
-      go (fault j) e q = record { answers = rw (e, q); gives = rw e }
+      go (fault j) e q = record { answers = rw (load-answer-is text, e, q); gives = rw (load-table-is text, e) }
 
   -- a text without a form fault
   pub record Good-lines : Type 0 where
@@ -75,17 +76,17 @@ module _ (text : List ℕ) (r : Read) (h : Reads-lines text r) where
     load-few = let g = good-lines l in rw (g .pattern-is) (g .few)
 
     pub load-empty : r .pattern .count ≡ 0 → Loads text (refused-load (LineForm 0))
-    unfolding table load-answer load-table
+    unfolding table
     load-empty z = let g = good-lines l in go (g .lines) (g .is) (sym (ap (λ p. p .count) (g .pattern-is)) ∙ z)
       where
         go : (xs : List Line) → forms 0 (rows text) ≡ good xs → length xs ≡ 0 → Loads text (refused-load (LineForm 0))
-        go [] e n = record { answers = rw e; gives = rw e }
+        go [] e n = record { answers = rw (load-answer-is text, e); gives = rw (load-table-is text, e) }
         go (x ∷ xs) e n = absurd (omega arith)
 
     module _ (some-lines : r .pattern .count ≡ 0 → ⊥) where
       by-tree : (load-answer text ≡ tree-answer (r .pattern) (tree-fault (r .pattern))) × (load-table text ≡ tree-table (r .pattern) (tree-fault (r .pattern)))
-      unfolding table load-answer load-table
-      by-tree = let g = good-lines l in go (g .lines) (g .is) (g .pattern-is)
+      unfolding table
+      by-tree = let g = good-lines l in let q = go (g .lines) (g .is) (g .pattern-is) in (load-answer-is text ∙ q .0, load-table-is text ∙ q .1)
         where
           go :
               (xs : List Line) → forms 0 (rows text) ≡ good xs → r .pattern ≡ table xs

@@ -19,7 +19,8 @@ use Rattle.syntax.specs.Table.{tree-fault}
 use Rattle.refusals.specs.Refusals.{Answer}
 use Rattle.fields.specs.Text.{place, single, account, when, node-of-none, node-of-one, range-of, parts-of, node-of-two, node-of}
 use Rattle.fields.specs.Text.{with-account, line-of, row-line, Forms, good, fault, line-front, forms}
-use Rattle.loading.specs.Load.{table, tree-answer, forms-answer, load-answer}
+use Rattle.loading.specs.Load.{table, load-answer}
+use Rattle.loading.specs.LoadForms.{tree-answer, forms-answer, load-answer-is}
 use Rattle.theorems.specs.Paper03Pattern.{Line as Text-line, lines, fields, place-value, is-place, is-letter as is-letter-field, account-value}
 use Rattle.theorems.specs.Paper03Pattern.{kind-value, field, line-good, nodes-in, Refusal, refusal, forms-from, load-refusal}
 use Rattle.theorems.specs.Paper03Pattern.{or-else as or-refusal, tree-refusal}
@@ -215,8 +216,10 @@ module _ (x : Text-line) (ls : List Text-line) where
 
 -- THE SAME REFUSALS, for every text
 pub same-refusal : (text : List ℕ) → Agrees (load-refusal text) (load-answer text)
-unfolding load-refusal load-answer
-same-refusal text = subst (λ rs. Agrees (refusal-of (lines text)) (forms-answer (forms 0 rs))) (sym (rows-are text)) (by (lines text))
+unfolding load-refusal
+same-refusal text =
+    subst (λ a. Agrees (refusal-of (lines text)) a) (sym (load-answer-is text))
+    (subst (λ rs. Agrees (refusal-of (lines text)) (forms-answer (forms 0 rs))) (sym (rows-are text)) (by (lines text)))
   where
     by : (ls : List Text-line) → Agrees (refusal-of ls) (forms-answer (forms 0 (map row-of ls)))
     by [] = no-text

@@ -15,7 +15,8 @@ use Rattle.syntax.specs.declared.Line.{Line}
 use Rattle.syntax.specs.declared.Pattern.{Pattern}
 use Rattle.syntax.specs.Table.{blank, line-at, node-at, parts, member, named-below, rightly-named, wrongly-names, unnamed, lowest, or-else, tree-fault}
 use Rattle.fields.specs.Text.{rows, good, forms}
-use Rattle.loading.specs.Load.{table, tree-answer, tree-table, forms-answer, forms-table, load-answer, load-table}
+use Rattle.loading.specs.Load.{table, load-answer, load-table}
+use Rattle.loading.specs.LoadForms.{tree-answer, tree-table, forms-answer, forms-table, load-answer-is, load-table-is}
 use Rattle.loading.specs.LoadLaws.{loaded-obeys}
 use Rattle.theorems.specs.Paper03Pattern.{no-node, node, Line as Text-line, lines, nodes-in, forms-from, Refusal, refusal, load-refusal, loaded}
 use Rattle.theorems.specs.Paper03Pattern.{parts as parts-03, member as member-03, part-bad, tree-from, all-parts, unnamed-from}
@@ -199,12 +200,11 @@ pub record Loads-03 (text : List ℕ) : Type 0 where
 
 accepted : (text : List ℕ) (xs : List Line) → forms 0 (rows text) ≡ good xs → loaded text ≡ map line-as xs → tree-fault (table xs) ≡ none
     → (length xs ≡ 0 → ⊥) → Loads-03 text
-unfolding load-answer load-table
 accepted text [] e ns f some-line = absurd (some-line refl)
 accepted text (x ∷ xs) e ns f some-line = record {
   own = x ∷ xs;
-  answers = ap (λ o. forms-answer o .number) e ∙ ap (λ o. tree-answer (table (x ∷ xs)) o .number) f;
-  gives = ap forms-table e ∙ ap (tree-table (table (x ∷ xs))) f;
+  answers = ap (λ a. a .number) (load-answer-is text) ∙ ap (λ o. forms-answer o .number) e ∙ ap (λ o. tree-answer (table (x ∷ xs)) o .number) f;
+  gives = load-table-is text ∙ ap forms-table e ∙ ap (tree-table (table (x ∷ xs))) f;
   nodes = ns;
 }
 

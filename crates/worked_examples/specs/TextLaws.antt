@@ -8,7 +8,7 @@ use Rattle.syntax.specs.Tree.{Label, Tree, nothing, letter, range, seq, alt, st
 use Rattle.syntax.specs.Trees.{root, tree-of}
 use Rattle.fields.specs.Text.{rows, digit, one-digit, two-digits, place, single, account}
 use Rattle.fields.specs.Text.{node-of-none, node-of-one, range-of, parts-of, node-of-two, node-of, line-of, row-line, forms}
-use Rattle.loading.specs.Load.{table, load-table}
+use Rattle.loading.specs.Load.{table, load-answer, load-table}
 use Rattle.semantics.specs.Examples as short
 use Rattle.worked_examples.specs.Texts.{P1, P2, P3, P4, P5}
 
@@ -27,5 +27,5 @@ bare (star m again t) = star plain again (bare t)
 -- "P1: (a|e)*. P2: (e|a)*. P3: (a*b*)*. P4: (a|ab)(b|e). P5: a*a."
 pub texts-write : map (λ text. bare (root (load-table text))) (P1 ∷ P2 ∷ P3 ∷ P4 ∷ P5 ∷ []) ≡ short.P1 ∷ short.P2 ∷ short.P3 ∷ short.P4 ∷ short.P5 ∷ []
 unfolding P1 P2 P3 P4 P5 rows digit one-digit two-digits place single account node-of-none node-of-one range-of parts-of node-of-two node-of line-of
-    row-line forms table load-table is-letter wrongly-names unnamed tree-fault root tree-of
+    row-line forms table load-answer load-table is-letter wrongly-names unnamed tree-fault root tree-of
 texts-write = refl

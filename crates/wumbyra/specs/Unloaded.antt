@@ -1,31 +1,20 @@
 -- A text that does not load has a table of no lines, and every service on it answers 2 and 0.
-use mathlib.Core.Path.{_≡_, refl, sym, ap, _∙_}
-use mathlib.Core.Bool.{Bool, true, false, not, cond}
-use mathlib.Core.Option.{Option, none, some}
-use mathlib.Core.List.{List, [], _∷_}
+use mathlib.Core.Path.{_≡_, refl, ap, _∙_}
+use mathlib.Core.Bool.{false}
+use mathlib.Core.List.{List}
 use Prim.Native.Nat.{ℕ, zero, suc, _≤_}
 use native.Mathlib.Omega.{arith}
 use lib.ListN.{getD, replicate}
-use Rattle.syntax.specs.declared.Pattern.{Pattern}
 use Rattle.refusals.specs.Refusals.{answer}
-use Rattle.fields.specs.Text.{rows, Forms, good, fault, forms}
-use Rattle.syntax.specs.Table.{no-lines, obeys, tree-fault}
-use Rattle.loading.specs.Load.{table, tree-answer, forms-answer, tree-table, forms-table, load-answer, load-table}
+use Rattle.syntax.specs.Table.{no-lines, obeys}
+use Rattle.loading.specs.Load.{load-answer, load-table}
+use Rattle.loading.specs.LoadLaws.{refused-no-lines}
 use Rattle.codes.specs.Flatten.{flatten-answer}
 use Rattle.totals.specs.Totals.{no-litres, totals-answer, totals-litres}
 use Rattle.spans.specs.Spans.{span-answer, span-shown}
 use Rattle.parser.specs.Parse.{early}
 use Rattle.packing.specs.Packing.{unpacked, in-cells}
 use Rattle.wumbyra.specs.Packed.{span-text, total-text, Totals-text}
-
-by-tree : (p : Pattern) (o : Option ℕ) → 1 ≤ tree-answer p o .number → tree-table p o ≡ no-lines
-by-tree p none h = absurd (omega arith)
-by-tree p (some l) h = refl
-
-by-forms : (f : Forms) → 1 ≤ forms-answer f .number → forms-table f ≡ no-lines
-by-forms (fault l) h = refl
-by-forms (good []) h = refl
-by-forms (good (x ∷ xs)) h = by-tree (table (x ∷ xs)) (tree-fault (table (x ∷ xs))) h
 
 zeros : (n i : ℕ) → _≡_ {A = ℕ} (getD (replicate n 0) i 0) 0
 zeros zero i = refl
@@ -34,8 +23,7 @@ zeros (suc n) (suc i) = zeros n i
 
 module _ (text : List ℕ) (h : 1 ≤ load-answer text .number) where
   pub no-table : load-table text ≡ no-lines
-  unfolding load-answer load-table
-  no-table = by-forms (forms 0 (rows text)) h
+  no-table = refused-no-lines text (λ z. omega (arith, h, z))
 
   pub not-obeyed : obeys (load-table text) ≡ false
   unfolding obeys no-lines
