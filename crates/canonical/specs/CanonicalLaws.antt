@@ -22,17 +22,17 @@ use Rattle.refusals.specs.Checks.{Check, First, Clear}
 use Rattle.refusals.specs.CheckLaws.{first-answered, first-positive, first-more, clear-success, clear-more}
 use Rattle.refusals.specs.CheckLaws.{clear-parts, zero-clear, refused-first}
 use Rattle.syntax.specs.Table.{obeys, line-at, node-at, line-good, node-good}
-use Rattle.syntax.specs.Tree.{Label, Tree, nothing, letter, range, seq, alt, star}
+use Rattle.syntax.specs.Tree.{Label, Tree}
 use Rattle.syntax.specs.Trees.{made, tree-of, root}
 use Rattle.syntax.specs.TreeLaws.{Below, Rules, obeys-iff, tree-line}
 use Rattle.bits.specs.Bits.{in-front}
-use Rattle.semantics.specs.Value.{Value, flat}
+use Rattle.semantics.specs.Value.{flat}
 use Rattle.semantics.specs.LetterLaws.{Lettered, flat-letters}
 use Rattle.semantics.specs.VisitLaws.{All}
 use Rattle.steps.specs.StateSets.{words}
 use Rattle.codes.specs.declared.Flattened.{Flattened}
 use Rattle.codes.specs.declared.Flattened.the-variants.{Letters, Refused as Not-flattened}
-use Rattle.walks.specs.Whole.{whole-code, letters-of}
+use Rattle.walks.specs.Whole.{whole-code}
 use Rattle.codes.specs.Flatten.{flatten-order, flatten-answer, flatten-tape, flattened-answer, Flattens}
 use Rattle.codes.specs.FlattenLaws.{flatten-fills}
 use Rattle.walks.specs.WholeLaws.{whole-handed, whole-value, spells}

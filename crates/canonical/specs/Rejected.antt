@@ -2,10 +2,10 @@
 -- `canonicalize` allows are those of a settling that hands the code back.
 use mathlib.Core.Path.{_≡_, refl, sym, ap, _∙_}
 use mathlib.Core.Bool.{true, false, true≢false, false≢true}
-use mathlib.Core.List.{List, [], _∷_}
+use mathlib.Core.List.{[], _∷_}
 use Prim.Native.Nat.{ℕ, zero, suc, _≤_}
 use native.Mathlib.Omega.{arith}
-use lib.ListN.{length, getD, replicate}
+use lib.ListN.{getD, replicate}
 use Rattle.syntax.specs.declared.Leaf.the-variants.{Nothing, Letter}
 use Rattle.syntax.specs.declared.Line.{Line}
 use Rattle.syntax.specs.declared.Node.{Node}

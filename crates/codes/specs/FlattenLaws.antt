@@ -21,7 +21,6 @@ use Rattle.refusals.specs.CheckLaws.{first-answered, clear-success}
 use Rattle.bits.specs.Bits.{in-front}
 use Rattle.table.specs.Cells.{tree-in, Holds}
 use Rattle.table.specs.CellLaws.{holds-tree}
-use Rattle.codes.specs.declared.Flattened.{Flattened}
 use Rattle.codes.specs.declared.Flattened.the-variants.{Letters, Refused}
 use Rattle.walks.specs.Whole.{whole-code, letters-of}
 use Rattle.codes.specs.Flatten.{flatten-order, flatten-answer, flatten-tape, Flattens}

@@ -7,7 +7,7 @@ use Prim.Native.Nat.{ℕ, suc, _+_, _*_, _≤_, _<_}
 use native.Mathlib.Omega.{arith}
 use native.Mathlib.Decide.{decLt}
 use lib.ListN.{length, length-append, length-set, set}
-use lib.Seq.{sets, length-sets, set-out}
+use lib.Seq.{sets, set-out}
 use Rattle.syntax.specs.declared.Leaf.{Leaf}
 use Rattle.syntax.specs.declared.Node.{Node}
 use Rattle.syntax.specs.declared.Node.the-variants.{Leaf as Leaf-node, Sequence, Alternative, Star}

@@ -4,7 +4,6 @@ use mathlib.Core.List.{List, [], _∷_}
 use mathlib.Core.Option.{Option, none, some}
 use Prim.Native.Nat.{ℕ, suc, _+_, _*_, _-_}
 use lib.Dec.{ltb, leb, eqb}
-use Rattle.syntax.specs.declared.Leaf.{Leaf}
 use Rattle.syntax.specs.declared.Leaf.the-variants.{Nothing, Letter, Range}
 use Rattle.syntax.specs.declared.Node.{Node}
 use Rattle.syntax.specs.declared.Node.the-variants.{Leaf as Leaf-node, Sequence, Alternative, Star}

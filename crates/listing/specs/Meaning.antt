@@ -1,11 +1,10 @@
 -- What a listing says, in the terms of 01 and 001: the definition's computed parts (`readable`, `greedy`, `value-of`) are joined to
 -- values here.
-use mathlib.Core.Path.{_≡_, refl, ap, _∙_}
+use mathlib.Core.Path.{_≡_, refl, _∙_}
 use mathlib.Core.Bool.{Bool, true, false}
 use mathlib.Core.List.{List, _++_}
 use Prim.Native.Nat.{ℕ, suc}
 use borrow.Author.Tests.{eq-eqb, ne-eqb}
-use lib.Dec.{eqb}
 use lib.ListN.{length}
 use Rattle.syntax.specs.declared.Pattern.{Pattern}
 use Rattle.refusals.specs.declared.Refusal.the-variants.{Unreadable}
@@ -17,7 +16,6 @@ use Rattle.semantics.specs.Value.{Value, flat}
 use Rattle.semantics.specs.Order.{Greedy}
 use Rattle.semantics.specs.Code.{code}
 use Rattle.semantics.specs.Accounts.{accounts, totals}
-use Rattle.semantics.specs.Decode.{value-of}
 use Rattle.semantics.specs.Sweeps.{readable, greedy}
 use Rattle.semantics.specs.CodeLaws.{value-of-code}
 use Rattle.semantics.specs.GreedyLaws.{canonical-greedy, readable-iff}

@@ -1,25 +1,23 @@
 -- Laws of reading a text line by line.
 use mathlib.Core.Path.{_≡_, refl, sym, ap, ap₂, _∙_}
-use mathlib.Core.Bool.{Bool, true, false, cond, true≢false, false≢true}
+use mathlib.Core.Bool.{Bool, true, false, cond, false≢true}
 use mathlib.Core.List.{List, [], _∷_, _++_, append-assoc, append-nil}
 use mathlib.Core.Option.{Option, none, some}
-use Prim.Native.Nat.{ℕ, zero, suc, _+_, _-_, _≤_, _<_}
-use native.Mathlib.Numerals.{add-one}
+use Prim.Native.Nat.{ℕ, suc, _+_, _-_, _≤_, _<_}
 use native.Mathlib.Omega.{arith}
-use borrow.Author.Tests.{lt-ltb, le-ltb, ltb-true, eqb-true}
+use borrow.Author.Tests.{lt-ltb, le-ltb}
 use lib.Dec.{eqb, ltb}
-use lib.ListN.{length, getD, set, take, drop, replicate, length-set, length-drop, length-append, length-replicate, take-append-drop, drop-of-length-le}
+use lib.ListN.{length, getD, set, take, drop, replicate, length-set, length-drop, take-append-drop, drop-of-length-le}
 use lib.Seq.{take-suc-set, drop-set-lt, drop-cons, length-take-le, drop-drop}
 use Rattle.syntax.specs.declared.Line.{Line}
 use Rattle.syntax.specs.declared.Pattern.{Pattern}
-use Rattle.loading.specs.declared.lines.Read.{Read}
 use Rattle.scanning.specs.declared.Scanned.{Scanned}
 use Rattle.scanning.specs.declared.Scanned.the-variants.{Line as Scan-line, Fault as No-line}
 use Rattle.fields.specs.Text.{Row, byte-front, row-front, rows, line-of, row-line, Forms, good, fault, line-front, forms}
 use Rattle.syntax.specs.Table.{blank, no-lines}
 use Rattle.loading.specs.Load.{table}
 use Rattle.scanning.specs.Scans.{first-fields, first-closed, first-size, scan-of, scan-by, scanned}
-use Rattle.loading.specs.ReadLines.{read-as, Reads-lines, lines-front, Read-so-far}
+use Rattle.loading.specs.ReadLines.{Reads-lines, lines-front, Read-so-far}
 
 -- ── the first line of a text ──
 abbrev first-row : List ℕ → Row

@@ -1,7 +1,6 @@
 -- Packing and unpacking take each other back.
 use mathlib.Core.Path.{_≡_, ap₂}
-use Prim.Native.Nat.{ℕ, _+_, _*_, _/_, _%_, _<_}
-use native.Mathlib.Omega.{arith}
+use Prim.Native.Nat.{ℕ, _+_, _*_, _<_}
 use Rattle.refusals.specs.Refusals.{answer}
 use Rattle.bits.specs.Fields.{splits-back, joins-back}
 use Rattle.packing.specs.Packing.{unpacked}

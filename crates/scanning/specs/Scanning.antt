@@ -1,9 +1,9 @@
 -- Laws of scanning: a field that was read, and what it leaves to scan or decides.
-use mathlib.Core.Path.{_≡_, refl, sym, ap, ap₂, _∙_}
-use mathlib.Core.Bool.{Bool, true, false, _&&_, cond, true≢false}
+use mathlib.Core.Path.{_≡_, refl, ap, _∙_}
+use mathlib.Core.Bool.{Bool, true, false, _&&_, cond}
 use mathlib.Core.List.{List, [], _∷_}
 use mathlib.Core.Option.{Option, none, some}
-use Prim.Native.Nat.{ℕ, zero, suc, _+_, _≤_, _<_}
+use Prim.Native.Nat.{ℕ, suc, _+_, _<_}
 use native.Mathlib.Omega.{arith}
 use borrow.Author.Tests.{eq-eqb, ne-eqb, lt-ltb, le-ltb}
 use lib.Dec.{eqb, ltb}
@@ -12,14 +12,13 @@ use lib.Seq.{drop-drop}
 use Rattle.fields.specs.declared.Field.{Field}
 use Rattle.syntax.specs.declared.Node.{Node}
 use Rattle.syntax.specs.declared.Line.{Line}
-use Rattle.scanning.specs.declared.Scanned.{Scanned}
-use Rattle.scanning.specs.declared.Scanned.the-variants.{Line as Scan-line, Fault as No-line}
+use Rattle.scanning.specs.declared.Scanned.the-variants.{Fault as No-line}
 use Rattle.syntax.specs.Letter.{is-letter}
 use Rattle.fields.specs.Text.{place, single, account, when, node-of-none, node-of-one, range-of, parts-of, node-of-two, node-of, with-account, line-of}
 use Rattle.fields.specs.Fields.{word}
 use Rattle.scanning.specs.Scans.{first-fields, first-closed, first-size, parsed, finished, scan-of, scan-by, scanned}
 use Rattle.scanning.specs.Scans.{parts-say, account-says, parts-scanned, account-scanned}
-use Rattle.scanning.specs.Cuts.{Cut, tab, newline, unclosed, Reads, cut, long, some-field}
+use Rattle.scanning.specs.Cuts.{tab, newline, unclosed, Reads, cut, long, some-field}
 
 abbrev pub Says : Type 0
 Says = List (List ℕ) → Option Line

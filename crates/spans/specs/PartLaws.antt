@@ -9,7 +9,7 @@ use denote.Ref.{RefT}
 use Rattle.syntax.specs.declared.Pattern.{Pattern}
 use Rattle.semantics.specs.Visits.{Visit}
 use Rattle.spans.specs.declared.Spanned.{Spanned}
-use Rattle.spans.specs.Spans.{start-of, span-shown, piece-of, Spans}
+use Rattle.spans.specs.Spans.{start-of, span-shown, Spans}
 use Rattle.spans.specs.Parts.{Part-of-tape}
 use Rattle.spans.specs.Pieces.{part}
 

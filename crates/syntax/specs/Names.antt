@@ -1,23 +1,23 @@
 -- Laws of naming: the flags say what the tree rules say.
-use mathlib.Core.Path.{_≡_, refl, sym, ap, ap₂, _∙_}
-use mathlib.Core.Bool.{Bool, true, false, _&&_, _||_, not, cond, true≢false, false≢true}
+use mathlib.Core.Path.{_≡_, refl, sym, ap, _∙_}
+use mathlib.Core.Bool.{Bool, true, false, _&&_, _||_, not, cond, false≢true}
 use mathlib.Core.List.{List, [], _∷_, _++_}
 use mathlib.Core.Option.{Option, none, some}
-use Prim.Native.Nat.{ℕ, zero, suc, _+_, _-_, _≤_, _<_}
+use Prim.Native.Nat.{ℕ, _+_, _-_, _≤_, _<_}
 use native.Mathlib.Numerals.{add-one}
 use native.Mathlib.Omega.{arith}
 use native.Mathlib.Decide.{decLt}
 use borrow.Author.Tests.{lt-ltb, le-ltb, ltb-true, eqb-true, eqb-false}
 use lib.Dec.{eqb, ltb}
-use lib.ListN.{length, getD, set, replicate, length-set, getD-replicate, length-replicate}
+use lib.ListN.{length, getD, set, replicate, length-set, getD-replicate}
 use lib.Seq.{getD-set-same, getD-set-other}
 use Rattle.syntax.specs.declared.Pattern.{Pattern}
 use Rattle.syntax.specs.declared.naming.Naming.{Naming}
 use Rattle.syntax.specs.declared.naming.Names.{Names}
-use Rattle.syntax.specs.declared.naming.TreeFault.the-variants.{Line as Fault-line, Nothing as No-fault}
+use Rattle.syntax.specs.declared.naming.TreeFault.the-variants.{Line as Fault-line}
 use Rattle.syntax.specs.Table.{node-at, parts, named-below, member, rightly-named, wrongly-names, unnamed, lowest, or-else, tree-fault}
 use Rattle.syntax.specs.Bools.{and-fst}
-use Rattle.syntax.specs.Lowest.{lowest-within, lowest-same, Searched, searched-start, searched-end, searched-here, searched-on}
+use Rattle.syntax.specs.Lowest.{lowest-within, lowest-same, searched-start, searched-end, searched-here, searched-on}
 use Rattle.syntax.specs.Naming.{naming, name-one, name-next, name-all, Flags, index-or, Named-so-far, Names-wrongly, not-flagged, first-unnamed}
 use Rattle.syntax.specs.Naming.{fault-of}
 

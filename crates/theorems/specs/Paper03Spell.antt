@@ -4,7 +4,7 @@ use mathlib.Core.Bool.{Bool, true, false, _&&_, cond}
 use mathlib.Core.List.{List, _++_}
 use Prim.Native.Nat.{ℕ, zero, suc, _≤_, _<_}
 use native.Mathlib.Omega.{arith}
-use borrow.Author.Tests.{eqb-true, eqb-false, ne-eqb, ltb-true, ltb-false, lt-leb, lt-ltb, le-leb, le-ltb}
+use borrow.Author.Tests.{eqb-true, eqb-false, ne-eqb, ltb-true, ltb-false, lt-ltb, le-ltb}
 use lib.Dec.{ltb, eqb}
 use lib.ListN.{length, drop}
 use Rattle.syntax.specs.declared.Pattern.{Pattern}
@@ -82,7 +82,7 @@ module _ (q : Pattern) (bs : List ℕ) (n : ℕ) (tape : List ℕ) where
     module _ (w : whole-code (root q) bs n ≡ true) where
       answers-3 : letter-limit < length (letters-of (root q) bs n) → flatten-answer q bs n (length tape) ≡ answer 3 0
       unfolding flatten-answer
-      answers-3 l = simp (good, w, lt-leb (length own) letter-limit l, lt-ltb letter-limit (length own) l)
+      answers-3 l = simp (good, w, lt-ltb letter-limit (length own) l)
 
       answers-9 : length (letters-of (root q) bs n) ≤ letter-limit → length tape < length (letters-of (root q) bs n)
           → flatten-answer q bs n (length tape) ≡ answer 9 (length (letters-of (root q) bs n))
@@ -91,9 +91,7 @@ module _ (q : Pattern) (bs : List ℕ) (n : ℕ) (tape : List ℕ) where
           simp (
             good,
             w,
-            le-leb (length own) letter-limit f,
             le-ltb letter-limit (length own) f,
-            lt-leb (length own) (length tape) l,
             lt-ltb (length tape) (length own) l,
           )
 

@@ -5,7 +5,7 @@ use mathlib.Core.Bool.{true, cond}
 use mathlib.Core.Option.{Option, none, some}
 use mathlib.Core.List.{List, [], _∷_}
 use Prim.Native.Nat.{ℕ, _≤_}
-use borrow.Author.Tests.{le-leb, le-ltb, eq-eqb}
+use borrow.Author.Tests.{le-ltb, eq-eqb}
 use lib.Dec.{eqb}
 use lib.ListN.{length}
 use Rattle.syntax.specs.declared.Pattern.{Pattern}
@@ -44,9 +44,7 @@ module _ (p : Pattern) (code : List ℕ) (count : ℕ) (good : obeys p ≡ true)
         simp (
           good,
           whole,
-          le-leb (length own) letter-limit few,
           le-ltb letter-limit (length own) few,
-          le-leb (length own) (length tape) room,
           le-ltb (length tape) (length own) room,
         )
 
@@ -56,7 +54,7 @@ module _ (p : Pattern) (code : List ℕ) (count : ℕ) (good : obeys p ≡ true)
 
   pub totals-answers : totals-answer p code count ≡ answer 0 0
   unfolding totals-answer
-  totals-answers = simp (good, whole, le-leb (length own) letter-limit few, le-ltb letter-limit (length own) few)
+  totals-answers = simp (good, whole, le-ltb letter-limit (length own) few)
 
   pub totals-adds : totals-litres p code count ≡ totals (entries-of (root p) code count)
   unfolding totals-litres
@@ -78,7 +76,6 @@ module _ (p : Pattern) (code : List ℕ) (count : ℕ) (good : obeys p ≡ true)
         go none q =
             simp (
               good,
-              le-leb (length tape) letter-limit short,
               le-ltb letter-limit (length tape) short,
               le-ltb (first-bad tape) (length tape) letters,
               of-tape,
@@ -87,7 +84,6 @@ module _ (p : Pattern) (code : List ℕ) (count : ℕ) (good : obeys p ≡ true)
         go (some x) q =
             simp (
               good,
-              le-leb (length tape) letter-limit short,
               le-ltb letter-limit (length tape) short,
               le-ltb (first-bad tape) (length tape) letters,
               of-tape,

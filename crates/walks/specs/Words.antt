@@ -1,15 +1,14 @@
 -- What is spelled from a position of a code on, and the position behind it: the equations of a walk for the spelling.
 use mathlib.Core.Path.{_≡_, refl, sym, ap, _∙_}
 use mathlib.Core.Bool.{Bool, true, false, cond, not}
-use mathlib.Core.Option.{Option, none, some, Option·none-ne-some, Option·some-injective}
+use mathlib.Core.Option.{none, some, Option·none-ne-some, Option·some-injective}
 use mathlib.Core.List.{List, [], _∷_, _++_}
 use Prim.Native.Nat.{ℕ, _+_, _*_, _≤_, _<_}
-use native.Mathlib.Omega.{arith}
-use lib.ListN.{length, getD}
+use lib.ListN.{length}
 use Rattle.syntax.specs.Letter.{in-range}
 use Rattle.syntax.specs.Tree.{Label, Tree, nothing, letter, range, seq, alt, star}
 use Rattle.bits.specs.Bits.{bit-at, number-at, held}
-use Rattle.semantics.specs.Value.{Value, flat}
+use Rattle.semantics.specs.Value.{flat}
 use Rattle.semantics.specs.Positions.{Seen, see, joined, and-then}
 use Rattle.walks.specs.Looks.{look-stays, look-nothing, look-letter, look-short, look-range, look-outside, look-seq, look-alt-none, look-left}
 use Rattle.walks.specs.Looks.{look-right, look-star-none, look-stop, look-round}

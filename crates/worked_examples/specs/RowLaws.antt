@@ -36,8 +36,7 @@ use Rattle.fields.specs.Text.{
   row-line,
   forms,
 }
-use Rattle.loading.specs.declared.Loaded.{Loaded}
-use Rattle.loading.specs.Load.{table, load-answer, load-table, Loads}
+use Rattle.loading.specs.Load.{table, load-answer, load-table}
 use Rattle.loading.specs.LoadLaws.{loaded-obeys}
 use Rattle.semantics.specs.Automaton.{top}
 use Rattle.semantics.specs.Decode.{value-of, is-code, spelled}
@@ -53,7 +52,6 @@ use Rattle.parser.specs.Parse.{parsed-answer, Reads-greedily, Parses}
 use Rattle.parser.specs.ParseLaws.{Tested, filled-at, root-index, parse-unreadable}
 use Rattle.parser.specs.Rejected.{reads-greedy}
 use Rattle.parser.specs.Unique.{parses-one}
-use Rattle.canonical.specs.declared.Canonicalized.{Canonicalized}
 use Rattle.canonical.specs.Canonicalize.{canonicalized-answer, Canonicalizes}
 use Rattle.canonical.specs.CanonicalLaws.{settles}
 use Rattle.canonical.specs.RoundTrip.{letters-readable}

@@ -1,7 +1,6 @@
 -- The texts write the patterns that 01 writes short: what is loaded is the tree of crate semantics' table, but for places and accounts.
 use mathlib.Core.Path.{_≡_, refl}
-use mathlib.Core.List.{List, [], _∷_, map}
-use Prim.Native.Nat.{ℕ}
+use mathlib.Core.List.{[], _∷_, map}
 use Rattle.syntax.specs.Letter.{is-letter}
 use Rattle.syntax.specs.Table.{wrongly-names, unnamed, tree-fault}
 use Rattle.syntax.specs.Tree.{Label, Tree, nothing, letter, range, seq, alt, star}

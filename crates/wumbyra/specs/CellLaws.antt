@@ -1,13 +1,12 @@
 -- What each lent cell holds after the call for all accounts.
-use mathlib.Core.Path.{_≡_, refl, sym, ap, ap₂, _∙_}
+use mathlib.Core.Path.{_≡_, refl, ap, _∙_}
 use mathlib.Core.Bool.{Bool, true, false, cond}
-use mathlib.Core.List.{List, _++_}
-use Prim.Native.Nat.{ℕ, suc, _+_, _≤_, _<_, min}
+use mathlib.Core.List.{List}
+use Prim.Native.Nat.{ℕ, _<_}
 use native.Mathlib.Omega.{arith}
-use native.Mathlib.Decide.{decLe}
 use lib.Dec.{eqb}
-use lib.ListN.{length, take, drop, getD, set, length-set, length-take, List·getD-append}
-use lib.Seq.{take-all, getD-take, paste, paste-zero, paste-suc}
+use lib.ListN.{length, take, drop, getD, length-take, List·getD-append}
+use lib.Seq.{getD-take}
 use Rattle.bits.specs.Bits.{in-front}
 use Rattle.syntax.specs.Trees.{root}
 use Rattle.semantics.specs.Accounts.{totals as added-up}

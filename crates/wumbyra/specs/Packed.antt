@@ -4,7 +4,6 @@ use mathlib.Core.Option.{Option, none, some}
 use mathlib.Core.List.{List}
 use Prim.Native.Nat.{ℕ, _+_, _*_}
 use lib.ListN.{length, getD}
-use Rattle.syntax.specs.declared.Pattern.{Pattern}
 use Rattle.refusals.specs.Refusals.{Answer, answer}
 use Rattle.loading.specs.Load.{load-table}
 use Rattle.packing.specs.Packing.{unpacked, in-cells}

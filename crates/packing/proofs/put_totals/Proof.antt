@@ -1,6 +1,5 @@
 -- `packing::put_totals` meets its contract: at each turn as many totals are laid as turns were made.
 use Prim.Native.Nat.{_-_}
-use native.Mathlib.Omega.{arith}
 use Rattle.packing.specs.Laying.{Laid, laid-none, laid-one, laid-all}
 use borrow.Author.Needs.{needs}
 use Rattle.packing.proofs.put_totals.Statement.{statement}

@@ -1,7 +1,7 @@
 -- `scanning::parse_two` meets its contract.
 use Rattle.fields.specs.Text.{range-of}
 use Rattle.scanning.specs.Scans.{parsed}
-use mathlib.Core.Path.{ap, ap₂, _∙_}
+use mathlib.Core.Path.{ap₂, _∙_}
 use Rattle.scanning.specs.Parsing.{two-range, two-no-first, two-no-second, two-sequence, two-alternative, two-other}
 use borrow.Author.Needs.{needs}
 use Rattle.scanning.proofs.parse_two.Statement.{statement}

@@ -1,7 +1,6 @@
 -- `tapelist::read_all` is safe and ends. The length of `buf` stays; the measure is what is left of it.
 use mathlib.Core.Path.{_≡_}
 use Prim.Native.Nat.{_-_, _≤_}
-use native.Mathlib.Omega.{arith}
 use lib.ListN.{length}
 use borrow.Author.Needs.{needs}
 use Rattle.tapelist.proofs.read_all.Statement.{statement}

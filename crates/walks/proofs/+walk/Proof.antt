@@ -6,7 +6,7 @@ use Rattle.walks.specs.Words.{star-none-is, stop-is, round-is}
 use Rattle.walks.specs.Lines.{line-as, seq-is, alt-none-is, side-is, side-lower, star-as, leaf-formed, first-lower, second-lower, star-lower}
 use Rattle.table.specs.Cells.{tree-in}
 use borrow.Author.Tests.{not-true, not-false}
-use mathlib.Core.List.{List, []}
+use mathlib.Core.List.{[]}
 use mathlib.Core.Path.{sym, ap, _∙_}
 use Prim.Native.Nat.{ℕ, _<_, _+_, _*_, _-_}
 use native.Mathlib.Omega.{arith}

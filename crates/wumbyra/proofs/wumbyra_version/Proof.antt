@@ -1,5 +1,4 @@
 -- `wumbyra::wumbyra_version` meets its contract.
-use borrow.Author.Needs.{needs}
 use mathlib.Core.Path.{refl}
 use Rattle.wumbyra.proofs.wumbyra_version.Statement.{statement}
 use Rattle.wumbyra.proofs.wumbyra_version.Tie as tie

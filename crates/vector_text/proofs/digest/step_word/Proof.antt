@@ -1,5 +1,5 @@
 -- `vector_text::digest::step_word` meets its contract: the low half, then the high one.
-use mathlib.Core.Path.{_≡_, ap, _∙_}
+use mathlib.Core.Path.{ap, _∙_}
 use Prim.Native.Nat.{_/_}
 use Rattle.vector_text.specs.Cases.{digest-step}
 use borrow.Author.Needs.{needs}
