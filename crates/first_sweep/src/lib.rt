@@ -1,8 +1,4 @@
 // The first sweep: the state sets of a tape's positions (01: marks), from the tape's end to its start.
-// It is apart from crate masks because its edits then do not cost the masks' proofs again. `step` is told whether the next position is the tape's
-// end: the next flag 1 state set does not say it, since for the pattern `a` it is 0 at the end and 0 where nothing can be read. `step` asks
-// nothing of its arrays, so that a caller may keep its words elsewhere. Steps are remembered in 32 slots by letter: any slot is right, and on a
-// tape of readings most positions are like an earlier one.
 ghost use mathlib.Core.Path.{_≡_};
 ghost use Rattle.bits.specs.Bits.{in-front};
 ghost use Rattle.table.specs.Cells.{Holds};

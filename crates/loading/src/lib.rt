@@ -1,6 +1,6 @@
 // Loading a pattern: the table that a text writes, or the first line at fault.
-// It is apart from crate syntax because only callers with texts need it, and its edits do not cost the table's proofs again. A text is read from
-// front to back and no further than decides it.
+// It is apart from crate syntax because only callers with texts need it. A text is read from front to back and no further than decides it; crate
+// scanning reads a line, crate fields a field.
 ghost use mathlib.Core.Path.{_≡_};
 ghost use Rattle.loading.specs.Load.{refused-load, Loads};
 

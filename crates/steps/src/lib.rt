@@ -1,4 +1,7 @@
 // One step of the first sweep: the two state sets of a position out of the next position's (01: marks), and the memo of steps made before.
+// `step` is told whether the next position is the tape's end: the next flag 1 state set does not say it, since for the pattern `a` it is 0 at the
+// end and 0 where nothing can be read. It asks nothing of its arrays, so that a caller may keep its words elsewhere. Steps are remembered in 32
+// slots by letter: any slot is right, and on a tape of readings most positions are like an earlier one.
 ghost use mathlib.Core.Path.{_≡_};
 ghost use mathlib.Core.Bool.{_&&_};
 ghost use lib.Dec.{eqb};
