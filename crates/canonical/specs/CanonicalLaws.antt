@@ -109,7 +109,7 @@ module _ (p : Pattern) (r : Rules p) where
   made-lettered m f l (Leaf-node (Range x y)) g b h = tt
   made-lettered m f l (Sequence x y) g b h = (h x (b .0), h y (b .1))
   made-lettered m f l (Alternative x y) g b h = (h x (b .0), h y (b .1))
-  made-lettered m f l (Star x) g b h = h x b
+  made-lettered m f l (Star again x) g b h = h x b
 
   node-formed : (l : ℕ) → l < p .count → node-good (node-at p l) ≡ true
   unfolding line-good

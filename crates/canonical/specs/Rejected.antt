@@ -32,7 +32,7 @@ one-letter c = line (Leaf-node (Letter c))
 
 -- "P1: (a|e)*"
 abbrev pub P1 : Pattern
-P1 = record { count = 4; lines = one-letter 97 ∷ line (Leaf-node Nothing) ∷ line (Alternative 0 1) ∷ line (Star 2) ∷ replicate 60 blank }
+P1 = record { count = 4; lines = one-letter 97 ∷ line (Leaf-node Nothing) ∷ line (Alternative 0 1) ∷ line (Star false 2) ∷ replicate 60 blank }
 
 obeys-P1 : obeys P1 ≡ true
 unfolding obeys line-good wrongly-names unnamed tree-fault is-letter

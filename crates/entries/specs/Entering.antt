@@ -19,6 +19,7 @@ use Rattle.semantics.specs.Accounts.{handed-down}
 use Rattle.semantics.specs.AccountLaws.{letters}
 use Rattle.semantics.specs.Positions.{Seen, joined}
 use Rattle.table.specs.Cells.{node-in, account-in, tree-in, Good}
+use Rattle.walks.specs.Looks.{stops}
 use Rattle.walks.specs.Words.{same-seen, then-some}
 use Rattle.walks.specs.Walks.{cap}
 use Rattle.walks.specs.Lines.{line-as, star-as, first-lower, second-lower, side-lower, star-lower}
@@ -251,8 +252,8 @@ module _ {table : List ℕ} {l o w : ℕ} {n : Node} (k : At-line table l o w n)
   pub side-below : (p q : ℕ) → n ≡ Alternative p q → (b : Bool) (r : ℕ) → r ≡ cond b q p → r < l
   side-below p q e b r er = side-lower (k .good) l (k .below) n (k .node) p q e b r er
 
-  pub star-below : (p : ℕ) → n ≡ Star p → p < l
-  star-below p e = star-lower (k .good) l (k .below) n (k .node) p e
+  pub star-below : (again : Bool) (p : ℕ) → n ≡ Star again p → p < l
+  star-below again p e = star-lower (k .good) l (k .below) n (k .node) again p e
 
   module _ (code : List ℕ) (at : ℕ) where
     entries-as : (x : Node) → n ≡ x → entries-at code (T l) o at ≡ entries-at code (made m T x) o at
@@ -286,20 +287,20 @@ module _ {table : List ℕ} {l o w : ℕ} {n : Node} (k : At-line table l o w n)
         pick true = refl
         pick false = refl
 
-    pub stop-is : (p : ℕ) → n ≡ Star p → at < length code * 8 → (b : Bool) → b ≡ bit-at 8 code at → b ≡ true
+    pub stop-is : (again : Bool) (p : ℕ) → n ≡ Star again p → at < length code * 8 → (s : Bool) → s ≡ stops again (bit-at 8 code at) → s ≡ true
         → entries-at code (T l) o at ≡ some ([], at + 1)
-    stop-is p e h b eb z = entries-stop code o at (star-as (k .good) l (k .below) n (k .node) p e) h b eb z
+    stop-is again p e h s es z = entries-stop code o at (star-as (k .good) l (k .below) n (k .node) again p e) h s es z
 
-    pub round-is : (p : ℕ) → n ≡ Star p → at < length code * 8 → (b : Bool) → b ≡ bit-at 8 code at → b ≡ false
+    pub round-is : (again : Bool) (p : ℕ) → n ≡ Star again p → at < length code * 8 → (s : Bool) → s ≡ stops again (bit-at 8 code at) → s ≡ false
         → Parts code (T l) o at (T p) w (at + 1) (T l) o
-    round-is p e h b eb z =
-        record { within = omega arith; is = entries-round code o at (star-as (k .good) l (k .below) n (k .node) p e) h b eb z w (k .owner) }
+    round-is again p e h s es z =
+        record { within = omega arith; is = entries-round code o at (star-as (k .good) l (k .below) n (k .node) again p e) h s es z w (k .owner) }
 
     pub alt-none-is : (p q : ℕ) → n ≡ Alternative p q → length code * 8 ≤ at → entries-at code (T l) o at ≡ none
     alt-none-is p q e h = entries-as (Alternative p q) e ∙ entries-alt-none code o at m (T p) (T q) h
 
-    pub star-none-is : (p : ℕ) → n ≡ Star p → length code * 8 ≤ at → entries-at code (T l) o at ≡ none
-    star-none-is p e h = entries-star-none code o at (star-as (k .good) l (k .below) n (k .node) p e) h
+    pub star-none-is : (again : Bool) (p : ℕ) → n ≡ Star again p → length code * 8 ≤ at → entries-at code (T l) o at ≡ none
+    star-none-is again p e h = entries-star-none code o at (star-as (k .good) l (k .below) n (k .node) again p e) h
 
 -- rounds: what is left to do from `here` on the slices as they are now does what was to be done from `at` on the slices as they were
 pub record Turns (code : List ℕ) (t : Tree) (o at n : ℕ) (xs₀ ys₀ : List ℕ) (here m : ℕ) (xs ys : List ℕ) : Type 0 where

@@ -1,7 +1,7 @@
 -- The entries from a position of a code on, and the position behind them: the equations of a walk for entries.
 -- The walk sees every bit of the bytes: where they begin with a code it stops by itself at the code's end.
 use mathlib.Core.Path.{_≡_, refl, sym, ap, ap₂, _∙_}
-use mathlib.Core.Bool.{Bool, true, false, cond, not}
+use mathlib.Core.Bool.{Bool, true, false, cond}
 use mathlib.Core.Option.{none, some}
 use mathlib.Core.List.{List, [], _∷_, _++_, map}
 use Prim.Native.Nat.{ℕ, _+_, _*_, _≤_, _<_}
@@ -18,7 +18,7 @@ use Rattle.semantics.specs.Accounts.{owner, entries}
 use Rattle.semantics.specs.Decode.{Read, read}
 use Rattle.semantics.specs.Positions.{Seen, see, seen, and-then}
 use Rattle.walks.specs.Looks.{look-stays, look-nothing, look-letter, look-short, look-range, look-outside, look-seq, look-alt-none, look-left}
-use Rattle.walks.specs.Looks.{look-right, look-star-none, look-stop, look-round}
+use Rattle.walks.specs.Looks.{stops, look-right, look-star-none, look-stop, look-round}
 
 abbrev pub Entries : Type 0
 Entries = List (ℕ × ℕ)
@@ -113,15 +113,15 @@ module _ (code : List ℕ) where
       unfolding entries-at
       entries-star-none h = as-star ∙ look-star-none code (length code * 8) (omega arith) m again u (entries (star m again u) o) at h
 
-      pub entries-stop : at < length code * 8 → (b : Bool) → b ≡ bit-at 8 code at → b ≡ not again → entries-at code t o at ≡ some ([], at + 1)
+      pub entries-stop : at < length code * 8 → (s : Bool) → s ≡ stops again (bit-at 8 code at) → s ≡ true → entries-at code t o at ≡ some ([], at + 1)
       unfolding entries-at
-      entries-stop h b eb z = as-star ∙ look-stop code (length code * 8) (omega arith) m again u (entries (star m again u) o) at h (sym eb ∙ z)
+      entries-stop h s es z = as-star ∙ look-stop code (length code * 8) (omega arith) m again u (entries (star m again u) o) at h (sym es ∙ z)
 
-      pub entries-round : at < length code * 8 → (b : Bool) → b ≡ bit-at 8 code at → b ≡ again → (w : ℕ) → w ≡ owner m o
+      pub entries-round : at < length code * 8 → (s : Bool) → s ≡ stops again (bit-at 8 code at) → s ≡ false → (w : ℕ) → w ≡ owner m o
           → entries-at code t o at ≡ entries-then (entries-at code u w (at + 1)) (entries-at code t o)
       unfolding entries-at
-      entries-round h b eb z w ew =
+      entries-round h s es z w ew =
           as-star
           ∙ look-round code (length code * 8) (omega arith) m again u (entries (star m again u) o) at _++_ (entries u (owner m o)) (entries (star m again u) o)
-          (λ v vs. refl) h (sym eb ∙ z)
+          (λ v vs. refl) h (sym es ∙ z)
           ∙ ap₂ (λ y z. entries-then (entries-at code u y (at + 1)) (entries-at code z o)) (sym ew) (sym e)

@@ -18,7 +18,6 @@ ghost use Rattle.walks.specs.Walks.{cap};
 ghost use Rattle.entries.specs.Entries.{leaf-tree};
 ghost use Rattle.entries.specs.Entering.{Ready, went, failed, Enters};
 ghost use Rattle.entries.specs.Measures.{no-measure, Reads};
-use bits::bit_at;
 use bits::byte_at;
 use bits::handed_good;
 use syntax::Leaf;
@@ -27,6 +26,7 @@ use syntax::Pattern;
 use table::account_at;
 use table::node_at;
 use walks::side_at;
+use walks::stops_at;
 
 // The position behind the bits read and the cell behind the entries, or that the bits are not all there.
 pub struct Entered {
@@ -202,13 +202,13 @@ fn put_entries(
             let side = side_at(code, at, p, q) as usize;
             put_entries(table, side, owner, code, at + 1, letters, accounts, n)
         }
-        Node::Star(p) => {
+        Node::Star(again, p) => {
             let part = p as usize;
             let end = bits_in(code);
             let mut here = at;
             let mut m = n;
             while here < end {
-                if bit_at(code, here) {
+                if stops_at(code, here, again) {
                     return went(here + 1, m);
                 }
                 let one = put_entries(table, part, owner, code, here + 1, letters, accounts, m);

@@ -67,10 +67,15 @@ when false x = none
 unfoldable pub node-of-none : (kind : ℕ) → Option Node
 node-of-none k = when (eqb k 69) (Leaf-node Nothing)
 
--- `L` one letter, `K` one place
+-- a star of one part, which takes another round for the bit `again`
+abbrev pub star-of : (again : Bool) → (part : ℕ) → Option Node
+star-of again p = when (ltb p 64) (Star again p)
+
+-- 01: "`L` one letter"; "`K` one place, any number of rounds". 02: "kind `Z`, one part, which writes 0 to stop and 1 before a round".
 unfoldable pub node-of-one : (kind : ℕ) → (x : List ℕ) → Option Node
 node-of-one k x =
-    cond (eqb k 76) (when (is-letter (single x)) (Leaf-node (Letter (single x)))) (cond (eqb k 75) (when (ltb (place x) 64) (Star (place x))) none)
+    cond (eqb k 76) (when (is-letter (single x)) (Leaf-node (Letter (single x))))
+    (cond (eqb k 75) (star-of false (place x)) (cond (eqb k 90) (star-of true (place x)) none))
 
 -- "`R` two letters, the first not above the second"
 unfoldable pub range-of : (low high : ℕ) → Option Node

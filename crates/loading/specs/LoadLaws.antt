@@ -13,7 +13,7 @@ use Rattle.syntax.specs.declared.Node.{Node}
 use Rattle.syntax.specs.declared.Node.the-variants.{Leaf as Leaf-node, Sequence, Alternative, Star}
 use Rattle.syntax.specs.declared.Line.{Line}
 use Rattle.syntax.specs.Letter.{is-letter}
-use Rattle.fields.specs.Text.{place, single, account, when, node-of-none, node-of-one, range-of, parts-of, node-of-two, node-of, with-account}
+use Rattle.fields.specs.Text.{place, single, account, when, node-of-none, star-of, node-of-one, range-of, parts-of, node-of-two, node-of, with-account}
 use Rattle.fields.specs.Text.{Row, line-of, row-line, rows, Forms, good, fault, line-front, forms}
 use Rattle.syntax.specs.Table.{blank, no-lines, line-at, node-good, line-good, badly-formed, lowest, tree-fault, is-none, obeys}
 use Rattle.syntax.specs.Lowest.{none-lowest}
@@ -53,7 +53,11 @@ unfolding node-of node-of-none node-of-one node-of-two range-of parts-of
 node-formed k [] n = when-good (eqb k 69) (Leaf-node Nothing) n (λ h. refl)
 node-formed k (x ∷ []) n =
     either-good (eqb k 76) _ _ n (when-good (is-letter (single x)) (Leaf-node (Letter (single x))) n (λ h. h))
-    (either-good (eqb k 75) _ none n (when-good (ltb (place x) 64) (Star (place x)) n (λ h. refl)) (never n))
+    (either-good (eqb k 75) _ _ n (star-formed false)
+    (either-good (eqb k 90) _ none n (star-formed true) (never n)))
+  where
+    star-formed : (again : Bool) → star-of again (place x) ≡ some n → node-good n ≡ true
+    star-formed again = when-good (ltb (place x) 64) (Star again (place x)) n (λ h. refl)
 node-formed k (x ∷ y ∷ []) n =
     either-good (eqb k 82) _ _ n
     (when-good ((is-letter (single x) && is-letter (single y)) && leb (single x) (single y)) (Leaf-node (Range (single x) (single y))) n (λ h. h))

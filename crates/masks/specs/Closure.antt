@@ -16,7 +16,8 @@ use Rattle.semantics.specs.AutomatonLaws.{after}
 use Rattle.masks.specs.Nodes.{Predicate, node-word}
 
 -- Whether a node is open, where the leaf with index x is open if g x, and v says whether the node's follower is open with the node's flag
--- and may be stepped to. 01: "`K` enters its child with flag 0", and from inside it is reached with flag 1 only, so that a child of `K` has nowhere to go.
+-- and may be stepped to. 01: "`K` enters its child with flag 0", and from inside it is reached with flag 1 only, so that a child of a
+-- star has nowhere to go. 02: "`Z` follows every rule for `K` on followers, flags".
 abbrev pub reach : (g : ℕ → Bool) → Tree → (v : Bool) → Bool
 reach g (nothing m) v = v
 reach g (letter m c) v = g (m .index)

@@ -52,7 +52,7 @@ abbrev pub first-line : (index : ℕ) → Node → First → First → First
 first-line i (Leaf-node x) a b = leaf-first i x
 first-line i (Sequence p q) a b = in-turn a b
 first-line i (Alternative p q) a b = either-of a b
-first-line i (Star p) a b = rounds-of a
+first-line i (Star again p) a b = rounds-of a
 
 -- the first and nullable of a tree
 pub record First-of (t : Tree) (f : First) : Type 0 where
@@ -157,7 +157,7 @@ module _ (f : ℕ → Line) (i : ℕ) (below : Below i (f i .node)) (xs : List �
       go (Sequence x y) b = in-turn-of (label-of f i) (tree-of f x) (tree-of f y) (first-at xs ns x) (first-at xs ns y) (d .right x (b .0)) (d .right y (b .1))
       go (Alternative x y) b =
           either-first-of (label-of f i) (tree-of f x) (tree-of f y) (first-at xs ns x) (first-at xs ns y) (d .right x (b .0)) (d .right y (b .1))
-      go (Star x) b = rounds-first-of (label-of f i) false (tree-of f x) (first-at xs ns x) (d .right x b)
+      go (Star again x) b = rounds-first-of (label-of f i) again (tree-of f x) (first-at xs ns x) (d .right x b)
 
   pub firsts-next : (v : First) → i < 64 → v ≡ first-here f i xs ns → Firsts f (i + 1) (set xs i (v .leaves)) (set ns i (v .nullable))
   firsts-next v h e = record {

@@ -51,7 +51,7 @@ abbrev pub to-first : First → Node → Follow → Follow
 to-first b (Leaf-node x) f = f
 to-first b (Sequence p q) f = before-second b f
 to-first b (Alternative p q) f = f
-to-first b (Star p) f = before-round b f
+to-first b (Star again p) f = before-round b f
 
 -- the follow of a node
 pub record Follow-of (root t : Tree) (place : Location root t) (f : Follow) : Type 0 where
@@ -151,7 +151,7 @@ module _ {f : ℕ → Line} {n : ℕ} (whole : Rooted f n) where
             record { zeros = q .zeros; ones = q .ones; ends = q .ends },
           );
       alternative = λ x y s v q. (record { zeros = q .zeros; ones = q .ones; ends = q .ends }, record { zeros = q .zeros; ones = q .ones; ends = q .ends });
-      round = λ x a s v q.
+      round = λ again x a s v q.
           let g = firsts .right x (omega arith) in
           record {
             zeros = nothing-bit;

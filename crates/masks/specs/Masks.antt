@@ -54,7 +54,7 @@ abbrev pub node-takes : Node → ℕ → Bool
 node-takes (Leaf-node x) c = leaf-takes x c
 node-takes (Sequence a b) c = false
 node-takes (Alternative a b) c = false
-node-takes (Star a) c = false
+node-takes (Star again a) c = false
 
 abbrev pub line-takers : (f : ℕ → Line) → (letter : ℕ) → (n : ℕ) → ℕ
 line-takers f c n = word-of n (λ l. node-takes (f l .node) c)
@@ -90,7 +90,7 @@ module _ {f : ℕ → Line} {n : ℕ} (whole : Rooted f n) (good : Planted (tree
       go m u (Leaf-node (Range a b)) = refl
       go m u (Sequence a b) = refl
       go m u (Alternative a b) = refl
-      go m u (Star a) = refl
+      go m u (Star again a) = refl
 
   -- what a node comes to, at the place where what follows it was found; so wherever it stands, since it stands once
   row-reaches :

@@ -69,7 +69,7 @@ fn first_of(node: Node, i: usize, a: First, b: First) -> First
         Node::Leaf(leaf) => leaf_first(leaf, i),
         Node::Sequence(_, _) => in_turn(a, b),
         Node::Alternative(_, _) => either_of(a, b),
-        Node::Star(_) => First {
+        Node::Star(_, _) => First {
             leaves: a.leaves,
             nullable: true,
         },

@@ -52,7 +52,7 @@ fn to_first(node: Node, second: First, follow: Follow) -> Follow
         Node::Leaf(_) => follow,
         Node::Sequence(_, _) => before_second(second, follow),
         Node::Alternative(_, _) => follow,
-        Node::Star(_) => before_round(second, follow),
+        Node::Star(_, _) => before_round(second, follow),
     }
 }
 

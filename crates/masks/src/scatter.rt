@@ -102,7 +102,7 @@ fn put_node(cells: &mut [u64; LETTER_CELLS], node: Node, i: usize)
         Node::Leaf(leaf) => put_leaf(cells, leaf, i),
         Node::Sequence(_, _) => {}
         Node::Alternative(_, _) => {}
-        Node::Star(_) => {}
+        Node::Star(_, _) => {}
     }
 }
 

@@ -1,4 +1,4 @@
--- The choices of a pattern's tree, which bound its codes, are counted in the table: they are its lines of kind `A` or `K`.
+-- The choices of a pattern's tree, which bound its codes, are counted in the table: they are its lines of kind `A`, `K` or `Z`.
 use mathlib.Core.Path.{_≡_, refl, sym, subst, _∙_}
 use mathlib.Core.Bool.{Bool, true, false}
 use Prim.Native.Nat.{ℕ, zero, suc, _-_, _≤_, _<_}
@@ -14,12 +14,12 @@ use Rattle.syntax.specs.TreeLaws.{Rules, Below, obeys-iff, weight, sum-to, root
 use Rattle.bits.specs.Bits.{bit, count-below}
 use Rattle.semantics.specs.Code.{choices}
 
--- kinds `A` and `K`
+-- kinds `A`, `K` and `Z`
 abbrev pub is-choice : Node → Bool
 is-choice (Leaf-node x) = false
 is-choice (Sequence p q) = false
 is-choice (Alternative p q) = true
-is-choice (Star p) = true
+is-choice (Star again p) = true
 
 module _ (g : ℕ → ℕ) (i a : ℕ) (t : ℕ → Tree) (e : (q : ℕ) → q < i → choices (t q) ≡ weight g (t q)) where
   made-choices : (k : Node) → g i ≡ bit (is-choice k) → Below i k →
@@ -29,7 +29,7 @@ module _ (g : ℕ → ℕ) (i a : ℕ) (t : ℕ → Tree) (e : (q : ℕ) → q <
   made-choices (Leaf-node (Range x y)) h b = sym h
   made-choices (Sequence p q) h b = omega (arith, e p (b .0), e q (b .1))
   made-choices (Alternative p q) h b = omega (arith, e p (b .0), e q (b .1))
-  made-choices (Star p) h b = omega (arith, e p b)
+  made-choices (Star again p) h b = omega (arith, e p b)
 
 module _ (p : Pattern) (r : Rules p) where
   abbrev own : ℕ → ℕ
@@ -52,7 +52,7 @@ unfolding count-below
 counted zero f = refl
 counted (suc n) f = omega (arith, counted n f)
 
--- 01: "With a the number of `A` and `K` nodes"
+-- 01: "With a the number of `A` and `K` nodes". 02: "`Z` follows every rule for `K` on [..] the count a".
 pub choices-are : (p : Pattern) → obeys p ≡ true → choices (root p) ≡ count-below (p .count) (λ l. is-choice (node-at p l))
 choices-are p good =
     let r = obeys-iff p .0 good in

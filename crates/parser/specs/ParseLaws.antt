@@ -1,13 +1,13 @@
 -- Laws of reading a tape: one for each way of the code.
-use mathlib.Core.Path.{_≡_, refl, sym, ap, subst, _∙_}
-use mathlib.Core.Bool.{Bool, true, false, not, true≢false, false≢true}
+use mathlib.Core.Path.{_≡_, refl, sym, ap, ap₂, subst, _∙_}
+use mathlib.Core.Bool.{Bool, true, false, _&&_, _||_, not, cond, true≢false, false≢true}
 use mathlib.Core.Logic.{_↔_}
 use mathlib.Core.List.{List, [], _∷_, _++_, append-nil}
 use Prim.Native.Nat.{ℕ, zero, suc, _+_, _*_, _-_, _/_, _≤_, _<_}
 use native.Mathlib.Omega.{arith}
 use native.Mathlib.Decide.{decLe, decLt}
-use borrow.Author.Tests.{lt-ltb, le-ltb}
-use lib.Dec.{ltb}
+use borrow.Author.Tests.{lt-ltb, le-ltb, eq-eqb, ne-eqb}
+use lib.Dec.{eqb, ltb}
 use lib.ListN.{length, getD, drop, length-append, length-drop, List·getD-append}
 use Rattle.syntax.specs.declared.Pattern.{Pattern}
 use Rattle.refusals.specs.declared.Refusal.{Refusal}
@@ -23,7 +23,7 @@ use Rattle.syntax.specs.TreeLaws.{Rules, obeys-iff, weight, sum-to, root-weight
 use Rattle.syntax.specs.LetterLaws.{all-letters}
 use Rattle.bits.specs.Bits.{bit, test-bit, cell-count, in-front, byte-limit}
 use Rattle.bits.specs.Writing.{write-start}
-use Rattle.table.specs.Cells.{Holds}
+use Rattle.table.specs.Cells.{follower-in, loops-in, Holds}
 use Rattle.table.specs.CellLaws.{holds-tree}
 use Rattle.semantics.specs.Value.{Value, flat}
 use Rattle.semantics.specs.Code.{Canonical, code, choices, code-limit}
@@ -35,11 +35,12 @@ use Rattle.semantics.specs.SecondSweepLaws.{wrote}
 use Rattle.semantics.specs.GreedyLaws.{greedy-canonical, canonical-greedy, readable-iff}
 use Rattle.steps.specs.StateSets.{state-set, words}
 use Rattle.steps.specs.StateLaws.{state-bit}
+use Rattle.steps.specs.Steps.{behind-node, place-lt}
 use Rattle.first_sweep.specs.Meaning.{words-length, words-at}
 use Rattle.first_sweep.specs.Fill.{Fillable}
 use Rattle.second_sweep.specs.declared.Swept.{Swept}
 use Rattle.second_sweep.specs.Parts.{Sweeps}
-use Rattle.second_sweep.specs.Sweeping.{Own, Knows, Wrote}
+use Rattle.second_sweep.specs.Sweeping.{Own, may-stop, Behind, Knows, Wrote}
 use Rattle.parser.specs.declared.Parsed.{Parsed}
 use Rattle.parser.specs.declared.Parsed.the-variants.{Bits, Refused}
 use Rattle.parser.specs.Parse.{parsed-answer, early-order, early, Reads-greedily, Parses}
@@ -165,13 +166,38 @@ module _ (p : Pattern) (tape ws : List ℕ) (h : First-swept p tape ws) where
   own : (t : Tree) (s : Location (root p) t) → Own ws tape t (after s)
   own t s i l b = ap (λ x. test-bit x (index t)) (h .filled i l b) ∙ state-bit p rules b (drop i tape) t s
 
-  pub knows : (t : Tree) (s : Location (root p) t) → Knows ws tape t (after s)
-  knows (nothing m) s = tt
-  knows (letter m c) s = tt
-  knows (range m a b) s = tt
-  knows (seq m t u) s = (knows t (fst s), knows u (snd s))
-  knows (alt m t u) s = (own t (lft s), (knows t (lft s), knows u (rgt s)))
-  knows (star m again t) s = (own t (rnd s), knows t (rnd s))
+  -- the end accepts behind the last letter
+  ended : (b : Bool) (i : ℕ) → i ≤ length tape → (b && eqb i (length tape)) ≡ at-end b (drop i tape)
+  ended b i l = go (drop i tape) (simp length-drop refl)
+    where
+      last : (b : Bool) → (b && true) ≡ b
+      last true = refl
+      last false = refl
+
+      before : (b : Bool) → (b && false) ≡ false
+      before true = refl
+      before false = refl
+
+      go : (w : List ℕ) → length tape - i ≡ length w → (b && eqb i (length tape)) ≡ at-end b w
+      go [] e = ap (λ z. b && z) (eq-eqb i (length tape) (omega arith)) ∙ last b
+      go (c ∷ w) e = ap (λ z. b && z) (ne-eqb i (length tape) (λ q. omega arith)) ∙ before b
+
+  module _ (table : List ℕ) (held : Holds p table) where
+    -- the follower in the table says what may come behind a node
+    behind : (t : Tree) (s : Location (root p) t) → Behind table ws tape (index t) (after s)
+    unfolding may-stop
+    behind t s i l b =
+        ap₂ (λ x y. (not (loops-in table (index t)) || b) && cond (ltb (follower-in table (index t)) 64) (test-bit x (follower-in table (index t))) y)
+        (h .filled i l b) (ended b i l)
+        ∙ behind-node p rules b (drop i tape) (follower-in table (index t)) (loops-in table (index t)) t s (held .follows (index t) (place-lt p rules s))
+
+    pub knows : (t : Tree) (s : Location (root p) t) → Knows table ws tape t (after s)
+    knows (nothing m) s = tt
+    knows (letter m c) s = tt
+    knows (range m a b) s = tt
+    knows (seq m t u) s = (knows t (fst s), knows u (snd s))
+    knows (alt m t u) s = (own t (lft s), (knows t (lft s), knows u (rgt s)))
+    knows (star m again t) s = (own t (rnd s), (behind (star m again t) s, knows t (rnd s)))
 
   -- the greedy value spells the tape
   pub swept : Sweeps (root p) at-end true tape tape (greedy (root p) tape)
@@ -182,13 +208,13 @@ module _ (p : Pattern) (tape ws : List ℕ) (h : First-swept p tape ws) where
       record {
         best = w .0;
         spells = sym
-            (w .0 .spells ∙ ap (λ r. flat (root p) v ++ r) (ended true (w .0 .rest) (w .0 .goes)) ∙ append-nil (flat (root p) v));
+            (w .0 .spells ∙ ap (λ r. flat (root p) v ++ r) (nothing-left true (w .0 .rest) (w .0 .goes)) ∙ append-nil (flat (root p) v));
         writes = sym (w .1 (λ b x. []) ∙ append-nil (code (root p) v));
       }
     where
-      ended : (b : Bool) (r : List ℕ) → at-end b r ≡ true → r ≡ []
-      ended b [] e = refl
-      ended b (x ∷ r) e = absurd (false≢true e)
+      nothing-left : (b : Bool) (r : List ℕ) → at-end b r ≡ true → r ≡ []
+      nothing-left b [] e = refl
+      nothing-left b (x ∷ r) e = absurd (false≢true e)
 
   abbrev pub root-writable : (table : List ℕ) → Holds p table → Writable table ws tape (p .count - 1)
   root-writable table hc =
@@ -199,7 +225,7 @@ module _ (p : Pattern) (tape ws : List ℕ) (h : First-swept p tape ws) where
             after = at-end;
             letters = tape;
             bits = greedy (root p) tape;
-            knows = rw e (knows (root p) top);
+            knows = rw e (knows table hc (root p) top);
             sweeps = rw e swept;
             within = omega arith;
             few = omega (arith, greedy-few p (h .good) tape (h .few) (h .reads));

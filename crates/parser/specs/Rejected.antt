@@ -32,7 +32,7 @@ reads-greedy p tape ws us xs ys r h good few letters room reads fit =
 
 -- the pattern a*, as a table of 64 lines
 abbrev pub rounds : Pattern
-rounds = record { count = 2; lines = record { account = 0; node = Leaf-node (Letter 97) } ∷ record { account = 0; node = Star 0 } ∷ replicate 62 blank }
+rounds = record { count = 2; lines = record { account = 0; node = Leaf-node (Letter 97) } ∷ record { account = 0; node = Star false 0 } ∷ replicate 62 blank }
 
 obeys-rounds : obeys rounds ≡ true
 unfolding obeys line-good wrongly-names unnamed tree-fault is-letter

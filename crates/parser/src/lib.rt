@@ -1,4 +1,4 @@
-// Reading a tape: the tests, the state sets by the first sweep, and the bits of the greedy parse by the second.
+// Reading a tape: the tests, the state sets by the first sweep, and the bits of the preferred parse by the second.
 // The sweeps are crates of their own, so that the edits of this service do not cost their proofs again.
 ghost use Prim.Native.Nat.{_<_};
 ghost use Rattle.table.specs.Cells.{Good};

@@ -13,7 +13,7 @@ use Rattle.syntax.specs.declared.Node.the-variants.{Leaf as Leaf-node, Sequence
 use Rattle.scanning.specs.declared.Parsed.the-variants.{Node as Parsed-node, Fault as No-node}
 use Rattle.syntax.specs.Letter.{is-letter}
 use Rattle.syntax.specs.LetterLaws.{letter-small}
-use Rattle.fields.specs.Text.{place, single, when, node-of-one, range-of, parts-of, node-of-two}
+use Rattle.fields.specs.Text.{place, single, when, star-of, node-of-one, range-of, parts-of, node-of-two}
 use Rattle.scanning.specs.Scans.{parsed}
 
 pub big-no-letter : (c : ℕ) → 255 < c → is-letter c ≡ false
@@ -22,6 +22,14 @@ big-no-letter c h = go (is-letter c) refl
     go : (b : Bool) → is-letter c ≡ b → b ≡ false
     go true e = absurd (omega (arith, letter-small c e))
     go false e = refl
+
+-- a star of either kind
+module _ (again : Bool) (x : List ℕ) (p : ℕ) (e : p ≡ place x) where
+  pub star-good : p < 64 → Parsed-node (Star again p) ≡ parsed (star-of again (place x))
+  star-good l = rw (← e, lt-ltb p 64 l)
+
+  pub star-bad : 64 ≤ p → No-node ≡ parsed (star-of again (place x))
+  star-bad l = rw (← e, le-ltb p 64 l)
 
 module _ (k : ℕ) (x : List ℕ) where
   module _ (c : ℕ) (h : k ≡ 76) (e : c ≡ single x) where
@@ -33,18 +41,19 @@ module _ (k : ℕ) (x : List ℕ) where
     unfolding node-of-one
     one-no-letter l = rw (eq-eqb k 76 h, ← e, l)
 
-  module _ (p : ℕ) (n : k ≡ 76 → ⊥) (h : k ≡ 75) (e : p ≡ place x) where
-    pub one-star : p < 64 → Parsed-node (Star p) ≡ parsed (node-of-one k x)
+  module _ (n : k ≡ 76 → ⊥) where
+    pub one-star : k ≡ 75 → parsed (star-of false (place x)) ≡ parsed (node-of-one k x)
     unfolding node-of-one
-    one-star l = rw (ne-eqb k 76 n, eq-eqb k 75 h, ← e, lt-ltb p 64 l)
+    one-star h = rw (ne-eqb k 76 n, eq-eqb k 75 h)
 
-    pub one-no-star : 64 ≤ p → No-node ≡ parsed (node-of-one k x)
-    unfolding node-of-one
-    one-no-star l = rw (ne-eqb k 76 n, eq-eqb k 75 h, ← e, le-ltb p 64 l)
+    module _ (m : k ≡ 75 → ⊥) where
+      pub one-lazy : k ≡ 90 → parsed (star-of true (place x)) ≡ parsed (node-of-one k x)
+      unfolding node-of-one
+      one-lazy h = rw (ne-eqb k 76 n, ne-eqb k 75 m, eq-eqb k 90 h)
 
-  pub one-other : (k ≡ 76 → ⊥) → (k ≡ 75 → ⊥) → No-node ≡ parsed (node-of-one k x)
-  unfolding node-of-one
-  one-other n m = rw (ne-eqb k 76 n, ne-eqb k 75 m)
+      pub one-other : (k ≡ 90 → ⊥) → No-node ≡ parsed (node-of-one k x)
+      unfolding node-of-one
+      one-other l = rw (ne-eqb k 76 n, ne-eqb k 75 m, ne-eqb k 90 l)
 
 module _ (a b : ℕ) where
   pub range-no-low : is-letter a ≡ false → No-node ≡ parsed (range-of a b)

@@ -154,7 +154,7 @@ when-no false c x = refl
 
 one-long : (k a b c : ℕ) (x : List ℕ) → node-of-one k (a ∷ b ∷ c ∷ x) ≡ none
 unfolding node-of-one single place is-letter
-one-long k a b c x = nothing-left (eqb k 76) (eqb k 75) true none none none refl refl refl
+one-long k a b c x = nothing-left (eqb k 76) (eqb k 75) (eqb k 90) none none none refl refl refl
 
 two-long : (k a b c : ℕ) (x y : List ℕ) → node-of-two k (a ∷ b ∷ c ∷ x) y ≡ none
 unfolding node-of-two single place is-letter range-of parts-of

@@ -3,7 +3,7 @@ ghost use mathlib.Core.Path.{_≡_};
 ghost use Prim.Native.Nat.{_≤_, _<_};
 ghost use lib.ListN.{length, drop};
 ghost use Rattle.syntax.specs.Letter.{is-letter};
-ghost use Rattle.fields.specs.Text.{node-of-none, node-of-one, range-of, node-of-two};
+ghost use Rattle.fields.specs.Text.{place, node-of-none, star-of, node-of-one, range-of, node-of-two};
 ghost use Rattle.fields.specs.Fields.{word};
 ghost use Rattle.scanning.specs.Scans.{parsed, finished, parts-scanned, account-scanned, scanned};
 use fields::Field;
@@ -32,6 +32,8 @@ const SEQUENCE: u16 = b'S' as u16;
 const ALTERNATIVE: u16 = b'A' as u16;
 
 const STAR: u16 = b'K' as u16;
+
+const LAZY_STAR: u16 = b'Z' as u16;
 
 // What a kind and the fields after the account say.
 pub enum Parsed {
@@ -64,6 +66,17 @@ fn parse_none(kind: u16) -> Parsed
     Parsed::Fault
 }
 
+// A star that takes another round for the bit `again`, and its part.
+fn parse_star(again: bool, x: Field) -> Parsed
+    ensures { λ r. ⌜ r ≡ parsed (star-of again (place (word x))) ⌝ }
+{
+    let p = place_of(x);
+    if p < NO_PLACE {
+        return Parsed::Node(Node::Star(again, p as u8));
+    }
+    Parsed::Fault
+}
+
 fn parse_one(kind: u16, x: Field) -> Parsed
     ensures { λ r. ⌜ r ≡ parsed (node-of-one kind (word x)) ⌝ }
 {
@@ -75,10 +88,10 @@ fn parse_one(kind: u16, x: Field) -> Parsed
         return Parsed::Fault;
     }
     if kind == STAR {
-        let p = place_of(x);
-        if p < NO_PLACE {
-            return Parsed::Node(Node::Star(p as u8));
-        }
+        return parse_star(false, x);
+    }
+    if kind == LAZY_STAR {
+        return parse_star(true, x);
     }
     Parsed::Fault
 }

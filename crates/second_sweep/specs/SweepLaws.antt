@@ -1,17 +1,19 @@
 -- Laws of the second sweep: what was written, put together, and the parts of a tree that can be swept.
-use mathlib.Core.Path.{_≡_, refl, sym, ap, subst, _∙_}
-use mathlib.Core.Bool.{Bool, true, false, _||_, not, cond, true≢false}
+use mathlib.Core.Path.{_≡_, refl, sym, ap, ap₂, subst, _∙_}
+use mathlib.Core.Bool.{Bool, true, false, _&&_, _||_, not, cond, or-true, or-false, true≢false}
 use mathlib.Core.List.{List, [], _∷_, _++_}
 use Prim.Native.Nat.{ℕ, _+_, _*_, _≤_, _<_}
 use native.Mathlib.Nat.{add-zero}
 use native.Mathlib.Omega.{arith}
 use native.Mathlib.Decide.{decLe}
-use borrow.Author.Tests.{le-leb, lt-leb}
+use borrow.Author.Tests.{le-leb, lt-leb, le-ltb, lt-ltb}
+use lib.Dec.{eqb}
 use lib.ListN.{length, getD, drop, length-append, length-drop}
 use lib.Seq.{drop-drop, getD-drop}
 use Rattle.syntax.specs.declared.Leaf.the-variants.{Nothing, Letter, Range}
 use Rattle.syntax.specs.Tree.{Label, Tree, range, seq, alt, star, index}
 use Rattle.bits.specs.Bits.{write, bits-of}
+use Rattle.table.specs.Cells.{follower-in, loops-in}
 use Rattle.bits.specs.Numbers.{length-bits-of}
 use Rattle.bits.specs.Writing.{write-write, length-write}
 use Rattle.semantics.specs.Code.{code-limit}
@@ -19,7 +21,7 @@ use Rattle.semantics.specs.Value.{nonempty}
 use Rattle.semantics.specs.Sweeps.{After, after-round, can, another}
 use Rattle.second_sweep.specs.declared.Swept.{Swept}
 use Rattle.second_sweep.specs.Parts.{whole, short, seq-sweeps, side-sweeps, round-sweeps, stop-sweeps, nothing-sweeps, letter-sweeps, range-sweeps}
-use Rattle.second_sweep.specs.Sweeping.{put, Puts, is-open, Chooses, Knows, Wrote, Can-sweep, Leaf-ready, Leaf-swept}
+use Rattle.second_sweep.specs.Sweeping.{put, Puts, is-open, may-stop, goes-on, Chooses, Knows, Wrote, Can-sweep, Leaf-ready, Leaf-swept}
 
 -- ── writing ──
 module _ (xs : List ℕ) (at : ℕ) (cs : List Bool) where
@@ -49,6 +51,44 @@ chose o left v p q at xs ys e f w = record {
   side-is = ap (λ b. cond b p q) (sym f ∙ e);
   puts = rw e at w;
 }
+
+-- ── whether a star goes on ──
+module _ (above b : Bool) where
+  pub passes-taken : b ≡ true → true ≡ (not above || b)
+  passes-taken h = rw h (sym (or-true (not above)))
+
+  pub passes-else : b ≡ false → {r : Bool} → r ≡ above → not r ≡ (not above || b)
+  passes-else h e = rw h (ap not e ∙ sym (or-false (not above)))
+
+pub not-ended : (b x : Bool) → b ≡ false → false ≡ (b && x)
+not-ended b x h = rw h
+
+pub ended : (b x : Bool) → b ≡ true → x ≡ (b && x)
+ended b x h = rw h
+
+module _ (table ws : List ℕ) (n l i : ℕ) (b : Bool) where
+  -- a star above is not stepped to before the round has taken a letter
+  pub stop-shut : {g : Bool} → g ≡ (not (loops-in table l) || b) → g ≡ false → false ≡ may-stop table ws n l i b
+  unfolding may-stop
+  stop-shut e f = rw (sym e ∙ f)
+
+  module _ {g : Bool} (e : g ≡ (not (loops-in table l) || b)) (t : g ≡ true) {f : ℕ} (h : f ≡ follower-in table l) {r : Bool} where
+    pub stop-end : 64 ≤ f → r ≡ (b && eqb i n) → r ≡ may-stop table ws n l i b
+    unfolding may-stop
+    stop-end k er = rw (sym e ∙ t, le-ltb (follower-in table l) 64 (omega arith)) er
+
+    pub stop-open : f < 64 → r ≡ is-open ws i b f → r ≡ may-stop table ws n l i b
+    unfolding may-stop
+    stop-open k er = rw (sym e ∙ t, lt-ltb (follower-in table l) 64 (omega arith)) (er ∙ ap (is-open ws i b) h)
+
+  module _ (again : Bool) (p : ℕ) {r : Bool} where
+    pub on-lazy : again ≡ true → r ≡ may-stop table ws n l i b → not r ≡ goes-on table ws n l i b again p
+    unfolding goes-on
+    on-lazy h e = rw h (ap not e)
+
+    pub on-greedy : again ≡ false → r ≡ is-open ws i false p → r ≡ goes-on table ws n l i b again p
+    unfolding goes-on
+    on-greedy h e = rw h e
 
 -- ── what was written, put together ──
 pub wrote-none : (i at : ℕ) (xs : List ℕ) → Wrote i at [] [] xs xs (record { position = i; at = at })
@@ -119,18 +159,18 @@ module _ {i at : ℕ} {xs : List ℕ} where
       subst (λ y. Wrote i at ms y xs ys r) (sym f) (subst (λ x. Wrote i at x cs xs ys r) (sym e) w)
 
 -- ── the parts of a tree ──
-module _ (words tape : List ℕ) (i : ℕ) (taken : Bool) (at : ℕ) where
+module _ (table words tape : List ℕ) (i : ℕ) (taken : Bool) (at : ℕ) where
   -- `S`
-  pub record Seq-way (t u v : Tree) (c : Can-sweep words tape t i taken at) : Type 0 where
-    pub one : Can-sweep words tape u i taken at
-    pub two : Can-sweep words tape v (i + length (one .letters)) (taken || nonempty (one .letters)) (at + length (one .bits))
+  pub record Seq-way (t u v : Tree) (c : Can-sweep table words tape t i taken at) : Type 0 where
+    pub one : Can-sweep table words tape u i taken at
+    pub two : Can-sweep table words tape v (i + length (one .letters)) (taken || nonempty (one .letters)) (at + length (one .bits))
     pub letters-are : c .letters ≡ one .letters ++ two .letters
     pub bits-are : c .bits ≡ one .bits ++ two .bits
 
-  pub seq-way : (m : Label) (u v t : Tree) → t ≡ seq m u v → (c : Can-sweep words tape t i taken at) → Seq-way t u v c
-  seq-way m u v t e = subst (λ x. (c : Can-sweep words tape x i taken at) → Seq-way x u v c) (sym e) go
+  pub seq-way : (m : Label) (u v t : Tree) → t ≡ seq m u v → (c : Can-sweep table words tape t i taken at) → Seq-way t u v c
+  seq-way m u v t e = subst (λ x. (c : Can-sweep table words tape x i taken at) → Seq-way x u v c) (sym e) go
     where
-      go : (c : Can-sweep words tape (seq m u v) i taken at) → Seq-way (seq m u v) u v c
+      go : (c : Can-sweep table words tape (seq m u v) i taken at) → Seq-way (seq m u v) u v c
       go c =
           let b = seq-sweeps m u v (c .after) taken (drop i tape) (c .letters) (c .bits) (c .sweeps) in
           let w = c .within in
@@ -161,21 +201,21 @@ module _ (words tape : List ℕ) (i : ℕ) (taken : Bool) (at : ℕ) where
           }
 
   -- `A`
-  pub record Side-way (t v : Tree) (sign : Bool) (c : Can-sweep words tape t i taken at) : Type 0 where
-    pub one : Can-sweep words tape v i taken (at + 1)
+  pub record Side-way (t v : Tree) (sign : Bool) (c : Can-sweep table words tape t i taken at) : Type 0 where
+    pub one : Can-sweep table words tape v i taken (at + 1)
     pub letters-are : c .letters ≡ one .letters
     pub bits-are : c .bits ≡ sign ∷ one .bits
 
   pub side-way : (m : Label) (u v t : Tree) → t ≡ alt m u v → (left : Bool) → is-open words i taken (index u) ≡ left →
-      (c : Can-sweep words tape t i taken at) → Side-way t (cond left u v) (not left) c
+      (c : Can-sweep table words tape t i taken at) → Side-way t (cond left u v) (not left) c
   side-way m u v t e left o =
-      subst (λ x. (c : Can-sweep words tape x i taken at) → Side-way x (cond left u v) (not left) c) (sym e) go
+      subst (λ x. (c : Can-sweep table words tape x i taken at) → Side-way x (cond left u v) (not left) c) (sym e) go
     where
-      known : (b : Bool) (k : After) → Knows words tape u k → Knows words tape v k → Knows words tape (cond b u v) k
+      known : (b : Bool) (k : After) → Knows table words tape u k → Knows table words tape v k → Knows table words tape (cond b u v) k
       known true k x y = x
       known false k x y = y
 
-      go : (c : Can-sweep words tape (alt m u v) i taken at) → Side-way (alt m u v) (cond left u v) (not left) c
+      go : (c : Can-sweep table words tape (alt m u v) i taken at) → Side-way (alt m u v) (cond left u v) (not left) c
       go c =
           let h = sym (c .knows .0 i (c .within) taken) ∙ o in
           let b = side-sweeps m u v (c .after) taken (drop i tape) (c .letters) (c .bits) left h (c .sweeps) in
@@ -194,31 +234,32 @@ module _ (words tape : List ℕ) (i : ℕ) (taken : Bool) (at : ℕ) where
             bits-are = b .bits-are;
           }
 
-  -- a star: another round where `another` says so, by what the state sets say of a round and by what may follow
-  pub record Round-way (again : Bool) (t u : Tree) (c : Can-sweep words tape t i taken at) : Type 0 where
-    pub one : Can-sweep words tape u i false (at + 1)
+  -- a star: another round where `goes-on` says so
+  pub record Round-way (again : Bool) (t u : Tree) (c : Can-sweep table words tape t i taken at) : Type 0 where
+    pub one : Can-sweep table words tape u i false (at + 1)
     pub full : 1 ≤ length (one .letters)
-    pub more : Can-sweep words tape t (i + length (one .letters)) true (at + 1 + length (one .bits))
+    pub more : Can-sweep table words tape t (i + length (one .letters)) true (at + 1 + length (one .bits))
     pub letters-are : c .letters ≡ one .letters ++ more .letters
     pub bits-are : c .bits ≡ again ∷ (one .bits ++ more .bits)
 
   module _ (m : Label) (again : Bool) (u t : Tree) (e : t ≡ star m again u) where
-    abbrev decided : {x : Tree} → Can-sweep words tape x i taken at → Bool
-    decided c = another again (is-open words i false (index u)) (c .after taken (drop i tape))
+    abbrev decided : Bool
+    decided = goes-on table words (length tape) (m .index) i taken again (index u)
 
-    -- the state sets say of a round what the first sweep does
-    says : (c : Can-sweep words tape (star m again u) i taken at) (o : Bool) → decided c ≡ o →
+    -- the state sets say of a round, and of what may come behind the star, what the first sweep does
+    says : (c : Can-sweep table words tape (star m again u) i taken at) (o : Bool) → decided ≡ o →
         another again (can u (after-round (can (star m again u) (c .after))) false (drop i tape)) (c .after taken (drop i tape)) ≡ o
-    says c o h = ap (λ x. another again x (c .after taken (drop i tape))) (sym (c .knows .0 i (c .within) false)) ∙ h
+    unfolding goes-on
+    says c o h = ap₂ (another again) (sym (c .knows .0 i (c .within) false)) (sym (c .knows .1 .0 i (c .within) taken)) ∙ h
 
-    pub round-way : (c : Can-sweep words tape t i taken at) → decided c ≡ true → Round-way again t u c
-    round-way = subst (λ x. (c : Can-sweep words tape x i taken at) → decided c ≡ true → Round-way again x u c) (sym e) go
+    pub round-way : (c : Can-sweep table words tape t i taken at) → decided ≡ true → Round-way again t u c
+    round-way = subst (λ x. (c : Can-sweep table words tape x i taken at) → decided ≡ true → Round-way again x u c) (sym e) go
       where
         nonempty-one : (ls : List ℕ) → nonempty ls ≡ true → 1 ≤ length ls
         nonempty-one [] h = absurd (true≢false (sym h))
         nonempty-one (x ∷ ls) h = omega arith
 
-        go : (c : Can-sweep words tape (star m again u) i taken at) → decided c ≡ true → Round-way again (star m again u) u c
+        go : (c : Can-sweep table words tape (star m again u) i taken at) → decided ≡ true → Round-way again (star m again u) u c
         go c h =
             let b = round-sweeps m again u (c .after) taken (drop i tape) (c .letters) (c .bits) (c .sweeps) (says c true h) in
             let f = rw (b .bits-are, length-append) at (c .few) in
@@ -229,7 +270,7 @@ module _ (words tape : List ℕ) (i : ℕ) (taken : Bool) (at : ℕ) where
                 after = after-round (can (star m again u) (c .after));
                 letters = b .letters;
                 bits = b .bits;
-                knows = c .knows .1;
+                knows = c .knows .1 .1;
                 sweeps = b .one;
                 within = w;
                 few = omega arith;
@@ -248,31 +289,31 @@ module _ (words tape : List ℕ) (i : ℕ) (taken : Bool) (at : ℕ) where
               bits-are = b .bits-are;
             }
 
-    pub stop-way : (c : Can-sweep words tape t i taken at) → decided c ≡ false → (c .letters ≡ []) × (c .bits ≡ not again ∷ [])
+    pub stop-way : (c : Can-sweep table words tape t i taken at) → decided ≡ false → (c .letters ≡ []) × (c .bits ≡ not again ∷ [])
     stop-way =
-        subst (λ x. (c : Can-sweep words tape x i taken at) → decided c ≡ false → (c .letters ≡ []) × (c .bits ≡ not again ∷ []))
+        subst (λ x. (c : Can-sweep table words tape x i taken at) → decided ≡ false → (c .letters ≡ []) × (c .bits ≡ not again ∷ []))
         (sym e) go
       where
-        go : (c : Can-sweep words tape (star m again u) i taken at) → decided c ≡ false → (c .letters ≡ []) × (c .bits ≡ not again ∷ [])
+        go : (c : Can-sweep table words tape (star m again u) i taken at) → decided ≡ false → (c .letters ≡ []) × (c .bits ≡ not again ∷ [])
         go c h = stop-sweeps m again u (c .after) taken (drop i tape) (c .letters) (c .bits) (c .sweeps) (says c false h)
 
 -- ── leaves ──
 module _ (tape : List ℕ) (i at : ℕ) (xs : List ℕ) where
   pub leaf-nothing : Leaf-swept Nothing tape i at xs xs (record { position = i; at = at })
-  leaf-nothing m ws b c = let (e, f) = nothing-sweeps (c .sweeps) in wrote-same [] (c .letters) [] (c .bits) e f (wrote-none i at xs)
+  leaf-nothing m table ws b c = let (e, f) = nothing-sweeps (c .sweeps) in wrote-same [] (c .letters) [] (c .bits) e f (wrote-none i at xs)
 
   pub leaf-letter : (x : ℕ) → Leaf-swept (Letter x) tape i at xs xs (record { position = i + 1; at = at })
-  leaf-letter x m ws b c =
+  leaf-letter x m table ws b c =
       let (e, f) = letter-sweeps (c .sweeps) in
       wrote-same (x ∷ []) (c .letters) [] (c .bits) e f (wrote-letter i at x xs)
 
   -- the letter that a range takes is the tape's
-  pub record Taken {m : Label} {low high : ℕ} {ws : List ℕ} {b : Bool} (c : Can-sweep ws tape (range m low high) i b at) : Type 0 where
+  pub record Taken {m : Label} {low high : ℕ} {table ws : List ℕ} {b : Bool} (c : Can-sweep table ws tape (range m low high) i b at) : Type 0 where
     pub letters-are : c .letters ≡ getD tape i 0 ∷ []
     pub bits-are : c .bits ≡ bits-of 8 (getD tape i 0)
     pub inside : i < length tape
 
-  pub taken-letter : {m : Label} {low high : ℕ} {ws : List ℕ} {b : Bool} (c : Can-sweep ws tape (range m low high) i b at) → Taken c
+  pub taken-letter : {m : Label} {low high : ℕ} {table ws : List ℕ} {b : Bool} (c : Can-sweep table ws tape (range m low high) i b at) → Taken c
   taken-letter c =
       let (x, e, f) = range-sweeps (c .sweeps) in
       let h : drop i tape ≡ x ∷ c .sweeps .best .rest = whole (c .sweeps) ∙ ap (λ l. l ++ c .sweeps .best .rest) e in
@@ -287,7 +328,7 @@ module _ (tape : List ℕ) (i at : ℕ) (xs : List ℕ) where
 
   pub leaf-range : (low high : ℕ) →
       Leaf-swept (Range low high) tape i at xs (put xs at (bits-of 8 (getD tape i 0))) (record { position = i + 1; at = at + 8 })
-  leaf-range low high m ws b c =
+  leaf-range low high m table ws b c =
       let k = taken-letter c in
       let x = getD tape i 0 in
       wrote-same (x ∷ []) (c .letters) (bits-of 8 x) (c .bits) (k .letters-are) (k .bits-are) (wrote-range i at x xs)

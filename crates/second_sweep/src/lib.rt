@@ -1,21 +1,27 @@
-// The second sweep: the bits of the greedy parse, from the state sets of the first. It asks the state sets only and never backs up.
+// The second sweep: the bits of the preferred parse, from the state sets of the first. It asks the state sets only and never backs up.
 // Its promise speaks of the letters and bits of the best value, not of the value, whose type changes with the tree. It asks of the words only
-// that the bits of the nodes below are the first sweep's (`Knows`), so that no place in the root's tree is carried through the recursion.
+// that the bits of the nodes below are the first sweep's, and that a star's follower says whether the star may stop (`Knows`), so that no
+// place in the root's tree is carried through the recursion.
 ghost use mathlib.Core.Path.{_≡_};
-ghost use mathlib.Core.Bool.{_||_};
-ghost use lib.Dec.{ltb};
+ghost use mathlib.Core.Bool.{_&&_, _||_, not};
+ghost use lib.Dec.{eqb, ltb};
 ghost use Prim.Native.Nat.{_+_, _*_, _≤_, _<_};
 ghost use lib.ListN.{length};
 ghost use Rattle.bits.specs.Bits.{bits-of};
 ghost use Rattle.semantics.specs.Code.{code-limit};
-ghost use Rattle.table.specs.Cells.{Good};
-ghost use Rattle.second_sweep.specs.Sweeping.{put, Puts, is-open, Chooses, Stops, Leaf-ready, Leaf-swept, Ready, Swept-all};
+ghost use Rattle.table.specs.Cells.{Good, loops-in};
+ghost use Rattle.second_sweep.specs.Sweeping.{put, Puts, is-open, Chooses, may-stop, goes-on, Stops, Leaf-ready, Leaf-swept, Ready, Swept-all};
 use bits::is_open;
 use bits::set_bit;
 use bits::set_byte;
 use syntax::Leaf;
 use syntax::Node;
+use table::follower_at;
+use table::loops_at;
 use table::node_at;
+
+// The number of the end as a follower (crate table).
+const END: usize = 64;
 
 // The position behind the letters read, and the bit behind the bits written.
 pub struct Swept {
@@ -73,12 +79,69 @@ fn choose(words: &[u64], i: usize, taken: bool, p: u8, q: u8, code: &mut [u8], a
     if left { p } else { q }
 }
 
-// Writes that a star ends at position i.
-fn stop(i: usize, code: &mut [u8], at: u32) -> Swept
-    requires { ⌜ at ≤ code-limit ⌝ }
-    ensures { λ r. ⌜ Stops i at (now (code .entry)) (now (code .exit)) r ⌝ }
+// Whether a step to node l's follower is allowed: to a star above only once the round has taken a letter.
+fn passes(table: &[u64; 64], l: usize, flag: bool) -> bool
+    requires { ⌜ l < 64 ⌝ }
+    ensures { λ r. ⌜ r ≡ (not (loops-in (now (table .entry)) l) || flag) ⌝ }
 {
-    put_bit(code, at, true);
+    if flag {
+        return true;
+    }
+    !loops_at(table, l)
+}
+
+// The end accepts behind the last letter, with flag 1.
+fn ends(i: usize, size: usize, flag: bool) -> bool
+    ensures { λ r. ⌜ r ≡ (flag && eqb i size) ⌝ }
+{
+    if !flag {
+        return false;
+    }
+    i == size
+}
+
+// Whether what follows node l can be read from position i on. A star's own bit in the state sets does not tell: it is set, too, where
+// only another round can be read.
+fn may_stop(table: &[u64; 64], words: &[u64], size: usize, l: usize, i: usize, flag: bool) -> bool
+    requires { ⌜ (l < 64) × (2 * i + 1 < length (now words)) ⌝ }
+    ensures { λ r. ⌜ r ≡ may-stop (now (table .entry)) (now (words .entry)) size l i flag ⌝ }
+{
+    if !passes(table, l, flag) {
+        return false;
+    }
+    let follower = follower_at(table, l) as usize;
+    if END <= follower {
+        return ends(i, size, flag);
+    }
+    is_open(words, i, flag, follower)
+}
+
+// Whether a star takes another round of its part p. The greedy one does wherever a round can be read, the lazy one only where it must.
+fn goes_on(
+    table: &[u64; 64],
+    words: &[u64],
+    size: usize,
+    l: usize,
+    i: usize,
+    flag: bool,
+    again: bool,
+    p: u8,
+) -> bool
+    requires { ⌜ (l < 64) × (p < 64) × (2 * i + 1 < length (now words)) ⌝ }
+    ensures { λ r. ⌜ r ≡ goes-on (now (table .entry)) (now (words .entry)) size l i flag again p ⌝ }
+{
+    if again {
+        return !may_stop(table, words, size, l, i, flag);
+    }
+    is_open(words, i, false, p as usize)
+}
+
+// Writes that a star ends at position i: the other bit than that of another round.
+fn stop(i: usize, code: &mut [u8], at: u32, again: bool) -> Swept
+    requires { ⌜ at ≤ code-limit ⌝ }
+    ensures { λ r. ⌜ Stops again i at (now (code .entry)) (now (code .exit)) r ⌝ }
+{
+    put_bit(code, at, !again);
     Swept {
         position: i,
         at: at + 1,
@@ -96,7 +159,8 @@ fn flag_behind(taken: bool, from: usize, to: usize) -> bool
 }
 
 // Reads node l from position i on and writes its bits from bit `at` on, by calls for its parts. `taken` is the flag. Rounds are a loop, so
-// that calls go no deeper than the tree, however many rounds there are.
+// that calls go no deeper than the tree, however many rounds there are. A sequence's second part and an alternative's side are swept by one
+// call at the end: each call in the text takes room in every frame.
 pub fn sweep(
     table: &[u64; 64],
     words: &[u64],
@@ -110,28 +174,51 @@ pub fn sweep(
     requires { ⌜ Good (now table) × (l < 64) × Ready (now table) (now words) (now tape) l i taken at ⌝ }
     ensures { λ r. ⌜ Swept-all (now (table .entry)) (now (words .entry)) (now (tape .entry)) l i taken at (now (code .entry)) (now (code .exit)) r ⌝ }
 {
-    match node_at(table, l) {
-        Node::Leaf(leaf) => sweep_leaf(leaf, tape, i, code, at),
+    let mut here: Swept;
+    let mut flag = taken;
+    let last = match node_at(table, l) {
+        Node::Leaf(leaf) => {
+            return sweep_leaf(leaf, tape, i, code, at);
+        }
         Node::Sequence(p, q) => {
-            let one = sweep(table, words, tape, p as usize, i, taken, code, at);
-            let j = one.position;
-            let flag = flag_behind(taken, i, j);
-            sweep(table, words, tape, q as usize, j, flag, code, one.at)
+            here = sweep(table, words, tape, p as usize, i, taken, code, at);
+            flag = flag_behind(taken, i, here.position);
+            q
         }
         Node::Alternative(p, q) => {
-            let side = choose(words, i, taken, p, q, code, at);
-            sweep(table, words, tape, side as usize, i, taken, code, at + 1)
+            here = Swept {
+                position: i,
+                at: at + 1,
+            };
+            choose(words, i, taken, p, q, code, at)
         }
-        Node::Star(p) => {
-            let mut j = i;
-            let mut bit = at;
-            while is_open(words, j, false, p as usize) {
-                put_bit(code, bit, false);
-                let one = sweep(table, words, tape, p as usize, j, false, code, bit + 1);
-                j = one.position;
-                bit = one.at;
+        Node::Star(again, p) => {
+            here = Swept { position: i, at };
+            while goes_on(table, words, tape.len(), l, here.position, flag, again, p) {
+                put_bit(code, here.at, again);
+                here = sweep(
+                    table,
+                    words,
+                    tape,
+                    p as usize,
+                    here.position,
+                    false,
+                    code,
+                    here.at + 1,
+                );
+                flag = true;
             }
-            stop(j, code, bit)
+            return stop(here.position, code, here.at, again);
         }
-    }
+    };
+    sweep(
+        table,
+        words,
+        tape,
+        last as usize,
+        here.position,
+        flag,
+        code,
+        here.at,
+    )
 }

@@ -1,6 +1,6 @@
 -- Looking for a visit along a walk: what a call asks and what it answers, and the steps of the walk, each as one law.
 use mathlib.Core.Path.{_≡_, refl, sym, ap, ap₂, _∙_}
-use mathlib.Core.Bool.{Bool, true, false, not, _&&_, false≢true}
+use mathlib.Core.Bool.{Bool, true, false, _&&_, false≢true}
 use mathlib.Core.Logic.{inl, inr}
 use mathlib.Core.Option.{none, some, Option·none-ne-some, Option·some-injective}
 use mathlib.Core.List.{List, [], _∷_}
@@ -22,6 +22,7 @@ use Rattle.semantics.specs.Positions.{Seen, see, seen, joined, and-then}
 use Rattle.spans.specs.declared.find.Found.{Found}
 use Rattle.spans.specs.declared.find.Step.{Step}
 use Rattle.walks.specs.declared.Walked.{Walked}
+use Rattle.walks.specs.Looks.{stops}
 use Rattle.walks.specs.Words.{word-at}
 use Rattle.walks.specs.Walks.{cap, walk-answer, walked}
 use Rattle.spans.specs.Traces.{
@@ -255,14 +256,14 @@ module _ (code : List ℕ) (count : ℕ) (m : Label) (again : Bool) (u : Tree) (
         let h : count ≤ here → ⊥ = λ h. not-none (z .ready .is) (rounds-none code count fit m again u here h) in
         omega arith
 
-    pub turns-stop : (b : Bool) → b ≡ bit-at 8 code here → b ≡ not again → (r : Found) → r ≡ miss (here + 1) position left → Finds o i node k r
-    turns-stop b eb ea r er =
-        let e = rounds-stop code count fit m again u here turns-in b eb ea in
+    pub turns-stop : (s : Bool) → s ≡ stops again (bit-at 8 code here) → s ≡ true → (r : Found) → r ≡ miss (here + 1) position left → Finds o i node k r
+    turns-stop s es f r er =
+        let e = rounds-stop code count fit m again u here turns-in s es f in
         z .finish r (as-found er (missed-none (rounds-at code count m again u here) position (here + 1) node left e))
 
-    module _ (b : Bool) (eb : b ≡ bit-at 8 code here) (ea : b ≡ again) where
+    module _ (s : Bool) (es : s ≡ stops again (bit-at 8 code here)) (on : s ≡ false) where
       next : rounds-at code count m again u here ≡ and-then trace-then (trace-at code count u (here + 1)) (rounds-at code count m again u)
-      next = rounds-more code count fit m again u here turns-in b eb ea
+      next = rounds-more code count fit m again u here turns-in s es on
 
       pub turns-round : Seeking (trace-at code count u (here + 1)) position
       turns-round =
@@ -282,10 +283,10 @@ module _ (code : List ℕ) (count : ℕ) (m : Label) (again : Bool) (u : Tree) (
 
           pub turns-more : Turns code count m again u o at i node k (one .at) (one .i) (one .k)
           turns-more =
-              let s = turns-less in
+              let l = turns-less in
               record {
                 low = omega (arith, z .low);
-                high = s .1;
+                high = l .1;
                 ready = second-seeking (rounds-at code count m again u here) (trace-at code count u (here + 1)) (rounds-at code count m again u)
                     (rounds-grows code count m again u) next position (z .ready) node left one w f;
                 finish = λ r v. z .finish r

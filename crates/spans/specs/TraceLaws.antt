@@ -1,6 +1,6 @@
 -- The trace from a position of a code on, in terms of the parts' traces: one equation for each way of the walk that looks for a visit.
 use mathlib.Core.Path.{_≡_, refl, sym, ap, _∙_}
-use mathlib.Core.Bool.{Bool, true, false, cond, not}
+use mathlib.Core.Bool.{Bool, true, false, cond}
 use mathlib.Core.Option.{none, some, Option·none-ne-some, Option·some-injective}
 use mathlib.Core.List.{List}
 use Prim.Native.Nat.{ℕ, _+_, _*_, _-_, _≤_, _<_}
@@ -20,7 +20,7 @@ use Rattle.semantics.specs.Positions.{Seen, see, seen, joined, and-then}
 use Rattle.semantics.specs.PositionLaws.{see-as}
 use Rattle.spans.specs.declared.find.Step.{Step}
 use Rattle.walks.specs.Looks.{look-stays, look-nothing, look-letter, look-short, look-range, look-outside, look-seq, look-alt-none, look-left}
-use Rattle.walks.specs.Looks.{look-right, look-star-none, look-stop, look-round}
+use Rattle.walks.specs.Looks.{stops, look-right, look-star-none, look-stop, look-round}
 use Rattle.spans.specs.Traces.{Trace, letters-trace, trace-then, own, rounds-trace, rounds-visits, trace, trace-visits, trace-at, rounds-at, own-seen}
 
 -- what is seen is there
@@ -121,15 +121,16 @@ module _ (code : List ℕ) (count : ℕ) (fit : count ≤ length code * 8) where
     unfolding rounds-at
     rounds-none h = look-star-none code count fit m again u (rounds-trace (trace u)) at h
 
-    pub rounds-stop : at < count → (b : Bool) → b ≡ bit-at 8 code at → b ≡ not again → rounds-at code count m again u at ≡ some (letters-trace 0, at + 1)
+    pub rounds-stop : at < count → (s : Bool) → s ≡ stops again (bit-at 8 code at) → s ≡ true
+        → rounds-at code count m again u at ≡ some (letters-trace 0, at + 1)
     unfolding rounds-at
-    rounds-stop h b eb z = look-stop code count fit m again u (rounds-trace (trace u)) at h (sym eb ∙ z)
+    rounds-stop h s es z = look-stop code count fit m again u (rounds-trace (trace u)) at h (sym es ∙ z)
 
-    pub rounds-more : at < count → (b : Bool) → b ≡ bit-at 8 code at → b ≡ again
+    pub rounds-more : at < count → (s : Bool) → s ≡ stops again (bit-at 8 code at) → s ≡ false
         → rounds-at code count m again u at ≡ and-then trace-then (trace-at code count u (at + 1)) (rounds-at code count m again u)
     unfolding rounds-at trace-at
-    rounds-more h b eb z =
-        look-round code count fit m again u (rounds-trace (trace u)) at trace-then (trace u) (rounds-trace (trace u)) (λ v vs. refl) h (sym eb ∙ z)
+    rounds-more h s es z =
+        look-round code count fit m again u (rounds-trace (trace u)) at trace-then (trace u) (rounds-trace (trace u)) (λ v vs. refl) h (sym es ∙ z)
 
   -- a leaf that is there takes its bits and spells its letters
   module _ (m : Label) (g : ℕ → Tree) (at : ℕ) (le : at ≤ count) where

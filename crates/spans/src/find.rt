@@ -9,11 +9,11 @@ ghost use Rattle.table.specs.Cells.{Good, tree-in};
 ghost use Rattle.spans.specs.Traces.{trace-at, hit, miss, Inside};
 ghost use Rattle.spans.specs.TraceLaws.{step-of};
 ghost use Rattle.spans.specs.Seeks.{Seeking, Finds};
-use bits::bit_at;
 use syntax::Leaf;
 use syntax::Node;
 use table::node_at;
 use walks::side_at;
+use walks::stops_at;
 use walks::walk;
 
 // A visit found, by its start and its size; or where the search goes on: at bit `at` of the code and letter `i` of the tape, with `k` visits
@@ -134,11 +134,11 @@ pub(crate) fn find(
             let side = side_at(code, at, p, q);
             find(table, side as usize, code, count, at + 1, i, node, left)
         }
-        Node::Star(p) => {
+        Node::Star(again, p) => {
             let mut one = not_found(at, i, left);
             loop {
                 let next = one.at + 1;
-                if bit_at(code, one.at) {
+                if stops_at(code, one.at, again) {
                     return not_found(next, one.i, one.k);
                 }
                 one = find(table, p as usize, code, count, next, one.i, node, one.k);

@@ -1,9 +1,9 @@
 -- ONE POSITION FROM THE NEXT: the state sets of a position from the letter there and the flag 1 state set of the next position,
 -- as the union of the masks of the leaves that take the letter and whose follower is open behind it.
 use mathlib.Core.Path.{_≡_, refl, sym, ap, ap₂, _∙_}
-use mathlib.Core.Bool.{Bool, true, false, _&&_, cond}
+use mathlib.Core.Bool.{Bool, true, false, _&&_, _||_, not, cond, or-true}
 use mathlib.Core.List.{List, [], _∷_}
-use Prim.Native.Nat.{ℕ, zero, suc, _≤_}
+use Prim.Native.Nat.{ℕ, zero, suc, _≤_, _<_}
 use native.Mathlib.Omega.{arith}
 use lib.Dec.{ltb}
 use borrow.Author.Tests.{lt-ltb, le-ltb}
@@ -13,9 +13,9 @@ use Rattle.syntax.specs.Tree.{Tree, letter, range, index}
 use Rattle.syntax.specs.Trees.{root}
 use Rattle.syntax.specs.TreeLaws.{Rules}
 use Rattle.bits.specs.Bits.{test-bit}
-use Rattle.semantics.specs.Automaton.{Location, top, fst, snd, lft, rgt, rnd, State, end, at, follower}
+use Rattle.semantics.specs.Automaton.{Location, State, end, at, follower}
 use Rattle.semantics.specs.Sweeps.{at-end}
-use Rattle.semantics.specs.AutomatonLaws.{after, can-from}
+use Rattle.semantics.specs.AutomatonLaws.{after, can-from, after-follower}
 use Rattle.steps.specs.declared.Words.{Words}
 use Rattle.masks.specs.Nodes.{index-lt, word-says, word-past-last}
 use Rattle.table.specs.Cells.{follower-in, loops-in, state-index, Followed, Holds}
@@ -34,33 +34,37 @@ behind next last f = cond (ltb f 64) (test-bit next f) last
 abbrev pub live : (takers next : ℕ) → (last : Bool) → (followers : ℕ → ℕ) → (leaf : ℕ) → Bool
 live k next last f x = test-bit k x && behind next last (f x)
 
--- the guard before a star above lets flag 1 pass
-after-true : {root t : Tree} (s : Location root t) (w : List ℕ) → after s true w ≡ can-from (follower s) true w
-after-true top w = refl
-after-true (fst s) w = refl
-after-true (snd s) w = after-true s w
-after-true (lft s) w = after-true s w
-after-true (rgt s) w = after-true s w
-after-true (rnd s) w = refl
-
 union-none : (n : ℕ) (m : ℕ → ℕ) → union n nowhere m ≡ 0
 union-none zero m = refl
 union-none (suc n) m = or-zero-l (union n nowhere m) ∙ union-none n m
 
 module _ (p : Pattern) (r : Rules p) where
-  behind-state : (w : List ℕ) (q : State (root p)) → behind (state-set p true w) (at-end true w) (state-index q) ≡ can-from q true w
-  behind-state w end = ap (λ z. cond z (test-bit (state-set p true w) 64) (at-end true w)) (le-ltb 64 64 (omega arith))
-  behind-state w (at t s) =
-      ap (λ z. cond z (test-bit (state-set p true w) (index t)) (at-end true w)) (lt-ltb (index t) 64 (omega (arith, index-lt (root-planted p r) s, r .few)))
-      ∙ state-bit p r true w t s
+  -- a node's index is that of a line
+  pub place-lt : {t : Tree} (s : Location (root p) t) → index t < p .count
+  place-lt s = index-lt (root-planted p r) s
 
-  -- a leaf's follower is open behind the letter exactly if the rest can be read behind the leaf
+  behind-state : (b : Bool) (w : List ℕ) (q : State (root p)) → behind (state-set p b w) (at-end b w) (state-index q) ≡ can-from q b w
+  behind-state b w end = ap (λ z. cond z (test-bit (state-set p b w) 64) (at-end b w)) (le-ltb 64 64 (omega arith))
+  behind-state b w (at t s) =
+      ap (λ z. cond z (test-bit (state-set p b w) (index t)) (at-end b w)) (lt-ltb (index t) 64 (omega (arith, index-lt (root-planted p r) s, r .few)))
+      ∙ state-bit p r b w t s
+
+  -- a node's follower is open exactly if the rest can be read behind the node; to a star above it is stepped with flag 1 only
+  pub behind-node :
+      (b : Bool) (w : List ℕ) (f : ℕ) (above : Bool) (t : Tree) (s : Location (root p) t) → Followed (root p) (index t) f above
+      → ((not above || b) && behind (state-set p b w) (at-end b w) f) ≡ after s b w
+  behind-node b w f above t s q =
+      ap₂ (λ g y. (not g || b) && y) (q .above)
+      (ap (behind (state-set p b w) (at-end b w)) (q .is) ∙ behind-state b w (follower (q .node .place)))
+      ∙ sym (after-follower (q .node .place) b w)
+      ∙ same-node (root-planted p r) (λ t s. after s b w) (q .node .tree) t (q .node .place) s (q .node .is)
+
+  -- a letter leaf steps with flag 1
   behind-leaf :
-      (w : List ℕ) (f : ℕ) (b : Bool) (t : Tree) (s : Location (root p) t) → Followed (root p) (index t) f b
+      (w : List ℕ) (f : ℕ) (above : Bool) (t : Tree) (s : Location (root p) t) → Followed (root p) (index t) f above
       → behind (state-set p true w) (at-end true w) f ≡ after s true w
-  behind-leaf w f b t s q =
-      ap (behind (state-set p true w) (at-end true w)) (q .is) ∙ behind-state w (follower (q .node .place)) ∙ sym (after-true (q .node .place) w)
-      ∙ same-node (root-planted p r) (λ t s. after s true w) (q .node .tree) t (q .node .place) s (q .node .is)
+  behind-leaf w f above t s q =
+      ap (λ g. g && behind (state-set p true w) (at-end true w) f) (sym (or-true (not above))) ∙ behind-node true w f above t s q
 
   module _ (table : List ℕ) (held : Holds p table) (c : ℕ) (w : List ℕ) where
     chosen : ℕ → Bool

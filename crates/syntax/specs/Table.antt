@@ -37,7 +37,7 @@ abbrev pub node-good : Node → Bool
 node-good (Leaf-node x) = leaf-good x
 node-good (Sequence p q) = true
 node-good (Alternative p q) = true
-node-good (Star p) = true
+node-good (Star again p) = true
 
 -- 01: "Account is `-` or a digit 1 to 9"; in code `Pattern::MAX_ACCOUNT`
 abbrev pub account-limit : ℕ
@@ -54,7 +54,7 @@ abbrev pub parts : Node → List ℕ
 parts (Leaf-node x) = []
 parts (Sequence p q) = p ∷ q ∷ []
 parts (Alternative p q) = p ∷ q ∷ []
-parts (Star p) = p ∷ []
+parts (Star again p) = p ∷ []
 
 -- all that the lines below i name
 abbrev pub named-below : Pattern → ℕ → List ℕ

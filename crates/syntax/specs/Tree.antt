@@ -13,7 +13,8 @@ pub data Tree : Type 0 where
   range : Label → (low high : ℕ) → Tree
   seq : Label → Tree → Tree → Tree
   alt : Label → Tree → Tree → Tree
-  -- `again` is the bit that means another round: false, written 0, for kind `K`
+  -- `again` is the bit that means another round: false, written 0, for kind `K`; true, written 1, for kind `Z`, the lazy star.
+  -- 02: "Add kind `Z`, one part, which writes 0 to stop and 1 before a round."
   star : Label → (again : Bool) → Tree → Tree
 
 abbrev pub label : Tree → Label

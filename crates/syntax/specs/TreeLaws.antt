@@ -38,7 +38,7 @@ abbrev pub Below : ℕ → Node → Type 0
 Below i (Leaf-node x) = Unit {0}
 Below i (Sequence p q) = (p < i) × (q < i)
 Below i (Alternative p q) = (p < i) × (q < i)
-Below i (Star p) = p < i
+Below i (Star again p) = p < i
 
 -- THE PATTERN RULES of document 01, in the words of facts: "There are 1 to 64 lines"; letters, ranges and accounts are good;
 -- "A part's place is below that of the line naming it. Every place but the last is named exactly once."
@@ -78,13 +78,13 @@ below-parts : (i : ℕ) (k : Node) → All-under i (parts k) → Below i k
 below-parts i (Leaf-node x) h = tt
 below-parts i (Sequence p q) h = (h .0, h .1 .0)
 below-parts i (Alternative p q) h = (h .0, h .1 .0)
-below-parts i (Star p) h = h .0
+below-parts i (Star again p) h = h .0
 
 parts-below : (i : ℕ) (k : Node) → Below i k → All-under i (parts k)
 parts-below i (Leaf-node x) h = tt
 parts-below i (Sequence p q) h = (h .0, (h .1, tt))
 parts-below i (Alternative p q) h = (h .0, (h .1, tt))
-parts-below i (Star p) h = (h, tt)
+parts-below i (Star again p) h = (h, tt)
 
 under-mono : (i b : ℕ) → i ≤ b → (xs : List ℕ) → All-under i xs → All-under b xs
 under-mono i b h [] u = tt
@@ -260,7 +260,7 @@ made-same m t u l (Leaf-node (Letter c)) h e = refl
 made-same m t u l (Leaf-node (Range a b)) h e = refl
 made-same m t u l (Sequence p q) h e = ap₂ (λ x y. seq m x y) (e p (h .0)) (e q (h .1))
 made-same m t u l (Alternative p q) h e = ap₂ (λ x y. alt m x y) (e p (h .0)) (e q (h .1))
-made-same m t u l (Star p) h e = ap (λ x. star m false x) (e p h)
+made-same m t u l (Star again p) h e = ap (λ x. star m again x) (e p h)
 
 -- the tree of a node has the node's index
 pub made-index : (m : Label) (f : ℕ → Tree) (n : Node) → index (made m f n) ≡ m .index
@@ -269,7 +269,7 @@ made-index m f (Leaf-node (Letter c)) = refl
 made-index m f (Leaf-node (Range a b)) = refl
 made-index m f (Sequence p q) = refl
 made-index m f (Alternative p q) = refl
-made-index m f (Star p) = refl
+made-index m f (Star again p) = refl
 
 -- the tree of a line is its node over the trees of its parts
 pub tree-line : (f : ℕ → Line) (l : ℕ) → Below l (f l .node) → tree-of f l ≡ made (record { index = l; account = f l .account }) (tree-of f) (f l .node)
@@ -355,7 +355,7 @@ weight-made g i a t (Leaf-node (Letter c)) = omega arith
 weight-made g i a t (Leaf-node (Range x y)) = omega arith
 weight-made g i a t (Sequence p q) = omega arith
 weight-made g i a t (Alternative p q) = omega arith
-weight-made g i a t (Star p) = omega arith
+weight-made g i a t (Star again p) = omega arith
 
 module _ (p : Pattern) (r : Rules p) (g : ℕ → ℕ) where
   abbrev of : ℕ → ℕ

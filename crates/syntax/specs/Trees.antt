@@ -1,7 +1,6 @@
 -- The labelled tree of a table. Each part stands below its line, so the trees are planted from the first line on.
 use mathlib.Core.List.{List, [], _∷_, _++_}
 use Prim.Native.Nat.{ℕ, zero, suc, _-_}
-use mathlib.Core.Bool.{false}
 use lib.ListN.{getD}
 use Rattle.syntax.specs.declared.Leaf.the-variants.{Nothing, Letter, Range}
 use Rattle.syntax.specs.declared.Node.{Node}
@@ -11,14 +10,14 @@ use Rattle.syntax.specs.declared.Pattern.{Pattern}
 use Rattle.syntax.specs.Tree.{Label, Tree, nothing, letter, range, seq, alt, star}
 use Rattle.syntax.specs.Table.{line-at}
 
--- the node of a line over the trees of its parts; `K` has another round for bit 0
+-- the node of a line over the trees of its parts
 abbrev pub made : Label → (ℕ → Tree) → Node → Tree
 made m t (Leaf-node Nothing) = nothing m
 made m t (Leaf-node (Letter c)) = letter m c
 made m t (Leaf-node (Range a b)) = range m a b
 made m t (Sequence p q) = seq m (t p) (t q)
 made m t (Alternative p q) = alt m (t p) (t q)
-made m t (Star p) = star m false (t p)
+made m t (Star again p) = star m again (t p)
 
 abbrev pub unplanted : Tree
 unplanted = nothing (record { index = 0; account = 0 })

@@ -19,12 +19,13 @@ pub enum Leaf {
     Range(u8, u8),
 }
 
-// A node. The parts of one that is no leaf are indices into the table.
+// A node. The parts of one that is no leaf are indices into the table. A star has the bit that it writes before each round: false, written 0,
+// for the greedy star (01: kind `K`), true, written 1, for the lazy one (02: kind `Z`). It writes the other bit to stop.
 pub enum Node {
     Leaf(Leaf),
     Sequence(u8, u8),
     Alternative(u8, u8),
-    Star(u8),
+    Star(bool, u8),
 }
 
 // A line of the table: a node and its account, 0 for none.

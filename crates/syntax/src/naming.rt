@@ -65,7 +65,7 @@ fn name_parts(named: [bool; 64], i: usize, node: Node) -> Naming
         Node::Leaf(_) => Naming { ok: true, named },
         Node::Sequence(p, q) => name_two(named, i, p, q),
         Node::Alternative(p, q) => name_two(named, i, p, q),
-        Node::Star(p) => name_part(named, i, p),
+        Node::Star(_, p) => name_part(named, i, p),
     }
 }
 

@@ -44,7 +44,7 @@ fn good_line(line: Line) -> bool
         Node::Leaf(leaf) => good_leaf(leaf),
         Node::Sequence(_, _) => true,
         Node::Alternative(_, _) => true,
-        Node::Star(_) => true,
+        Node::Star(_, _) => true,
     }
 }
 

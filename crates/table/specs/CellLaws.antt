@@ -36,7 +36,8 @@ row-node (Leaf-node (Letter c)) = refl
 row-node (Leaf-node (Range a b)) = refl
 row-node (Sequence p q) = refl
 row-node (Alternative p q) = refl
-row-node (Star p) = refl
+row-node (Star false p) = refl
+row-node (Star true p) = refl
 
 pub cell-packed :
     (x : Line) (r : Numbers) (c : ℕ) → r ≡ row-of (x .node) → c % 256 ≡ r .kind → c / 256 % 256 ≡ r .first → c / 65536 % 256 ≡ r .second
@@ -48,13 +49,14 @@ cell-packed x r c er ek ea eb eo = rw (ek, ea, eb, eo, er, row-node (x .node))
 pub kind-is : (kind n a b : ℕ) → kind ≡ n → node-from n a b ≡ node-from kind a b
 kind-is kind n a b e = ap (λ k. node-from k a b) (sym e)
 
-pub star-from : (k a b : ℕ) → 5 ≤ k → Star a ≡ node-from k a b
-star-from zero a b h = absurd (omega arith)
-star-from (suc zero) a b h = absurd (omega arith)
-star-from (suc (suc zero)) a b h = absurd (omega arith)
-star-from (suc (suc (suc zero))) a b h = absurd (omega arith)
-star-from (suc (suc (suc (suc zero)))) a b h = absurd (omega arith)
-star-from (suc (suc (suc (suc (suc k))))) a b h = refl
+pub lazy-from : (k a b : ℕ) → 6 ≤ k → Star true a ≡ node-from k a b
+lazy-from zero a b h = absurd (omega arith)
+lazy-from (suc zero) a b h = absurd (omega arith)
+lazy-from (suc (suc zero)) a b h = absurd (omega arith)
+lazy-from (suc (suc (suc zero))) a b h = absurd (omega arith)
+lazy-from (suc (suc (suc (suc zero)))) a b h = absurd (omega arith)
+lazy-from (suc (suc (suc (suc (suc zero))))) a b h = absurd (omega arith)
+lazy-from (suc (suc (suc (suc (suc (suc k)))))) a b h = refl
 
 -- ── filling ──
 -- the lines below i are filled in
@@ -147,7 +149,7 @@ abbrev pub first-behind : (line : ℕ) → Node → ℕ → ℕ
 first-behind i (Leaf-node x) v = v
 first-behind i (Sequence p q) v = q
 first-behind i (Alternative p q) v = v
-first-behind i (Star p) v = i + 256
+first-behind i (Star again p) v = i + 256
 
 -- the number of what follows a node
 pub record Behind (root : Tree) (t : Tree) (s : Location root t) (v : ℕ) : Type 0 where
@@ -167,7 +169,7 @@ module _ {f : ℕ → Line} {n : ℕ} (whole : Rooted f n) where
       record { state = q .state; above = q .above },
     );
     alternative = λ x y s v q. (record { state = q .state; above = q .above }, record { state = q .state; above = q .above });
-    round = λ x a s v q. record { state = omega (arith, whole .few); above = omega (arith, whole .few) };
+    round = λ again x a s v q. record { state = omega (arith, whole .few); above = omega (arith, whole .few) };
   }
 
 -- on the way down, at line i: the lines are as they were, and every line that is known has its follower

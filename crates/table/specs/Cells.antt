@@ -1,6 +1,6 @@
 -- A table packed into cells: what the numbers of a cell mean, and what a walk may take from a packed table. Definitions only.
 use mathlib.Core.Path.{_≡_}
-use mathlib.Core.Bool.{Bool, true}
+use mathlib.Core.Bool.{Bool, true, false, cond}
 use mathlib.Core.List.{List}
 use Prim.Native.Nat.{ℕ, zero, suc, _/_, _%_, _≤_, _<_}
 use lib.Dec.{eqb}
@@ -28,11 +28,15 @@ leaf-row Nothing = row 0 0 0
 leaf-row (Letter c) = row 1 c 0
 leaf-row (Range a b) = row 2 a b
 
+-- a star's kind, by the bit that means another round
+abbrev pub star-kind : (again : Bool) → ℕ
+star-kind again = cond again 6 5
+
 abbrev pub row-of : Node → Numbers
 row-of (Leaf-node x) = leaf-row x
 row-of (Sequence p q) = row 3 p q
 row-of (Alternative p q) = row 4 p q
-row-of (Star p) = row 5 p 0
+row-of (Star again p) = row (star-kind again) p 0
 
 -- and the node of such numbers
 abbrev pub node-from : (kind first second : ℕ) → Node
@@ -41,7 +45,8 @@ node-from (suc zero) a b = Leaf-node (Letter a)
 node-from (suc (suc zero)) a b = Leaf-node (Range a b)
 node-from (suc (suc (suc zero))) a b = Sequence a b
 node-from (suc (suc (suc (suc zero)))) a b = Alternative a b
-node-from (suc (suc (suc (suc (suc k))))) a b = Star a
+node-from (suc (suc (suc (suc (suc zero))))) a b = Star false a
+node-from (suc (suc (suc (suc (suc (suc k)))))) a b = Star true a
 
 -- a cell is one number, its parts from the lowest: kind, first, second, account, each in 8 bits
 unfoldable pub cell-node : (cell : ℕ) → Node

@@ -34,13 +34,13 @@ abbrev pub first-part : (index : ℕ) → Node → ℕ
 first-part i (Leaf-node x) = i
 first-part i (Sequence p q) = p
 first-part i (Alternative p q) = p
-first-part i (Star p) = p
+first-part i (Star again p) = p
 
 abbrev pub second-part : (index : ℕ) → Node → ℕ
 second-part i (Leaf-node x) = i
 second-part i (Sequence p q) = q
 second-part i (Alternative p q) = q
-second-part i (Star p) = p
+second-part i (Star again p) = p
 
 -- the parts lie no higher than their line
 pub record Parts-inside (i : ℕ) (k : Node) : Type 0 where
@@ -51,7 +51,7 @@ pub parts-inside : (i : ℕ) (k : Node) → Below i k → Parts-inside i k
 parts-inside i (Leaf-node x) b = record { first = omega arith; second = omega arith }
 parts-inside i (Sequence p q) b = record { first = omega (arith, b .0); second = omega (arith, b .1) }
 parts-inside i (Alternative p q) b = record { first = omega (arith, b .0); second = omega (arith, b .1) }
-parts-inside i (Star p) b = record { first = omega (arith, b); second = omega (arith, b) }
+parts-inside i (Star again p) b = record { first = omega (arith, b); second = omega (arith, b) }
 
 either-part : (l x y : ℕ) → member l (x ∷ y ∷ []) ≡ true → (l ≡ x) ⊎ (l ≡ y)
 either-part l x y h =
@@ -64,7 +64,7 @@ part-is : (i l : ℕ) (k : Node) → member l (parts k) ≡ true → (l ≡ firs
 part-is i l (Leaf-node x) h = absurd (false≢true h)
 part-is i l (Sequence x y) h = either-part l x y h
 part-is i l (Alternative x y) h = either-part l x y h
-part-is i l (Star x) h = ⊎-elim (λ e. inl (sym (eqb-true x l e))) (λ f. absurd (false≢true (f .1))) (or-cases (eqb x l) false h)
+part-is i l (Star again x) h = ⊎-elim (λ e. inl (sym (eqb-true x l e))) (λ f. absurd (false≢true (f .1))) (or-cases (eqb x l) false h)
 
 part-below : (i l : ℕ) (k : Node) → Below i k → member l (parts k) ≡ true → l < i
 part-below i l (Leaf-node x) b h = absurd (false≢true h)
@@ -72,7 +72,7 @@ part-below i l (Sequence x y) b h =
     ⊎-elim (λ e. omega (arith, b .0)) (λ e. omega (arith, b .1)) (either-part l x y h)
 part-below i l (Alternative x y) b h =
     ⊎-elim (λ e. omega (arith, b .0)) (λ e. omega (arith, b .1)) (either-part l x y h)
-part-below i l (Star x) b h = ⊎-elim (λ e. omega arith) (λ e. omega arith) (part-is i l (Star x) h)
+part-below i l (Star again x) b h = ⊎-elim (λ e. omega arith) (λ e. omega arith) (part-is i l (Star again x) h)
 
 -- ── n lines whose last is the root of a tree ──
 -- a line from i on and below n names l
@@ -176,8 +176,8 @@ module _ (f : ℕ → Line) (n : ℕ) {X : Type 0} (Q : (t : Tree) → Location 
         (x y : ℕ) → (s : Location (tree-of f (n - 1)) (alt (label-of f i) (tree-of f x) (tree-of f y))) (v : X)
         → Q (alt (label-of f i) (tree-of f x) (tree-of f y)) s v → Q (tree-of f x) (lft s) (first (Alternative x y) v) × Q (tree-of f y) (rgt s) v
     pub round :
-        (x : ℕ) → x < i → (s : Location (tree-of f (n - 1)) (star (label-of f i) false (tree-of f x))) (v : X)
-        → Q (star (label-of f i) false (tree-of f x)) s v → Q (tree-of f x) (rnd s) (first (Star x) v)
+        (again : Bool) (x : ℕ) → x < i → (s : Location (tree-of f (n - 1)) (star (label-of f i) again (tree-of f x))) (v : X)
+        → Q (star (label-of f i) again (tree-of f x)) s v → Q (tree-of f x) (rnd s) (first (Star again x) v)
 
   -- at the start the last line alone is known
   pub given-start : (now : ℕ → X) → Q (tree-of f (n - 1)) top (now (n - 1)) → All-given n now
@@ -200,7 +200,7 @@ module _ (f : ℕ → Line) (n : ℕ) {X : Type 0} (Q : (t : Tree) → Location 
       at-first (Leaf-node x) b v d g = subst (Given (tree-of f i)) (sym (hands .leaf x v)) d
       at-first (Sequence x y) b v d g = record { place = fst (g .place); right = hands .sequence x y (b .0) (b .1) (g .place) v (g .right) .0 }
       at-first (Alternative x y) b v d g = record { place = lft (g .place); right = hands .alternative x y (g .place) v (g .right) .0 }
-      at-first (Star x) b v d g = record { place = rnd (g .place); right = hands .round x b (g .place) v (g .right) }
+      at-first (Star again x) b v d g = record { place = rnd (g .place); right = hands .round again x b (g .place) v (g .right) }
 
       at-second :
           (k : Node) → Below i k → (second-part i k ≡ first-part i k → ⊥) → (v : X) → Given (made (label-of f i) (tree-of f) k) v
@@ -208,7 +208,7 @@ module _ (f : ℕ → Line) (n : ℕ) {X : Type 0} (Q : (t : Tree) → Location 
       at-second (Leaf-node x) b ne v g = absurd (ne refl)
       at-second (Sequence x y) b ne v g = record { place = snd (g .place); right = hands .sequence x y (b .0) (b .1) (g .place) v (g .right) .1 }
       at-second (Alternative x y) b ne v g = record { place = rgt (g .place); right = hands .alternative x y (g .place) v (g .right) .1 }
-      at-second (Star x) b ne v g = absurd (ne refl)
+      at-second (Star again x) b ne v g = absurd (ne refl)
 
       -- a line hands on by two stores, that of its second part before that of its first
       pub given-next :

@@ -1,14 +1,14 @@
 // The table of a pattern, packed: a line a cell, its numbers one above the other in 64 bits. From the lowest: kind, first, second, account
 // and follower, 8 bits each, and a bit that is 1 where the follower is a star above. Walks and sweeps read it thousands of times by one
 // reference, where a table by value would be copied at each call.
-// Every kind's number from 5 on means a star, so that each cell has a node and no reader needs a fault case. Followers are handed down from the
+// Every kind's number from 6 on means a lazy star, so that each cell has a node and no reader needs a fault case. Followers are handed down from the
 // last line to the first, by one law (specs/HandDown) that also gives the follow sets of crate masks.
 ghost use mathlib.Core.Path.{_≡_};
 ghost use Prim.Native.Nat.{_-_, _≤_, _<_, _/_, _%_};
 ghost use lib.ListN.{length, replicate};
 ghost use Rattle.syntax.specs.TreeLaws.{Rules};
 ghost use Rattle.table.specs.HandDown.{first-part, second-part, Rooted};
-ghost use Rattle.table.specs.Cells.{row, leaf-row, row-of, node-from, cell-line, line-in, node-in, account-in, Holds};
+ghost use Rattle.table.specs.Cells.{row, leaf-row, star-kind, row-of, node-from, cell-line, line-in, node-in, account-in, Holds};
 ghost use Rattle.table.specs.Cells.{cell-behind, behind-in, follower-in, loops-in};
 ghost use Rattle.table.specs.CellLaws.{Filled, Behind-put, first-behind, Follows};
 use syntax::Leaf;
@@ -35,6 +35,8 @@ impl Numbers {
     pub const ALTERNATIVE: u8 = 4;
 
     pub const STAR: u8 = 5;
+
+    pub const LAZY_STAR: u8 = 6;
 }
 
 fn row(kind: u8, first: u8, second: u8) -> Numbers
@@ -57,6 +59,17 @@ fn leaf_row(leaf: Leaf) -> Numbers
     }
 }
 
+// The number of a star's kind, by the bit that means another round.
+fn star_kind(again: bool) -> u8
+    ensures { λ r. ⌜ r ≡ star-kind again ⌝ }
+{
+    if again {
+        Numbers::LAZY_STAR
+    } else {
+        Numbers::STAR
+    }
+}
+
 fn row_of(node: Node) -> Numbers
     ensures { λ r. ⌜ r ≡ row-of node ⌝ }
 {
@@ -64,7 +77,7 @@ fn row_of(node: Node) -> Numbers
         Node::Leaf(leaf) => leaf_row(leaf),
         Node::Sequence(p, q) => row(Numbers::SEQUENCE, p, q),
         Node::Alternative(p, q) => row(Numbers::ALTERNATIVE, p, q),
-        Node::Star(p) => row(Numbers::STAR, p, 0),
+        Node::Star(again, p) => row(star_kind(again), p, 0),
     }
 }
 
@@ -121,7 +134,10 @@ fn node_of(kind: u8, first: u8, second: u8) -> Node
     if kind == Numbers::ALTERNATIVE {
         return Node::Alternative(first, second);
     }
-    Node::Star(first)
+    if kind == Numbers::STAR {
+        return Node::Star(false, first);
+    }
+    Node::Star(true, first)
 }
 
 // The node of a line, so that a walk over a packed table is a match on the node.
@@ -168,7 +184,7 @@ pub fn first_part(node: Node, i: usize) -> usize
         Node::Leaf(_) => i,
         Node::Sequence(p, _) => p as usize,
         Node::Alternative(p, _) => p as usize,
-        Node::Star(p) => p as usize,
+        Node::Star(_, p) => p as usize,
     }
 }
 
@@ -179,7 +195,7 @@ pub fn second_part(node: Node, i: usize) -> usize
         Node::Leaf(_) => i,
         Node::Sequence(_, q) => q as usize,
         Node::Alternative(_, q) => q as usize,
-        Node::Star(p) => p as usize,
+        Node::Star(_, p) => p as usize,
     }
 }
 
@@ -199,7 +215,7 @@ fn first_behind(node: Node, i: usize, line: u64) -> u64
         Node::Leaf(_) => line,
         Node::Sequence(_, q) => wide(q),
         Node::Alternative(_, _) => line,
-        Node::Star(_) => i as u64 + 256,
+        Node::Star(_, _) => i as u64 + 256,
     }
 }
 

@@ -50,7 +50,7 @@ made-accounts m t i (Leaf-node (Letter c)) h b r = h
 made-accounts m t i (Leaf-node (Range x y)) h b r = h
 made-accounts m t i (Sequence p q) h b r = (h, r p (b .0), r q (b .1))
 made-accounts m t i (Alternative p q) h b r = (h, r p (b .0), r q (b .1))
-made-accounts m t i (Star p) h b r = (h, r p b)
+made-accounts m t i (Star again p) h b r = (h, r p b)
 
 module _ (f : ℕ → Line) (n : ℕ) (lower : (l : ℕ) → l < n → Below l (f l .node)) (few : (l : ℕ) → l < n → f l .account < account-limit + 1) where
   tree-accounts : (k l : ℕ) → l < k → l < n → Known (tree-of f l)

@@ -24,6 +24,10 @@ fn row_of_leaf(account: u8, leaf: Leaf) -> Row {
     }
 }
 
+fn star_kind(again: bool) -> u8 {
+    if again { b'Z' } else { b'K' }
+}
+
 fn row_of(line: Line) -> Row {
     let account = line.account;
     let node = line.node;
@@ -31,7 +35,7 @@ fn row_of(line: Line) -> Row {
         Node::Leaf(leaf) => row_of_leaf(account, leaf),
         Node::Sequence(p, q) => Row(b'S', account, p, q),
         Node::Alternative(p, q) => Row(b'A', account, p, q),
-        Node::Star(p) => Row(b'K', account, p, 0),
+        Node::Star(again, p) => Row(star_kind(again), account, p, 0),
     }
 }
 

@@ -2,7 +2,7 @@
 use mathlib.Core.Path.{_≡_, refl, sym, ap, subst, _∙_}
 use mathlib.Core.Bool.{Bool, true, false, cond, _&&_}
 use mathlib.Core.Option.{none}
-use mathlib.Core.List.{List, []}
+use mathlib.Core.List.{List}
 use Prim.Native.Nat.{ℕ, _+_, _*_, _≤_, _<_}
 use lib.Dec.{leb}
 use borrow.Author.Tests.{le-leb, lt-leb}
@@ -77,8 +77,8 @@ module _ {table : List ℕ} (good : Good table) (l : ℕ) (s : l < 64) (n : Node
       pick true h k = k
       pick false h k = h
 
-  pub star-lower : (p : ℕ) → n ≡ Star p → p < l
-  star-lower p e = lower (Star p) e
+  pub star-lower : (again : Bool) (p : ℕ) → n ≡ Star again p → p < l
+  star-lower again p e = lower (Star again p) e
 
 -- ── the tree of a line, by its node ──
 module _ {table : List ℕ} (good : Good table) (l : ℕ) (s : l < 64) (n : Node) (en : n ≡ node-in table l) where
@@ -88,9 +88,9 @@ module _ {table : List ℕ} (good : Good table) (l : ℕ) (s : l < 64) (n : Node
   pub line-as : (k : Node) → n ≡ k → tree-in table l ≡ made label-at (tree-in table) k
   line-as k e = line-tree good l s n en ∙ ap (made label-at (tree-in table)) e
 
-  -- `K` takes another round for bit 0
-  pub star-as : (p : ℕ) → n ≡ Star p → tree-in table l ≡ star label-at false (tree-in table p)
-  star-as p e = line-as (Star p) e
+  -- a star's bit for another round is that of the line
+  pub star-as : (again : Bool) (p : ℕ) → n ≡ Star again p → tree-in table l ≡ star label-at again (tree-in table p)
+  star-as again p e = line-as (Star again p) e
 
 -- ── what is spelled at a line ──
 module _ {table : List ℕ} (good : Good table) (code : List ℕ) (count : ℕ) (fit : count ≤ length code * 8)

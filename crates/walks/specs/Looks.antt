@@ -1,6 +1,6 @@
 -- What a walk makes of a code's bits from a position on, for any function of the value: one law for each way of a walk, in terms of the
 -- bytes handed in. The letters, the entries and the visits of a code are instances.
-use mathlib.Core.Path.{_≡_, sym, ap, subst, _∙_}
+use mathlib.Core.Path.{_≡_, refl, sym, ap, subst, _∙_}
 use mathlib.Core.Bool.{Bool, true, false, not, Bool-set}
 use mathlib.Core.Logic.{inl, inr}
 use mathlib.Core.Option.{none, some}
@@ -17,6 +17,29 @@ use Rattle.semantics.specs.Positions.{Seen, see, and-then}
 use Rattle.semantics.specs.PositionLaws.{see-stays, see-nothing, see-letter, see-short, see-range, see-outside, see-seq, see-alt-none, see-left, see-right}
 use Rattle.semantics.specs.PositionLaws.{see-star-none, see-stop, see-round}
 use Rattle.walks.specs.Handed.{held-number}
+
+-- 01: "`K` writes 0 and a round, again and again, then 1"; 02: "`Z` [..] writes 0 to stop and 1 before a round". A star that takes another
+-- round for the bit `again` stops at the other one.
+abbrev pub stops : (again bit : Bool) → Bool
+stops false b = b
+stops true b = not b
+
+module _ {again b c : Bool} where
+  pub stops-greedy : again ≡ false → c ≡ b → c ≡ stops again b
+  stops-greedy h e = rw h e
+
+  pub stops-lazy : again ≡ true → c ≡ b → not c ≡ stops again b
+  stops-lazy h e = rw h (ap not e)
+
+stop-bit : (again b : Bool) → stops again b ≡ true → b ≡ not again
+stop-bit false b e = e
+stop-bit true false e = refl
+stop-bit true true e = sym e
+
+round-bit : (again b : Bool) → stops again b ≡ false → b ≡ again
+round-bit false b e = e
+round-bit true true e = refl
+round-bit true false e = sym e
 
 module _ (code : List ℕ) (count : ℕ) (fit : count ≤ length code * 8) where
   many : length (held 8 code count) ≡ count
@@ -76,13 +99,16 @@ module _ (code : List ℕ) (count : ℕ) (fit : count ≤ length code * 8) where
     pub look-star-none : count ≤ at → see (held 8 code count) (star m again t) f at ≡ none
     look-star-none h = let k = many in see-star-none (held 8 code count) m again t f at (omega arith)
 
-    pub look-stop : at < count → bit-at 8 code at ≡ not again → see (held 8 code count) (star m again t) f at ≡ some (f [], at + 1)
-    look-stop h z = let k = many in see-stop (held 8 code count) m again t f at (omega arith) (held-bit 8 code count fit (omega arith) at h ∙ z)
+    pub look-stop : at < count → stops again (bit-at 8 code at) ≡ true → see (held 8 code count) (star m again t) f at ≡ some (f [], at + 1)
+    look-stop h z =
+        let k = many in
+        see-stop (held 8 code count) m again t f at (omega arith) (held-bit 8 code count fit (omega arith) at h ∙ stop-bit again (bit-at 8 code at) z)
 
     pub look-round : {X Y : Type 0} (op : X → Y → Z) (g : Value t → X) (h : Value (star m again t) → Y)
-        → ((v : Value t) (vs : Value (star m again t)) → f (v ∷ vs) ≡ op (g v) (h vs)) → at < count → bit-at 8 code at ≡ again
+        → ((v : Value t) (vs : Value (star m again t)) → f (v ∷ vs) ≡ op (g v) (h vs)) → at < count → stops again (bit-at 8 code at) ≡ false
         → see (held 8 code count) (star m again t) f at
         ≡ and-then op (see (held 8 code count) t g (at + 1)) (see (held 8 code count) (star m again t) h)
     look-round op g h s lt z =
         let k = many in
-        see-round (held 8 code count) m again t f at op g h s (omega arith) (held-bit 8 code count fit (omega arith) at lt ∙ z)
+        see-round (held 8 code count) m again t f at op g h s (omega arith)
+        (held-bit 8 code count fit (omega arith) at lt ∙ round-bit again (bit-at 8 code at) z)

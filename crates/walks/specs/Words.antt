@@ -1,6 +1,6 @@
 -- What is spelled from a position of a code on, and the position behind it: the equations of a walk for the spelling.
 use mathlib.Core.Path.{_≡_, refl, sym, ap, _∙_}
-use mathlib.Core.Bool.{Bool, true, false, cond, not}
+use mathlib.Core.Bool.{Bool, true, false, cond}
 use mathlib.Core.Option.{none, some, Option·none-ne-some, Option·some-injective}
 use mathlib.Core.List.{List, [], _∷_, _++_}
 use Prim.Native.Nat.{ℕ, _+_, _*_, _≤_, _<_}
@@ -11,7 +11,7 @@ use Rattle.bits.specs.Bits.{bit-at, number-at, held}
 use Rattle.semantics.specs.Value.{flat}
 use Rattle.semantics.specs.Positions.{Seen, see, joined, and-then}
 use Rattle.walks.specs.Looks.{look-stays, look-nothing, look-letter, look-short, look-range, look-outside, look-seq, look-alt-none, look-left}
-use Rattle.walks.specs.Looks.{look-right, look-star-none, look-stop, look-round}
+use Rattle.walks.specs.Looks.{stops, look-right, look-star-none, look-stop, look-round}
 
 abbrev pub Word : Type 0
 Word = Seen (List ℕ)
@@ -94,14 +94,14 @@ module _ (code : List ℕ) (count : ℕ) (fit : count ≤ length code * 8) where
     unfolding word-at
     star-none-is h = as-star ∙ look-star-none code count fit m again u (flat (star m again u)) at h
 
-    pub stop-is : at < count → (b : Bool) → b ≡ bit-at 8 code at → b ≡ not again → word-at code count t at ≡ some ([], at + 1)
+    pub stop-is : at < count → (s : Bool) → s ≡ stops again (bit-at 8 code at) → s ≡ true → word-at code count t at ≡ some ([], at + 1)
     unfolding word-at
-    stop-is h b eb z = as-star ∙ look-stop code count fit m again u (flat (star m again u)) at h (sym eb ∙ z)
+    stop-is h s es z = as-star ∙ look-stop code count fit m again u (flat (star m again u)) at h (sym es ∙ z)
 
-    pub round-is : at < count → (b : Bool) → b ≡ bit-at 8 code at → b ≡ again
+    pub round-is : at < count → (s : Bool) → s ≡ stops again (bit-at 8 code at) → s ≡ false
         → word-at code count t at ≡ word-then (word-at code count u (at + 1)) (word-at code count t)
     unfolding word-at
-    round-is h b eb z =
+    round-is h s es z =
         as-star
-        ∙ look-round code count fit m again u (flat (star m again u)) at _++_ (flat u) (flat (star m again u)) (λ v vs. refl) h (sym eb ∙ z)
+        ∙ look-round code count fit m again u (flat (star m again u)) at _++_ (flat u) (flat (star m again u)) (λ v vs. refl) h (sym es ∙ z)
         ∙ ap (λ z. word-then (word-at code count u (at + 1)) (word-at code count z)) (sym e)

@@ -13,6 +13,7 @@ ghost use Rattle.bits.specs.Bits.{bit-at};
 ghost use Rattle.semantics.specs.Code.{code-limit};
 ghost use Rattle.table.specs.Cells.{Good, tree-in};
 ghost use Rattle.walks.specs.Lines.{leaf-node, range-node};
+ghost use Rattle.walks.specs.Looks.{stops};
 ghost use Rattle.walks.specs.Walks.{cap, went, failed, walked, more};
 use bits::bit_at;
 use bits::byte_at;
@@ -79,6 +80,15 @@ pub fn side_at(code: &[u8], at: u32, left: u8, right: u8) -> u8
     if bit_at(code, at) { right } else { left }
 }
 
+// Whether the bit at `at` ends a star that takes another round for the bit `again`.
+pub fn stops_at(code: &[u8], at: u32, again: bool) -> bool
+    requires { ⌜ at < 8 * length (now code) ⌝ }
+    ensures { λ r. ⌜ r ≡ stops again (bit-at 8 (now (code .entry)) at) ⌝ }
+{
+    let bit = bit_at(code, at);
+    if again { !bit } else { bit }
+}
+
 // A range takes eight bits, and only a letter of the range is a reading.
 fn walk_range(low: u8, high: u8, code: &[u8], count: u32, at: u32) -> Walked
     requires { ⌜ leaf-good (range-node low high) ≡ true ⌝ }
@@ -135,11 +145,11 @@ pub fn walk(table: &[u64; 64], l: usize, code: &[u8], count: u32, at: u32) -> Wa
             let side = side_at(code, at, p, q);
             walk(table, side as usize, code, count, at + 1)
         }
-        Node::Star(p) => {
+        Node::Star(again, p) => {
             let mut here = at;
             let mut letters: u32 = 0;
             while here < count {
-                if bit_at(code, here) {
+                if stops_at(code, here, again) {
                     return went(here + 1, letters);
                 }
                 let one = walk(table, p as usize, code, count, here + 1);

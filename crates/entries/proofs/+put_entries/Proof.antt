@@ -18,7 +18,6 @@ use borrow.Fn.PlainCycle.{Measures, is, falls, and}
 use Rattle.entries.proofs.put_entries.Reads as reads
 use Rattle.entries.proofs.put_entries.Kinds as kinds
 use Rattle.entries.proofs.+put_entries.Lts-put_entries as lts
-use Rattle.bits.proofs.bit_at.Reads as bit-at-reads
 use Rattle.entries.proofs.bits_in.Reads as bits-in-reads
 use Rattle.entries.proofs.failed.Reads as failed-reads
 use Rattle.entries.proofs.handed_down.Reads as handed-down-reads
@@ -27,6 +26,7 @@ use Rattle.entries.proofs.went.Reads as went-reads
 use Rattle.table.proofs.account_at.Reads as account-at-reads
 use Rattle.table.proofs.node_at.Reads as node-at-reads
 use Rattle.walks.proofs.side_at.Reads as side-at-reads
+use Rattle.walks.proofs.stops_at.Reads as stops-at-reads
 use Rattle.entries.proofs.+put_entries.{statement}
 use Rattle.entries.proofs.+put_entries.Tie.{close}
 
@@ -61,18 +61,18 @@ given t = (
   failed-reads.Learnt,
   side-at-reads.Asked,
   side-at-reads.Learnt,
-  bit-at-reads.Asked,
-  bit-at-reads.Learnt,
+  stops-at-reads.Asked,
+  stops-at-reads.Learnt,
   went-reads.Asked,
   went-reads.Learnt,
 )
 
 abbrev Inv : lts.InvT-loop
-Inv table l above code at letters₀ accounts₀ n own owner p part end here₀ m₀ letters accounts here m =
+Inv table l above code at letters₀ accounts₀ n own owner again p part end here₀ m₀ letters accounts here m =
     Turns code (tree-in table l) above at n letters₀ accounts₀ here m letters accounts
 
 abbrev μ-loop : lts.MeasureT-loop
-μ-loop table l above code at letters₀ accounts₀ n own owner p part end here₀ m₀ letters accounts here m = code-limit - here
+μ-loop table l above code at letters₀ accounts₀ n own owner again p part end here₀ m₀ letters accounts here m = code-limit - here
 
 -- the place where the node has been read, and the start from there
 abbrev Read : ℕ → Type 0
@@ -231,16 +231,16 @@ put-entries-requires-3 t c κs =
     let same = side-is known _ _ _ _ _ e there (at-side-at .side-at .ensures) in
     (omega (arith, h, begin .pre .0), ((known .good, omega (arith, h, known .below)), ready-at (begin .pre .1 .1) (same .within)))
 
-enum-known-p-3 : (t : ℕ) → lts.Need-enum-known-p-3 (given t) (called t) reads.Post Inv μ-loop
-enum-known-p-3 t c = search needs
+enum-known-again : (t : ℕ) → lts.Need-enum-known-again (given t) (called t) reads.Post Inv μ-loop
+enum-known-again t c = search needs
 
 cast-part : (t : ℕ) → lts.Need-cast-part (given t) (called t) reads.Post Inv μ-loop
 cast-part t c =
-    let at-p3 = c .before in
-    let d = at-p3 .before .before in
+    let at-star = c .before in
+    let d = at-star .before .before in
     let known = line t d in
-    let e = at-p3 .p3 .given .1 in
-    omega (arith, known .below, star-below known _ e)
+    let e = at-star .again .given .1 in
+    omega (arith, known .below, star-below known _ _ e)
 
 bits-in-requires-2 : (t : ℕ) → lts.Need-bits-in-requires-2 (given t) (called t) reads.Post Inv μ-loop
 bits-in-requires-2 t c κs = start t (c .before .before .before) .pre .1 .1 .short
@@ -250,8 +250,8 @@ loop-holds t c =
     let read-node = c .before .before .before .before in
     turns-start (start t read-node .pre .1 .1)
 
-bit-at-requires : (t : ℕ) → lts.Need-bit-at-requires (given t) (called t) reads.Post Inv μ-loop
-bit-at-requires t c κs = omega (arith, bit-there t c)
+stops-at-requires : (t : ℕ) → lts.Need-stops-at-requires (given t) (called t) reads.Post Inv μ-loop
+stops-at-requires t c κs = omega (arith, bit-there t c)
 
 add-went : (t : ℕ) → lts.Need-add-went (given t) (called t) reads.Post Inv μ-loop
 add-went t c =
@@ -274,15 +274,15 @@ same-length-4 t c =
 returns-3 : (t : ℕ) → lts.Need-returns-3 (given t) (called t) reads.Post Inv μ-loop
 returns-3 t c =
     let at-then3 = c .before in
-    let at-bit-at = at-then3 .before in
-    let inside = at-bit-at .before in
+    let at-stops-at = at-then3 .before in
+    let inside = at-stops-at .before in
     let turn = inside .before in
-    let at-p3 = turn .before .before .before in
-    let d = at-p3 .before .before in
+    let at-star = turn .before .before .before in
+    let d = at-star .before .before in
     let known = line t d in
-    let e = at-p3 .p3 .given .1 in
+    let e = at-star .again .given .1 in
     let there = bit-there t inside in
-    let stop = stop-is known _ _ _ e there _ (at-bit-at .bit-at .ensures) (at-then3 .if3 .taken) in
+    let stop = stop-is known _ _ _ _ e there _ (at-stops-at .stops-at .ensures) (at-then3 .if3 .taken) in
     rw (c .went .ensures) (turn .loop .inv .finish _ _ _ (none-entered _ _ (turn .loop .inv .ready .few) stop))
 
 add-put-entries-2 : (t : ℕ) → lts.Need-add-put-entries-2 (given t) (called t) reads.Post Inv μ-loop
@@ -293,17 +293,17 @@ add-put-entries-2 t c =
 put-entries-requires-4 : (t : ℕ) → lts.Need-put-entries-requires-4 (given t) (called t) reads.Post Inv μ-loop
 put-entries-requires-4 t c κs =
     let at-else3 = c .before .before in
-    let at-bit-at = at-else3 .before in
-    let inside = at-bit-at .before in
+    let at-stops-at = at-else3 .before in
+    let inside = at-stops-at .before in
     let turn = inside .before in
-    let at-p3 = turn .before .before .before in
-    let d = at-p3 .before .before in
+    let at-star = turn .before .before .before in
+    let d = at-star .before .before in
     let known = line t d in
     let begin = start t d in
-    let e = at-p3 .p3 .given .1 in
+    let e = at-star .again .given .1 in
     let there = bit-there t inside in
-    let parts = round-is known _ _ _ e there _ (at-bit-at .bit-at .ensures) (at-else3 .if3 .left) in
-    let h = star-below known _ e in
+    let parts = round-is known _ _ _ _ e there _ (at-stops-at .stops-at .ensures) (at-else3 .if3 .left) in
+    let h = star-below known _ _ e in
     (omega (arith, h, turn .loop .inv .low, begin .pre .0), ((known .good, omega (arith, h, known .below)), turn-ready (turn .loop .inv) parts))
 
 same-length-5 : (t : ℕ) → lts.Need-same-length-5 (given t) (called t) reads.Post Inv μ-loop
@@ -322,45 +322,45 @@ returns-4 : (t : ℕ) → lts.Need-returns-4 (given t) (called t) reads.Post Inv
 returns-4 t c =
     let at-put-entries4 = c .before .before .before .before .before .before in
     let at-else3 = at-put-entries4 .before .before .before in
-    let at-bit-at = at-else3 .before in
-    let inside = at-bit-at .before in
+    let at-stops-at = at-else3 .before in
+    let inside = at-stops-at .before in
     let turn = inside .before in
-    let at-p3 = turn .before .before .before in
-    let d = at-p3 .before .before in
+    let at-star = turn .before .before .before in
+    let d = at-star .before .before in
     let known = line t d in
-    let e = at-p3 .p3 .given .1 in
+    let e = at-star .again .given .1 in
     let there = bit-there t inside in
-    let parts = round-is known _ _ _ e there _ (at-bit-at .bit-at .ensures) (at-else3 .if3 .left) in
+    let parts = round-is known _ _ _ _ e there _ (at-stops-at .stops-at .ensures) (at-else3 .if3 .left) in
     turns-failed (turn .loop .inv) parts (at-put-entries4 .put-entries4 .ensures) (not-true _ (c .if4 .taken))
 
 loop-less : (t : ℕ) → lts.Need-loop-less (given t) (called t) reads.Post Inv μ-loop
 loop-less t c =
     let at-put-entries4 = c .before .before .before .before .before .before in
     let at-else3 = at-put-entries4 .before .before .before in
-    let at-bit-at = at-else3 .before in
-    let inside = at-bit-at .before in
+    let at-stops-at = at-else3 .before in
+    let inside = at-stops-at .before in
     let turn = inside .before in
-    let at-p3 = turn .before .before .before in
-    let d = at-p3 .before .before in
+    let at-star = turn .before .before .before in
+    let d = at-star .before .before in
     let known = line t d in
-    let e = at-p3 .p3 .given .1 in
+    let e = at-star .again .given .1 in
     let there = bit-there t inside in
-    let parts = round-is known _ _ _ e there _ (at-bit-at .bit-at .ensures) (at-else3 .if3 .left) in
+    let parts = round-is known _ _ _ _ e there _ (at-stops-at .stops-at .ensures) (at-else3 .if3 .left) in
     omega (arith, turn .loop .inv .ready .short, enters-stays (at-put-entries4 .put-entries4 .ensures) (not-false _ (c .if4 .left)) (parts .within))
 
 loop-again : (t : ℕ) → lts.Need-loop-again (given t) (called t) reads.Post Inv μ-loop
 loop-again t c =
     let at-put-entries4 = c .before .before .before .before .before .before in
     let at-else3 = at-put-entries4 .before .before .before in
-    let at-bit-at = at-else3 .before in
-    let inside = at-bit-at .before in
+    let at-stops-at = at-else3 .before in
+    let inside = at-stops-at .before in
     let turn = inside .before in
-    let at-p3 = turn .before .before .before in
-    let d = at-p3 .before .before in
+    let at-star = turn .before .before .before in
+    let d = at-star .before .before in
     let known = line t d in
-    let e = at-p3 .p3 .given .1 in
+    let e = at-star .again .given .1 in
     let there = bit-there t inside in
-    let parts = round-is known _ _ _ e there _ (at-bit-at .bit-at .ensures) (at-else3 .if3 .left) in
+    let parts = round-is known _ _ _ _ e there _ (at-stops-at .stops-at .ensures) (at-else3 .if3 .left) in
     turns-more (turn .loop .inv) parts (at-put-entries4 .put-entries4 .ensures) (not-false _ (c .if4 .left))
 
 failed-requires-2 : (t : ℕ) → lts.Need-failed-requires-2 (given t) (called t) reads.Post Inv μ-loop
@@ -431,12 +431,12 @@ returns-8 t c =
     let behind = c .before in
     let turn = behind .before in
     let at-bits-in2 = turn .before in
-    let at-p3 = at-bits-in2 .before .before in
-    let d = at-p3 .before .before in
+    let at-star = at-bits-in2 .before .before in
+    let d = at-star .before .before in
     let known = line t d in
     let begin = start t d in
-    let e = at-p3 .p3 .given .1 in
-    let over = star-none-is known (begin .args .code .now) (turn .loop .here) _ e
+    let e = at-star .again .given .1 in
+    let over = star-none-is known (begin .args .code .now) (turn .loop .here) _ _ e
     (omega (arith, behind .loop-test .left, at-bits-in2 .bits-in2 .ensures)) in
     turn .loop .inv .finish _ _ _ (not-entered refl refl (c .failed2 .ensures) over)
 
@@ -467,11 +467,11 @@ pub +put-entries-spec : {M : Type 1} → statement M
     (cast-side t)
     (add-put-entries t)
     (put-entries-requires-3 t)
-    (enum-known-p-3 t)
+    (enum-known-again t)
     (cast-part t)
     (bits-in-requires-2 t)
     (loop-holds t)
-    (bit-at-requires t)
+    (stops-at-requires t)
     (add-went t)
     (went-requires t)
     (same-length-3 t)

@@ -1,22 +1,21 @@
 -- `second_sweep::sweep` meets its contract.
+use mathlib.Core.Logic.{⊎-elim}
 use Prim.Native.Nat.{ℕ, _+_, _*_, _-_, _<_}
 use native.Mathlib.Omega.{arith}
 use lib.ListN.{length}
-use Rattle.syntax.specs.declared.Node.the-variants.{Sequence}
-use Rattle.syntax.specs.TreeLaws.{Below}
 use Rattle.semantics.specs.Code.{code-limit}
 use Rattle.second_sweep.specs.Sweeping.{Ready}
-use Rattle.second_sweep.specs.Ways.{Line-node, Going, lower, side-lower, leaf-ready, leaf-done, seq-first, seq-second, seq-done, side-ready, side-done}
-use Rattle.second_sweep.specs.Ways.{going-start, star-stop, round-ready, round-less, round-done}
+use Rattle.second_sweep.specs.Ways.{Line-node, lower, leaf-ready, leaf-done, seq-first, Last, last-met, seq-last, side-last}
+use Rattle.second_sweep.specs.Ways.{Going, going-start, star-stop, round-ready, round-less, round-done}
 use borrow.Author.Needs.{needs}
 use borrow.Fn.Kinds.{In}
 use borrow.Fn.PlainCycle.{Measures, is, falls, and}
 use Rattle.second_sweep.proofs.sweep.Reads as sweep
 use Rattle.second_sweep.proofs.sweep.Kinds as sweep-kinds
 use Rattle.second_sweep.proofs.+sweep.Lts-sweep as sweep-lts
-use Rattle.bits.proofs.is_open.Reads as is-open-reads
 use Rattle.second_sweep.proofs.choose.Reads as choose-reads
 use Rattle.second_sweep.proofs.flag_behind.Reads as flag-behind-reads
+use Rattle.second_sweep.proofs.goes_on.Reads as goes-on-reads
 use Rattle.second_sweep.proofs.put_bit.Reads as put-bit-reads
 use Rattle.second_sweep.proofs.stop.Reads as stop-reads
 use Rattle.second_sweep.proofs.sweep_leaf.Reads as sweep-leaf-reads
@@ -47,8 +46,8 @@ given t = (
   flag-behind-reads.Learnt,
   choose-reads.Asked,
   choose-reads.Learnt,
-  is-open-reads.Asked,
-  is-open-reads.Learnt,
+  goes-on-reads.Asked,
+  goes-on-reads.Learnt,
   put-bit-reads.Asked,
   put-bit-reads.Learnt,
   stop-reads.Asked,
@@ -56,10 +55,11 @@ given t = (
 )
 
 abbrev sweep-Inv-loop : sweep-lts.InvT-loop
-sweep-Inv-loop table words tape l i taken code₀ at p j₀ bit₀ code j bit = (s : Ready table words tape l i taken at) → Going s code₀ code j bit
+sweep-Inv-loop table words tape l i taken code₀ at again p here₀ flag₀ code here flag =
+    (s : Ready table words tape l i taken at) → Going s code₀ code (here .position) (here .at) flag
 
 abbrev sweep-μ-loop : sweep-lts.MeasureT-loop
-sweep-μ-loop table words tape l i taken code₀ at p j₀ bit₀ code j bit = length tape - j
+sweep-μ-loop table words tape l i taken code₀ at again p here₀ flag₀ code here flag = length tape - here .position
 
 -- the line's node
 abbrev line : (t : ℕ) (c : sweep-lts.After-node-at (given t) (sweep-at t) sweep.Post sweep-Inv-loop sweep-μ-loop) →
@@ -69,22 +69,34 @@ line t c =
     let start = c .before .before .before .before in
     record { good = start .pre .1 .0; low = start .pre .1 .1; is = c .node-at .ensures }
 
--- a sequence's parts lie below it, and so does a star's child
-parts-lower : (t : ℕ) (c : sweep-lts.After-p (given t) (sweep-at t) sweep.Post sweep-Inv-loop sweep-μ-loop) →
-    Below (c .before .before .before .before .before .before .args .l) (Sequence (c .p .given .0 .0) (c .p .given .0 .1 .0))
-parts-lower t c = lower (line t (c .before .before)) (c .p .given .1)
+-- a sequence's first part lies below it, and so does a star's child
+first-lower : (t : ℕ) (c : sweep-lts.After-p (given t) (sweep-at t) sweep.Post sweep-Inv-loop sweep-μ-loop) →
+    c .p .given .0 .0 < c .before .before .before .before .before .before .args .l
+first-lower t c = lower (line t (c .before .before)) (c .p .given .1) .0
 
-child-lower : (t : ℕ) (c : sweep-lts.After-p3 (given t) (sweep-at t) sweep.Post sweep-Inv-loop sweep-μ-loop) →
-    c .p3 .given .0 .0 < c .before .before .before .before .before .before .args .l
-child-lower t c = lower (line t (c .before .before)) (c .p3 .given .1)
+child-lower : (t : ℕ) (c : sweep-lts.After-again (given t) (sweep-at t) sweep.Post sweep-Inv-loop sweep-μ-loop) →
+    c .again .given .0 .1 .0 < c .before .before .before .before .before .before .args .l
+child-lower t c = lower (line t (c .before .before)) (c .again .given .1)
 
 -- what is left of the rounds gives them all
 going : (t : ℕ) (c : sweep-lts.At-loop (given t) (sweep-at t) sweep.Post sweep-Inv-loop sweep-μ-loop) →
     let start = c .before .before .before .before .before .before .before .before in
-    Going (start .pre .1 .2) (start .args .code .now) (c .loop .code) (c .loop .j) (c .loop .bit)
+    Going (start .pre .1 .2) (start .args .code .now) (c .loop .code) (c .loop .here .position) (c .loop .here .at) (c .loop .flag)
 going t c =
     let start = c .before .before .before .before .before .before .before .before in
     c .loop .inv (start .pre .1 .2)
+
+-- the last part of a sequence, or the side of an alternative, gives the node
+last-part : (t : ℕ) (c : sweep-lts.At-match-came (given t) (sweep-at t) sweep.Post sweep-Inv-loop sweep-μ-loop) →
+    let start = c .before .before .before .before .before in
+    (s : Ready (start .args .table .now) (start .args .words .now) (start .args .tape .now) (start .args .l) (start .args .i) (start .args .taken)
+    (start .args .at)) → Last s (start .args .code .now) (c .match .code) (c .match .here) (c .match .flag) (c .match .last)
+last-part t c s =
+    let n = line t (c .before) in
+    ⊎-elim
+    (λ w. last-met (w .8) (w .9) (w .10) (w .11) (seq-last n (w .1 .given .1) (w .4 .ensures) (w .7 .ensures) s))
+    (λ w. last-met (w .7) (w .8) (w .9) (w .10) (side-last n (w .1 .given .1) (w .4 .ensures) s))
+    (c .match .came)
 
 sweep-node-at-requires : (t : ℕ) → sweep-lts.Need-node-at-requires (given t) (sweep-at t) sweep.Post sweep-Inv-loop sweep-μ-loop
 sweep-node-at-requires t c κs = search needs
@@ -102,7 +114,7 @@ sweep-enum-known-p : (t : ℕ) → sweep-lts.Need-enum-known-p (given t) (sweep-
 sweep-enum-known-p t c = search needs
 
 sweep-cast-sweep : (t : ℕ) → sweep-lts.Need-cast-sweep (given t) (sweep-at t) sweep.Post sweep-Inv-loop sweep-μ-loop
-sweep-cast-sweep t c = omega (arith, parts-lower t (c .before), line t (c .before .before .before) .low)
+sweep-cast-sweep t c = omega (arith, first-lower t (c .before), line t (c .before .before .before) .low)
 
 sweep-sweep-requires : (t : ℕ) → sweep-lts.Need-sweep-requires (given t) (sweep-at t) sweep.Post sweep-Inv-loop sweep-μ-loop
 sweep-sweep-requires t c κs =
@@ -110,29 +122,11 @@ sweep-sweep-requires t c κs =
     let node = kind .before .before in
     let n = line t node in
     let start = node .before .before .before .before in
-    let h = parts-lower t kind in
+    let h = first-lower t kind in
     (omega (arith, start .pre .0), (n .good, omega (arith, n .low), seq-first n (kind .p .given .1) (start .pre .1 .2)))
 
 sweep-flag-behind-requires : (t : ℕ) → sweep-lts.Need-flag-behind-requires (given t) (sweep-at t) sweep.Post sweep-Inv-loop sweep-μ-loop
 sweep-flag-behind-requires t c κs = search needs
-
-sweep-cast-sweep-2 : (t : ℕ) → sweep-lts.Need-cast-sweep-2 (given t) (sweep-at t) sweep.Post sweep-Inv-loop sweep-μ-loop
-sweep-cast-sweep-2 t c =
-    let kind = c .before .before .before .before .before .before in
-    omega (arith, parts-lower t kind, line t (kind .before .before) .low)
-
-sweep-sweep-requires-2 : (t : ℕ) → sweep-lts.Need-sweep-requires-2 (given t) (sweep-at t) sweep.Post sweep-Inv-loop sweep-μ-loop
-sweep-sweep-requires-2 t c κs =
-    let one = c .before .before .before .before in
-    let kind = one .before .before .before in
-    let node = kind .before .before in
-    let n = line t node in
-    let start = node .before .before .before .before in
-    let e = kind .p .given .1 in
-    let h = parts-lower t kind in
-    let further = one .sweep .ensures (seq-first n e (start .pre .1 .2)) .at-is in
-    let ready = seq-second n e (one .sweep .ensures) (c .before .flag-behind .ensures) (start .pre .1 .2) in
-    (omega (arith, start .pre .0), (n .good, omega (arith, n .low), ready))
 
 sweep-enum-known-p-2 : (t : ℕ) → sweep-lts.Need-enum-known-p-2 (given t) (sweep-at t) sweep.Post sweep-Inv-loop sweep-μ-loop
 sweep-enum-known-p-2 t c = search needs
@@ -146,59 +140,37 @@ sweep-choose-requires t c κs =
     let h = lower n (kind .p2 .given .1) in
     (omega (arith, s .enough, s .it .within), omega (arith, n .low), omega (arith, s .it .few))
 
-sweep-cast-sweep-3 : (t : ℕ) → sweep-lts.Need-cast-sweep-3 (given t) (sweep-at t) sweep.Post sweep-Inv-loop sweep-μ-loop
-sweep-cast-sweep-3 t c =
-    let chosen = c .before .before in
-    let kind = chosen .before .before .before in
-    let n = line t (kind .before .before) in
-    omega (arith, side-lower n (kind .p2 .given .1) (chosen .choose .ensures), n .low)
-
-sweep-add-sweep : (t : ℕ) → sweep-lts.Need-add-sweep (given t) (sweep-at t) sweep.Post sweep-Inv-loop sweep-μ-loop
-sweep-add-sweep t c =
-    let start = c .before .before .before .before .before .before .before .before .before .before .before .before in
+sweep-add-t26 : (t : ℕ) → sweep-lts.Need-add-t26 (given t) (sweep-at t) sweep.Post sweep-Inv-loop sweep-μ-loop
+sweep-add-t26 t c =
+    let start = c .before .before .before .before .before .before .before in
     omega (arith, start .pre .1 .2 .it .few)
 
-sweep-sweep-requires-3 : (t : ℕ) → sweep-lts.Need-sweep-requires-3 (given t) (sweep-at t) sweep.Post sweep-Inv-loop sweep-μ-loop
-sweep-sweep-requires-3 t c κs =
-    let chosen = c .before .before .before in
-    let kind = chosen .before .before .before in
-    let node = kind .before .before in
-    let n = line t node in
-    let start = node .before .before .before .before in
-    let e = kind .p2 .given .1 in
-    let side = chosen .choose .ensures in
-    let h = side-lower n e side in
-    (omega (arith, start .pre .0), (n .good, omega (arith, n .low), side-ready n e side (start .pre .1 .2)))
-
-sweep-enum-known-p-3 : (t : ℕ) → sweep-lts.Need-enum-known-p-3 (given t) (sweep-at t) sweep.Post sweep-Inv-loop sweep-μ-loop
-sweep-enum-known-p-3 t c = search needs
+sweep-enum-known-again : (t : ℕ) → sweep-lts.Need-enum-known-again (given t) (sweep-at t) sweep.Post sweep-Inv-loop sweep-μ-loop
+sweep-enum-known-again t c = search needs
 
 sweep-loop-holds : (t : ℕ) → sweep-lts.Need-loop-holds (given t) (sweep-at t) sweep.Post sweep-Inv-loop sweep-μ-loop
 sweep-loop-holds t c = λ s. going-start s _
 
-sweep-cast-is-open : (t : ℕ) → sweep-lts.Need-cast-is-open (given t) (sweep-at t) sweep.Post sweep-Inv-loop sweep-μ-loop
-sweep-cast-is-open t c = omega (arith, child-lower t (c .before .before), line t (c .before .before .before .before) .low)
-
-sweep-is-open-requires : (t : ℕ) → sweep-lts.Need-is-open-requires (given t) (sweep-at t) sweep.Post sweep-Inv-loop sweep-μ-loop
-sweep-is-open-requires t c κs =
+sweep-goes-on-requires : (t : ℕ) → sweep-lts.Need-goes-on-requires (given t) (sweep-at t) sweep.Post sweep-Inv-loop sweep-μ-loop
+sweep-goes-on-requires t c κs =
     let node = c .before .before .before .before in
     let s = node .before .before .before .before .pre .1 .2 in
-    (omega (arith, s .enough, going t c .now .within), omega (arith, child-lower t (c .before .before), line t node .low))
+    (line t node .low, omega (arith, child-lower t (c .before .before), line t node .low), omega (arith, s .enough, going t c .now .within))
 
 sweep-put-bit-requires : (t : ℕ) → sweep-lts.Need-put-bit-requires (given t) (sweep-at t) sweep.Post sweep-Inv-loop sweep-μ-loop
 sweep-put-bit-requires t c κs = omega (arith, going t (c .before .before .before) .now .few)
 
-sweep-cast-sweep-4 : (t : ℕ) → sweep-lts.Need-cast-sweep-4 (given t) (sweep-at t) sweep.Post sweep-Inv-loop sweep-μ-loop
-sweep-cast-sweep-4 t c =
+sweep-cast-sweep-2 : (t : ℕ) → sweep-lts.Need-cast-sweep-2 (given t) (sweep-at t) sweep.Post sweep-Inv-loop sweep-μ-loop
+sweep-cast-sweep-2 t c =
     let kind = c .before .before .before .before .before .before .before .before in
     omega (arith, child-lower t kind, line t (kind .before .before) .low)
 
-sweep-add-sweep-2 : (t : ℕ) → sweep-lts.Need-add-sweep-2 (given t) (sweep-at t) sweep.Post sweep-Inv-loop sweep-μ-loop
-sweep-add-sweep-2 t c = omega (arith, going t (c .before .before .before .before .before .before .before) .now .few)
+sweep-add-sweep : (t : ℕ) → sweep-lts.Need-add-sweep (given t) (sweep-at t) sweep.Post sweep-Inv-loop sweep-μ-loop
+sweep-add-sweep t c = omega (arith, going t (c .before .before .before .before .before .before .before .before) .now .few)
 
-sweep-sweep-requires-4 : (t : ℕ) → sweep-lts.Need-sweep-requires-4 (given t) (sweep-at t) sweep.Post sweep-Inv-loop sweep-μ-loop
-sweep-sweep-requires-4 t c κs =
-    let test = c .before .before .before .before .before in
+sweep-sweep-requires-2 : (t : ℕ) → sweep-lts.Need-sweep-requires-2 (given t) (sweep-at t) sweep.Post sweep-Inv-loop sweep-μ-loop
+sweep-sweep-requires-2 t c κs =
+    let test = c .before .before .before .before .before .before in
     let turn = test .before .before in
     let kind = turn .before .before in
     let node = kind .before .before in
@@ -206,33 +178,33 @@ sweep-sweep-requires-4 t c κs =
     let start = node .before .before .before .before in
     let h = child-lower t kind in
     let g = going t turn in
-    let ready = round-ready n (kind .p3 .given .1) (start .pre .1 .2) g (test .before .is-open .ensures) (test .if1 .taken) in
+    let ready = round-ready n (kind .again .given .1) (start .pre .1 .2) g (test .before .goes-on .ensures) (test .if1 .taken) in
     (omega (arith, start .pre .0, g .further), (n .good, omega (arith, n .low), ready))
 
 sweep-loop-less : (t : ℕ) → sweep-lts.Need-loop-less (given t) (sweep-at t) sweep.Post sweep-Inv-loop sweep-μ-loop
 sweep-loop-less t c =
     let one = c .before .before in
-    let put = one .before .before .before .before in
+    let put = one .before .before .before .before .before in
     let test = put .before .before in
     let turn = test .before .before in
     let kind = turn .before .before in
     let node = kind .before .before in
-    let asked = test .before .is-open .ensures in
+    let asked = test .before .goes-on .ensures in
     let s = node .before .before .before .before .pre .1 .2 in
-    let e = kind .p3 .given .1 in
-    let less = round-less (line t node) e s (going t turn) asked (test .if1 .taken) (put .put-bit .ensures) (one .sweep4 .ensures) in
+    let e = kind .again .given .1 in
+    let less = round-less (line t node) e s (going t turn) asked (test .if1 .taken) (put .put-bit .ensures) (one .sweep2 .ensures) in
     omega arith
 
 sweep-loop-again : (t : ℕ) → sweep-lts.Need-loop-again (given t) (sweep-at t) sweep.Post sweep-Inv-loop sweep-μ-loop
 sweep-loop-again t c =
     let one = c .before .before in
-    let put = one .before .before .before .before in
+    let put = one .before .before .before .before .before in
     let test = put .before .before in
     let turn = test .before .before in
     let kind = turn .before .before in
     let node = kind .before .before in
-    let asked = test .before .is-open .ensures in
-    λ s. round-done (line t node) (kind .p3 .given .1) s (turn .loop .inv s) asked (test .if1 .taken) (put .put-bit .ensures) (one .sweep4 .ensures)
+    let asked = test .before .goes-on .ensures in
+    λ s. round-done (line t node) (kind .again .given .1) s (turn .loop .inv s) asked (test .if1 .taken) (put .put-bit .ensures) (one .sweep2 .ensures)
 
 sweep-stop-requires : (t : ℕ) → sweep-lts.Need-stop-requires (given t) (sweep-at t) sweep.Post sweep-Inv-loop sweep-μ-loop
 sweep-stop-requires t c κs = omega (arith, going t (c .before .before .before) .now .few)
@@ -250,43 +222,36 @@ sweep-same-length t c =
 
 sweep-returns-2 : (t : ℕ) → sweep-lts.Need-returns-2 (given t) (sweep-at t) sweep.Post sweep-Inv-loop sweep-μ-loop
 sweep-returns-2 t c =
-    let two = c .before .before in
-    let flag = two .before .before in
-    let one = flag .before .before .before in
-    let kind = one .before .before .before in
-    seq-done (line t (kind .before .before)) (kind .p .given .1) (one .sweep .ensures) (flag .flag-behind .ensures) (two .sweep2 .ensures)
-
-sweep-same-length-2 : (t : ℕ) → sweep-lts.Need-same-length-2 (given t) (sweep-at t) sweep.Post sweep-Inv-loop sweep-μ-loop
-sweep-same-length-2 t c =
-    let start = c .before .before .before .before .before .before .before .before .before .before .before .before .before .before .before .before in
-    sweep-returns-2 t c (start .pre .1 .2) .as-long
-
-sweep-returns-3 : (t : ℕ) → sweep-lts.Need-returns-3 (given t) (sweep-at t) sweep.Post sweep-Inv-loop sweep-μ-loop
-sweep-returns-3 t c =
-    let swept = c .before .before in
-    let chosen = swept .before .before .before .before in
-    let kind = chosen .before .before .before in
-    λ s. side-done (line t (kind .before .before)) (kind .p2 .given .1) (chosen .choose .ensures) s (swept .sweep3 .ensures)
-
-sweep-same-length-3 : (t : ℕ) → sweep-lts.Need-same-length-3 (given t) (sweep-at t) sweep.Post sweep-Inv-loop sweep-μ-loop
-sweep-same-length-3 t c =
-    let start = c .before .before .before .before .before .before .before .before .before .before .before .before .before .before .before in
-    sweep-returns-3 t c (start .pre .1 .2) .as-long
-
-sweep-returns-4 : (t : ℕ) → sweep-lts.Need-returns-4 (given t) (sweep-at t) sweep.Post sweep-Inv-loop sweep-μ-loop
-sweep-returns-4 t c =
     let stopped = c .before .before in
     let test = stopped .before .before in
     let turn = test .before .before in
     let kind = turn .before .before in
     let n = line t (kind .before .before) in
-    let asked = test .before .is-open .ensures in
-    λ s. star-stop n (kind .p3 .given .1) s (turn .loop .inv s) asked (test .if1 .left) (stopped .stop .ensures)
+    let asked = test .before .goes-on .ensures in
+    λ s. star-stop n (kind .again .given .1) s (turn .loop .inv s) asked (test .if1 .left) (stopped .stop .ensures)
 
-sweep-same-length-4 : (t : ℕ) → sweep-lts.Need-same-length-4 (given t) (sweep-at t) sweep.Post sweep-Inv-loop sweep-μ-loop
-sweep-same-length-4 t c =
+sweep-same-length-2 : (t : ℕ) → sweep-lts.Need-same-length-2 (given t) (sweep-at t) sweep.Post sweep-Inv-loop sweep-μ-loop
+sweep-same-length-2 t c =
     let start = c .before .before .before .before .before .before .before .before .before .before .before .before .before .before in
-    sweep-returns-4 t c (start .pre .1 .2) .as-long
+    sweep-returns-2 t c (start .pre .1 .2) .as-long
+
+sweep-sweep-requires-3 : (t : ℕ) → sweep-lts.Need-sweep-requires-3 (given t) (sweep-at t) sweep.Post sweep-Inv-loop sweep-μ-loop
+sweep-sweep-requires-3 t c κs =
+    let met = c .before .before in
+    let n = line t (met .before) in
+    let start = met .before .before .before .before .before in
+    let k = last-part t met (start .pre .1 .2) in
+    (omega (arith, k .below, k .further, start .pre .0), (n .good, omega (arith, k .below, n .low), k .ready))
+
+sweep-returns-3 : (t : ℕ) → sweep-lts.Need-returns-3 (given t) (sweep-at t) sweep.Post sweep-Inv-loop sweep-μ-loop
+sweep-returns-3 t c =
+    let swept = c .before .before in
+    λ s. let k = last-part t (swept .before .before .before) s in k .done (swept .sweep3 .ensures (k .ready))
+
+sweep-same-length-3 : (t : ℕ) → sweep-lts.Need-same-length-3 (given t) (sweep-at t) sweep.Post sweep-Inv-loop sweep-μ-loop
+sweep-same-length-3 t c =
+    let start = c .before .before .before .before .before .before .before .before .before .before in
+    sweep-returns-3 t c (start .pre .1 .2) .as-long
 
 pub +sweep-spec : {M : Type 1} → statement M
 +sweep-spec = close μ-sweep λ t. sweep-lts.spec (given t)
@@ -297,33 +262,27 @@ pub +sweep-spec : {M : Type 1} → statement M
     (sweep-node-at-requires t)
     (sweep-enum-known-leaf t)
     (sweep-sweep-leaf-requires t)
+    (sweep-same-length t)
+    (sweep-returns t)
     (sweep-enum-known-p t)
     (sweep-cast-sweep t)
     (sweep-sweep-requires t)
     (sweep-flag-behind-requires t)
-    (sweep-cast-sweep-2 t)
-    (sweep-sweep-requires-2 t)
     (sweep-enum-known-p-2 t)
+    (sweep-add-t26 t)
     (sweep-choose-requires t)
-    (sweep-cast-sweep-3 t)
-    (sweep-add-sweep t)
-    (sweep-sweep-requires-3 t)
-    (sweep-enum-known-p-3 t)
+    (sweep-enum-known-again t)
     (sweep-loop-holds t)
-    (sweep-cast-is-open t)
-    (sweep-is-open-requires t)
+    (sweep-goes-on-requires t)
     (sweep-put-bit-requires t)
-    (sweep-cast-sweep-4 t)
-    (sweep-add-sweep-2 t)
-    (sweep-sweep-requires-4 t)
+    (sweep-cast-sweep-2 t)
+    (sweep-add-sweep t)
+    (sweep-sweep-requires-2 t)
     (sweep-loop-less t)
     (sweep-loop-again t)
     (sweep-stop-requires t)
-    (sweep-same-length t)
-    (sweep-returns t)
     (sweep-same-length-2 t)
     (sweep-returns-2 t)
+    (sweep-sweep-requires-3 t)
     (sweep-same-length-3 t)
     (sweep-returns-3 t)
-    (sweep-same-length-4 t)
-    (sweep-returns-4 t)

@@ -6,7 +6,6 @@ use Rattle.walks.specs.Words.{star-none-is, stop-is, round-is}
 use Rattle.walks.specs.Lines.{line-as, seq-is, alt-none-is, side-is, side-lower, star-as, leaf-formed, first-lower, second-lower, star-lower}
 use Rattle.table.specs.Cells.{tree-in}
 use borrow.Author.Tests.{not-true, not-false}
-use mathlib.Core.List.{[]}
 use mathlib.Core.Path.{sym, ap, _∙_}
 use Prim.Native.Nat.{ℕ, _<_, _+_, _*_, _-_}
 use native.Mathlib.Omega.{arith}
@@ -16,7 +15,7 @@ use borrow.Fn.PlainCycle.{Measures, is, falls, and}
 use Rattle.walks.proofs.walk.Reads as walk
 use Rattle.walks.proofs.walk.Kinds as walk-kinds
 use Rattle.walks.proofs.+walk.Lts-walk as walk-lts
-use Rattle.bits.proofs.bit_at.Reads as bit-at-reads
+use Rattle.walks.proofs.stops_at.Reads as stops-at-reads
 use Rattle.table.proofs.node_at.Reads as node-at-reads
 use Rattle.walks.proofs.after.Reads as after-reads
 use Rattle.walks.proofs.failed.Reads as failed-reads
@@ -51,8 +50,8 @@ given t = (
   failed-reads.Learnt,
   side-at-reads.Asked,
   side-at-reads.Learnt,
-  bit-at-reads.Asked,
-  bit-at-reads.Learnt,
+  stops-at-reads.Asked,
+  stops-at-reads.Learnt,
   went-reads.Asked,
   went-reads.Learnt,
   plus-reads.Asked,
@@ -60,10 +59,10 @@ given t = (
 )
 
 abbrev walk-Inv-loop : walk-lts.InvT-loop
-walk-Inv-loop table l code count at p here₀ letters₀ here letters = Rounds code count (tree-in table l) at here letters
+walk-Inv-loop table l code count at again p here₀ letters₀ here letters = Rounds code count (tree-in table l) at here letters
 
 abbrev walk-μ-loop : walk-lts.MeasureT-loop
-walk-μ-loop table l code count at p here₀ letters₀ here letters = count - here
+walk-μ-loop table l code count at again p here₀ letters₀ here letters = count - here
 
 walk-node-at-requires : (t : ℕ) → walk-lts.Need-node-at-requires (given t) (walk-at t) walk.Post walk-Inv-loop walk-μ-loop
 walk-node-at-requires t c κs = search needs
@@ -155,8 +154,8 @@ walk-enum-known-node-4 t c = search needs
 walk-loop-holds : (t : ℕ) → walk-lts.Need-loop-holds (given t) (walk-at t) walk.Post walk-Inv-loop walk-μ-loop
 walk-loop-holds t c = rounds-start _ _ _ _ (omega arith)
 
-walk-bit-at-requires : (t : ℕ) → walk-lts.Need-bit-at-requires (given t) (walk-at t) walk.Post walk-Inv-loop walk-μ-loop
-walk-bit-at-requires t c κs =
+walk-stops-at-requires : (t : ℕ) → walk-lts.Need-stops-at-requires (given t) (walk-at t) walk.Post walk-Inv-loop walk-μ-loop
+walk-stops-at-requires t c κs =
     let i = c .before .loop .inv in
     omega arith
 
@@ -169,15 +168,15 @@ walk-went-requires t c κs = search needs
 walk-returns-3 : (t : ℕ) → walk-lts.Need-returns-3 (given t) (walk-at t) walk.Post walk-Inv-loop walk-μ-loop
 walk-returns-3 t c = c .went .ensures ∙ rounds-stop _ _ _ _ _ _ (c .before .before .before .before .loop .inv)
     (stop-is _ _ (omega arith) (star-as (c .before .before .before .before .before .before .before .before .before .before .pre .1 .0) _ (omega arith) _
-    (c .before .before .before .before .before .before .before .before .node-at .ensures) _
+    (c .before .before .before .before .before .before .before .before .node-at .ensures) _ _
     (c .before .before .before .before .before .before .node4 .given .1)) _ (c .before .before .before .loop-test .taken) _
-    (c .before .before .bit-at .ensures)
+    (c .before .before .stops-at .ensures)
     (c .before .if3 .taken))
 
 walk-cast-walk-4 : (t : ℕ) → walk-lts.Need-cast-walk-4 (given t) (walk-at t) walk.Post walk-Inv-loop walk-μ-loop
 walk-cast-walk-4 t c =
     let h = star-lower (c .before .before .before .before .before .before .before .before .before .pre .1 .0) _ (omega arith) _
-    (c .before .before .before .before .before .before .before .node-at .ensures) _ (c .before .before .before .before .before .node4 .given .1) in
+    (c .before .before .before .before .before .before .before .node-at .ensures) _ _ (c .before .before .before .before .before .node4 .given .1) in
     omega arith
 
 walk-add-walk-2 : (t : ℕ) → walk-lts.Need-add-walk-2 (given t) (walk-at t) walk.Post walk-Inv-loop walk-μ-loop
@@ -186,7 +185,7 @@ walk-add-walk-2 t c = search needs
 walk-walk-requires-4 : (t : ℕ) → walk-lts.Need-walk-requires-4 (given t) (walk-at t) walk.Post walk-Inv-loop walk-μ-loop
 walk-walk-requires-4 t c κs =
     let h = star-lower (c .before .before .before .before .before .before .before .before .before .pre .1 .0) _ (omega arith) _
-    (c .before .before .before .before .before .before .before .node-at .ensures) _ (c .before .before .before .before .before .node4 .given .1) in
+    (c .before .before .before .before .before .before .before .node-at .ensures) _ _ (c .before .before .before .before .before .node4 .given .1) in
     let i = c .before .before .before .loop .inv in
     (omega arith, (c .before .before .before .before .before .before .before .before .before .pre .1 .0, omega arith))
 
@@ -195,9 +194,9 @@ walk-returns-4 t c = rounds-no _ _ _ _ _ _ (c .before .before .before .before .b
     (c .before .before .before .before .before .loop-test .taken)
     (round-is _ _ (omega arith) (star-as
     (c .before .before .before .before .before .before .before .before .before .before .before .before .pre .1 .0) _ (omega arith) _
-    (c .before .before .before .before .before .before .before .before .before .before .node-at .ensures) _
+    (c .before .before .before .before .before .before .before .before .before .before .node-at .ensures) _ _
     (c .before .before .before .before .before .before .before .before .node4 .given .1)) _
-    (c .before .before .before .before .before .loop-test .taken) _ (c .before .before .before .before .bit-at .ensures)
+    (c .before .before .before .before .before .loop-test .taken) _ (c .before .before .before .before .stops-at .ensures)
     (c .before .before .before .if3 .left)) (c .before .before .walk4 .ensures) (not-true _ (c .if4 .taken))
 
 walk-plus-requires : (t : ℕ) → walk-lts.Need-plus-requires (given t) (walk-at t) walk.Post walk-Inv-loop walk-μ-loop
@@ -217,10 +216,10 @@ walk-loop-again t c = rounds-more _ _ _ _ _ _ (c .before .before .before .before
     (c .before .before .before .before .before .before .loop-test .taken)
     (round-is _ _ (omega arith) (star-as
     (c .before .before .before .before .before .before .before .before .before .before .before .before .before .pre .1 .0) _ (omega arith) _
-    (c .before .before .before .before .before .before .before .before .before .before .before .node-at .ensures) _
+    (c .before .before .before .before .before .before .before .before .before .before .before .node-at .ensures) _ _
     (c .before .before .before .before .before .before .before .before .before .node4 .given .1)) _
     (c .before .before .before .before .before .before .loop-test .taken) _
-    (c .before .before .before .before .before .bit-at .ensures) (c .before .before .before .before .if3 .left))
+    (c .before .before .before .before .before .stops-at .ensures) (c .before .before .before .before .if3 .left))
     (c .before .before .before .walk4 .ensures) (omega arith) _ (c .plus .ensures) (not-false _ (c .before .if4 .left))
 
 walk-failed-requires-2 : (t : ℕ) → walk-lts.Need-failed-requires-2 (given t) (walk-at t) walk.Post walk-Inv-loop walk-μ-loop
@@ -253,7 +252,7 @@ walk-returns-8 : (t : ℕ) → walk-lts.Need-returns-8 (given t) (walk-at t) wal
 walk-returns-8 t c = c .failed2 .ensures ∙ rounds-none _ _ _ _ _ _ (c .before .before .loop .inv)
     (star-none-is _ _ (omega arith)
     (star-as (c .before .before .before .before .before .before .before .before .pre .1 .0) _ (omega arith) _
-    (c .before .before .before .before .before .before .node-at .ensures) _ (c .before .before .before .before .node4 .given .1)) _
+    (c .before .before .before .before .before .before .node-at .ensures) _ _ (c .before .before .before .before .node4 .given .1)) _
     (c .before .loop-test .left))
 
 pub +walk-spec : {M : Type 1} → statement M
@@ -281,7 +280,7 @@ pub +walk-spec : {M : Type 1} → statement M
     (walk-walk-requires-3 t)
     (walk-enum-known-node-4 t)
     (walk-loop-holds t)
-    (walk-bit-at-requires t)
+    (walk-stops-at-requires t)
     (walk-add-went t)
     (walk-went-requires t)
     (walk-returns-3 t)

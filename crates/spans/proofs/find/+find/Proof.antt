@@ -25,7 +25,6 @@ use borrow.Fn.PlainCycle.{Measures, is, falls, and}
 use Rattle.spans.proofs.find.find.Reads as find
 use Rattle.spans.proofs.find.find.Kinds as find-kinds
 use Rattle.spans.proofs.find.+find.Lts-find as find-lts
-use Rattle.bits.proofs.bit_at.Reads as bit-at-reads
 use Rattle.spans.proofs.find.found_at.Reads as found-at-reads
 use Rattle.spans.proofs.find.is_here.Reads as is-here-reads
 use Rattle.spans.proofs.find.left_inside.Reads as left-inside-reads
@@ -33,6 +32,7 @@ use Rattle.spans.proofs.find.not_found.Reads as not-found-reads
 use Rattle.spans.proofs.find.step_of.Reads as step-of-reads
 use Rattle.table.proofs.node_at.Reads as node-at-reads
 use Rattle.walks.proofs.side_at.Reads as side-at-reads
+use Rattle.walks.proofs.stops_at.Reads as stops-at-reads
 use Rattle.walks.proofs.walk.Reads as walk-reads
 use Rattle.spans.proofs.find.+find.{statement}
 use Rattle.spans.proofs.find.+find.Tie.{close}
@@ -67,17 +67,17 @@ given t = (
   find.Post,
   side-at-reads.Asked,
   side-at-reads.Learnt,
-  bit-at-reads.Asked,
-  bit-at-reads.Learnt,
+  stops-at-reads.Asked,
+  stops-at-reads.Learnt,
 )
 
 abbrev find-Inv-loop : find-lts.InvT-loop
-find-Inv-loop table l code count at i node k left p one₀ one =
-    Turns code count (record { index = l; account = account-in table l }) false (tree-in table p) (trace-at code count (tree-in table l) at) at i node k
+find-Inv-loop table l code count at i node k left again p one₀ one =
+    Turns code count (record { index = l; account = account-in table l }) again (tree-in table p) (trace-at code count (tree-in table l) at) at i node k
     (one .at) (one .i) (one .k)
 
 abbrev find-μ-loop : find-lts.MeasureT-loop
-find-μ-loop table l code count at i node k left p one₀ one = count - one .at
+find-μ-loop table l code count at i node k left again p one₀ one = count - one .at
 
 -- ── what is known where the node of the line is known ──
 abbrev Line : ℕ → Type 0
@@ -167,11 +167,11 @@ choice-lower t c =
     (c .side-at .ensures)
 
 star-down : (t : ℕ) (c : find-lts.After-part4 (given t) (find-at t) find.Post find-Inv-loop find-μ-loop)
-    → c .part4 .given .0 .0 < label t (c .before .before) .index
+    → c .part4 .given .0 .1 .0 < label t (c .before .before) .index
 star-down t c =
     let b = c .before .before in
     let s = b .before .before .before .before .before in
-    star-lower (s .pre .1 .0) _ (omega (arith, s .pre)) _ (b .node-at .ensures) _ (c .part4 .given .1)
+    star-lower (s .pre .1 .0) _ (omega (arith, s .pre)) _ (b .node-at .ensures) _ _ (c .part4 .given .1)
 
 -- the bit of a star that is there is in the code
 turn-in : (t : ℕ) (c : find-lts.At-loop (given t) (find-at t) find.Post find-Inv-loop find-μ-loop)
@@ -305,8 +305,8 @@ find-add-next t c =
     let h = turn-in t (c .before) in
     omega (arith, c .before .before .before .before .before .before .before .before .before .before .before .pre)
 
-find-bit-at-requires : (t : ℕ) → find-lts.Need-bit-at-requires (given t) (find-at t) find.Post find-Inv-loop find-μ-loop
-find-bit-at-requires t c κs =
+find-stops-at-requires : (t : ℕ) → find-lts.Need-stops-at-requires (given t) (find-at t) find.Post find-Inv-loop find-μ-loop
+find-stops-at-requires t c κs =
     let h = turn-in t (c .before) in
     omega (arith, c .before .before .before .before .before .before .before .before .before .before .before .pre)
 
@@ -317,7 +317,7 @@ find-returns-3 : (t : ℕ) → find-lts.Need-returns-3 (given t) (find-at t) fin
 find-returns-3 t c =
     let d = c .before .before .before .before in
     let f = fits t (d .before .before .before .before .before) in
-    turns-stop _ _ _ _ _ _ _ _ _ _ f _ _ _ (d .loop .inv) _ (c .before .before .bit-at .ensures) (c .before .if3 .taken) _ (c .not-found3 .ensures)
+    turns-stop _ _ _ _ _ _ _ _ _ _ f _ _ _ (d .loop .inv) _ (c .before .before .stops-at .ensures) (c .before .if3 .taken) _ (c .not-found3 .ensures)
 
 find-cast-find-4 : (t : ℕ) → find-lts.Need-cast-find-4 (given t) (find-at t) find.Post find-Inv-loop find-μ-loop
 find-cast-find-4 t c = search needs
@@ -330,7 +330,7 @@ find-find-requires-4 t c κs =
     let h = star-down t (d .before .before .before) in
     let g = turn-in t d in
     let low = d .loop .inv .low in
-    let r = turns-round _ _ _ _ _ _ _ _ _ _ (fits t b) _ _ _ (d .loop .inv) _ (c .before .bit-at .ensures) (c .if3 .left) in
+    let r = turns-round _ _ _ _ _ _ _ _ _ _ (fits t b) _ _ _ (d .loop .inv) _ (c .before .stops-at .ensures) (c .if3 .left) in
     (omega (arith, s .pre, h, g, low), (s .pre .1 .0, (omega (arith, s .pre, h, g), r)))
 
 find-returns-4 : (t : ℕ) → find-lts.Need-returns-4 (given t) (find-at t) find.Post find-Inv-loop find-μ-loop
@@ -338,7 +338,7 @@ find-returns-4 t c =
     let e = c .before .before in
     let d = e .before .before .before in
     let f = fits t (d .before .before .before .before .before) in
-    let b = e .before .bit-at .ensures in
+    let b = e .before .stops-at .ensures in
     turns-found _ _ _ _ _ _ _ _ _ _ f _ _ _ (d .loop .inv) _ b (e .if3 .left) _ (c .before .find4 .ensures) (c .if4 .taken)
 
 find-loop-less : (t : ℕ) → find-lts.Need-loop-less (given t) (find-at t) find.Post find-Inv-loop find-μ-loop
@@ -346,7 +346,7 @@ find-loop-less t c =
     let e = c .before .before in
     let d = e .before .before .before in
     let f = fits t (d .before .before .before .before .before) in
-    let b = e .before .bit-at .ensures in
+    let b = e .before .stops-at .ensures in
     let h = turns-less _ _ _ _ _ _ _ _ _ _ f _ _ _ (d .loop .inv) _ b (e .if3 .left) _ (c .before .find4 .ensures) (c .if4 .left) in
     omega (arith, h)
 
@@ -355,7 +355,7 @@ find-loop-again t c =
     let e = c .before .before in
     let d = e .before .before .before in
     let f = fits t (d .before .before .before .before .before) in
-    let b = e .before .bit-at .ensures in
+    let b = e .before .stops-at .ensures in
     turns-more _ _ _ _ _ _ _ _ _ _ f _ _ _ (d .loop .inv) _ b (e .if3 .left) _ (c .before .find4 .ensures) (c .if4 .left)
 
 find-returns-5 : (t : ℕ) → find-lts.Need-returns-5 (given t) (find-at t) find.Post find-Inv-loop find-μ-loop
@@ -413,7 +413,7 @@ pub +find-spec : {M : Type 1} → statement M
     (find-not-found-requires-2 t)
     (find-loop-holds t)
     (find-add-next t)
-    (find-bit-at-requires t)
+    (find-stops-at-requires t)
     (find-not-found-requires-3 t)
     (find-returns-3 t)
     (find-cast-find-4 t)

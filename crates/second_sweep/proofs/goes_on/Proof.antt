@@ -1,0 +1,24 @@
+-- `second_sweep::goes_on` meets its contract.
+use Rattle.second_sweep.specs.SweepLaws.{on-lazy, on-greedy}
+use borrow.Author.Needs.{needs}
+use Rattle.second_sweep.proofs.goes_on.Statement.{statement}
+use Rattle.second_sweep.proofs.goes_on.Tie as tie
+
+may-stop-requires : tie.Need-may-stop-requires
+may-stop-requires c κs = search needs
+
+returns : tie.Need-returns
+returns c =
+    let a = c .before .before .before .args in
+    on-lazy (a .table .now) (a .words .now) (a .size) (a .l) (a .i) (a .flag) (a .again) (a .p) (c .before .if1 .taken) (c .may-stop .ensures)
+
+is-open-requires : tie.Need-is-open-requires
+is-open-requires c κs = search needs
+
+returns-2 : tie.Need-returns-2
+returns-2 c =
+    let a = c .before .before .before .args in
+    on-greedy (a .table .now) (a .words .now) (a .size) (a .l) (a .i) (a .flag) (a .again) (a .p) (c .before .if1 .left) (c .is-open .ensures)
+
+pub goes-on-spec : {M : Type 1} → statement M
+goes-on-spec = tie.close (tie.spec may-stop-requires returns is-open-requires returns-2)
