@@ -1,5 +1,6 @@
 -- WHAT MUST BE BELIEVED, 4: the automaton with flags of 001, section 5.2, on the nodes of a tree; what 01's marks (state sets) say.
 -- Flag 1 (true) "means that the present round has taken a letter".
+-- 02: "In 01, `Z` follows every rule for `K` on followers, flags, empty rounds, visits and the count a." So no rule here looks at a star's bit.
 use mathlib.Core.Path.{_≡_}
 use mathlib.Core.Bool.{Bool, false, true}
 use mathlib.Core.Logic.{_⊎_}

@@ -1,6 +1,6 @@
 -- LAWS of length: how many bits a code without empty rounds can have.
 -- 01: "With a the number of `A` and `K` nodes and n letters, a code without empty rounds has at most a bits if n = 0, and at most 2 × a × n
--- + 8 × n bits otherwise."
+-- + 8 × n bits otherwise." A star counts for a whatever its bit: 02's `Z` too.
 use mathlib.Core.Path.{_≡_, ap, refl}
 use mathlib.Core.Bool.{Bool, true}
 use mathlib.Core.Logic.{_⊎_, inl, inr}

@@ -10,7 +10,7 @@ use Rattle.bits.specs.Bits.{bits-of, byte-limit}
 use Rattle.semantics.specs.Value.{Value, flat, nonproblematic}
 use Rattle.semantics.specs.Order.{Greedy}
 
--- 01: "`K` writes 0 and a round, again and again, then 1." The 0 is `again`.
+-- 01: "`K` writes 0 and a round, again and again, then 1." 02: `Z` "writes 0 to stop and 1 before a round". The bit before a round is `again`.
 abbrev pub code-rounds : {A : Type 0} → (again : Bool) → (A → List Bool) → List A → List Bool
 code-rounds again c [] = not again ∷ []
 code-rounds again c (v ∷ vs) = again ∷ (c v ++ code-rounds again c vs)
@@ -54,13 +54,13 @@ before (false ∷ xs) (true ∷ ys) = true
 before (true ∷ xs) (false ∷ ys) = false
 before (true ∷ xs) (true ∷ ys) = before xs ys
 
--- the code of the greedy value of a tape: what reading the tape gives, and what a code of the tape settles to (01: settled; here: canonical)
+-- the code of the greedy (02: preferred) value of a tape: what reading the tape gives, and what a code of the tape settles to (01: settled; here: canonical)
 pub record Canonical (t : Tree) (tape : List ℕ) (bits : List Bool) : Type 0 where
   pub value : Value t
   pub greedy : Greedy t tape value
   pub written : code t value ≡ bits
 
--- 01: "With a the number of `A` and `K` nodes"
+-- 01: "With a the number of `A` and `K` nodes"; 02: `Z` follows every rule for `K` on "the count a"
 abbrev pub choices : Tree → ℕ
 choices (nothing m) = 0
 choices (letter m c) = 0

@@ -1,4 +1,5 @@
--- C1 to C11 of document 01 and its whole listing, as one table; and one theorem that proves the definitions on every row.
+-- C1 to C11 of document 01, its whole listing, and rows for kind `Z` of document 02, as one table; and one theorem that proves the definitions
+-- on every row.
 use mathlib.Core.Path.{_≡_, refl, subst}
 use mathlib.Core.Bool.{Bool, cond, false, true}
 use mathlib.Core.Option.{Option, none, some}
@@ -23,7 +24,7 @@ pub data Asked : Type 0 where
   tape : List ℕ → Asked
   settle : List Bool → Asked
 
--- what an answer means, in 001's and 01's words: the code of the greedy value, or that no value spells the tape
+-- what an answer means, in 001's and 01's words: the code of the greedy value (02: the preferred reading), or that no value spells the tape
 abbrev pub Says : (t : Tree) → Asked → Option (List Bool) → Type 0
 Says t (tape w) (some bs) = Canonical t w bs
 Says t (tape w) none = (v : Value t) → flat t v ≡ w → ⊥
@@ -54,7 +55,7 @@ answer-right t (settle bs) = go (is-code t bs) refl
 abbrev plain : Label
 plain = record { index = 0; account = 0 }
 
--- the letters a and b, and the star of kind `K`
+-- the letters a and b, the star of kind `K` (`rounds`) and that of kind `Z` (`lazy`)
 abbrev a : Tree
 a = letter plain 97
 
@@ -66,6 +67,9 @@ e = nothing plain
 
 abbrev rounds : Tree → Tree
 rounds t = star plain false t
+
+abbrev lazy : Tree → Tree
+lazy t = star plain true t
 
 abbrev either : Tree → Tree → Tree
 either t u = alt plain t u
@@ -127,6 +131,28 @@ table =
     ∷ (P1, settle (O ∷ I ∷ O ∷ O ∷ I ∷ []), some (O ∷ O ∷ I ∷ []))
     -- the listing: `3W2`, 21 bits, 4cc328
     ∷ (Listing, tape (51 ∷ 87 ∷ 50 ∷ []), some listing-code)
+    -- 02: `Z` "writes 0 to stop and 1 before a round". Nothing to read: it stops
+    ∷ (lazy a, tape [], some (O ∷ []))
+    -- 02: a round "only where they must". Here the letters are left to what follows, a `K`
+    ∷ (pair (lazy a) (rounds a), tape (97 ∷ 97 ∷ []), some (O ∷ O ∷ O ∷ I ∷ []))
+    -- 02: where both must go on the first round decides, and not how few there are: a and a, for a is the left side
+    ∷ (lazy (either a (pair a a)), tape (97 ∷ 97 ∷ []), some (I ∷ O ∷ I ∷ O ∷ O ∷ []))
+    -- 02: `Z` in `Z`. The inner one stops after a letter, so that the outer one must go on
+    ∷ (lazy (lazy a), tape (97 ∷ 97 ∷ []), some (I ∷ I ∷ O ∷ I ∷ I ∷ O ∷ O ∷ []))
+    -- 02: "a pattern may mix both kinds". In a round of `K` the `Z` must take a letter, and stops after it
+    ∷ (rounds (lazy a), tape (97 ∷ []), some (O ∷ I ∷ O ∷ I ∷ []))
+    ∷ (rounds (lazy a), tape (97 ∷ 97 ∷ []), some (O ∷ I ∷ O ∷ O ∷ I ∷ O ∷ I ∷ []))
+    -- 02: `Z` follows the rules for `K` on "empty rounds". P1 with `Z`: C1, C2 and C10
+    ∷ (lazy (either a e), tape [], some (O ∷ []))
+    ∷ (lazy (either a e), tape (97 ∷ []), some (I ∷ O ∷ O ∷ []))
+    ∷ (lazy (either a e), settle (I ∷ I ∷ O ∷ []), some (O ∷ []))
+    -- 02: no empty round where one kind stands in a round of the other
+    ∷ (rounds (lazy (either a e)), tape [], some (I ∷ []))
+    ∷ (rounds (lazy (either a e)), tape (97 ∷ []), some (O ∷ I ∷ O ∷ O ∷ I ∷ []))
+    ∷ (lazy (rounds (either a e)), tape [], some (O ∷ []))
+    ∷ (lazy (rounds (either a e)), tape (97 ∷ []), some (I ∷ O ∷ O ∷ I ∷ O ∷ []))
+    -- 02: `Z` follows the rules for `K` on "flags". P3 with both kinds, as C5: the round's flag goes from the `Z` that stops to the `K` behind it
+    ∷ (lazy (pair (lazy a) (rounds b)), tape (98 ∷ 97 ∷ []), some (I ∷ O ∷ O ∷ I ∷ I ∷ I ∷ O ∷ I ∷ O ∷ []))
     ∷ []
 
 -- ── the theorem ──

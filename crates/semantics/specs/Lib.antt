@@ -1,8 +1,10 @@
--- Parse trees, codes and the greedy order, over the labelled tree of a pattern.
+-- Parse trees, codes and the greedy order, over the labelled tree of a pattern, for its two kinds of star together: `K` and 02's `Z`.
 -- Layer 1, what must be believed: definitions in the order of document 01, each beside the words that it renders. Contracts cite these, or
 -- are equations over layer 2, which the laws tie to these.
 pub mod Value
 pub mod Order
+-- 001's order and greedy value as the paper has them, for `K` alone; Paper001Laws: where a pattern has no `Z`, Order's are these
+pub mod Paper001
 pub mod Code
 pub mod Automaton
 pub mod Visits
@@ -19,6 +21,7 @@ pub mod Basics
 pub mod DecodeLaws
 pub mod BeforeLaws
 pub mod OrderLaws
+pub mod Paper001Laws
 pub mod CodeLaws
 pub mod PositionLaws
 pub mod CompleteLaws
@@ -33,5 +36,5 @@ pub mod VisitLaws
 pub mod AccountLaws
 pub mod LetterLaws
 pub mod Promised
--- C1 to C11 and the listing.
+-- C1 to C11 and the listing of document 01, and rows for `Z`.
 pub mod Examples

@@ -125,7 +125,7 @@ less-iff-before-along t v x r z e = (less-before t v x r z e, λ h. go h (less-t
 pub less-iff-before : (t : Tree) (v x : Value t) → flat t v ≡ flat t x → less t x v ↔ (before (code t v) (code t x) ≡ true)
 less-iff-before t v x e = less-iff-before-along t v x [] [] (ap (λ s. s ++ []) e)
 
--- on the values of one tape 001's order is a strict total one: `less-total`, and these two
+-- on the values of one tape the order is a strict total one: `less-total`, and these two
 pub less-asym : (t : Tree) (v x : Value t) → flat t v ≡ flat t x → less t v x → less t x v → ⊥
 less-asym t v x e l m = before-asym (code t v) (code t x) ((less-iff-before t v x e) .0 m) ((less-iff-before t x v (sym e)) .0 l)
 

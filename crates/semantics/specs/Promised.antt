@@ -1,4 +1,4 @@
--- The proofs of `Promise`, and that the greedy code of 03 is the code of 001's greedy value.
+-- The proofs of `Promise`, and that the greedy code of 03 is the code of the greedy value.
 use mathlib.Core.Path.{_∙_, _≡_, ap, refl, subst, sym}
 use mathlib.Core.Bool.{Bool, not, true}
 use mathlib.Core.Logic.{_↔_, _⊎_, inl, inr, ⊎-elim}
@@ -65,7 +65,7 @@ module _ (t : Tree) (w : List ℕ) (few : choices t ≤ node-limit) (short : len
               let b = g .first (code t x) ((is-code-iff t (code t x)) .1 (tape-code x ex ok)) (spelled-code t x ∙ ex) (hollow-code t x ∙ ap not ok) d in
               absurd (before-asym (code t x) (code t v) h (subst (λ z. before z (code t x) ≡ true) (sym (n .whole .written)) b))
 
-  -- the greedy code of 03 is the code of 001's greedy value
+  -- the greedy code of 03 is the code of the greedy value
   pub greedy-code-iff : (bits : List Bool) → GreedyCode t w bits ↔ Canonical t w bits
   greedy-code-iff bits = (first-canonical bits, λ c. subst (GreedyCode t w) (c .written) (canonical-first (c .value) (c .greedy)))
 

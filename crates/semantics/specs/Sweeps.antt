@@ -46,7 +46,8 @@ emit e r b [] = []
 emit e r b (c ∷ w) = e c ++ r true w
 
 -- another round or not, where `more` says that one can be read and `stop` that the star can end here.
--- Where 0 means another round (`K`): wherever one can be read. Where 1 does: only if the star cannot stop.
+-- Where 0 means another round (`K`): wherever one can be read. Where 1 does (`Z`): only if the star cannot stop. 02: "take another round only
+-- where they must"; 001, section 6: it "simply tries to return [] when possible, instead of trying to make an extra iteration".
 abbrev pub another : (again more stop : Bool) → Bool
 another false more stop = more
 another true more stop = not stop

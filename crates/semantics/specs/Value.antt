@@ -9,7 +9,7 @@ use Rattle.syntax.specs.Letter.{in-range}
 use Rattle.syntax.specs.Tree.{Tree, nothing, letter, range, seq, alt, star}
 
 -- 01: "A reading is a value of 001, section 2: `E` reads no letter, `L` its letter, `R` a letter of the range, `S` a pair, `A` a marked
--- side, `K` a list of rounds."
+-- side, `K` a list of rounds." So is a value of 02's `Z`: "Add kind `Z`, one part, which writes 0 to stop and 1 before a round."
 -- The value of a letter is the letter, so that there is nothing to choose: one value.
 abbrev pub Value : Tree → Type 0
 Value (nothing m) = Unit {0}
@@ -29,7 +29,8 @@ module _ {A : Type 0} where
   flat-rounds f [] = []
   flat-rounds f (v ∷ vs) = f v ++ flat-rounds f vs
 
-  -- 01: "An empty round is a round of `K` that spells nothing."
+  -- 01: "An empty round is a round of `K` that spells nothing." 02: "In 01, `Z` follows every rule for `K` on followers, flags, empty rounds,
+  -- visits and the count a."
   abbrev pub nonproblematic-rounds : (A → List ℕ) → (A → Bool) → List A → Bool
   nonproblematic-rounds f s [] = true
   nonproblematic-rounds f s (v ∷ vs) = (nonempty (f v) && s v) && nonproblematic-rounds f s vs

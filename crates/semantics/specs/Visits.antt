@@ -33,7 +33,7 @@ along f g [] i = []
 along f g (v ∷ vs) i = g v i ++ along f g vs (i + length (f v))
 
 -- 01: "visits counted from 0 as the code enters them from above; a `K` with all its rounds is one visit". From position i of the tape on.
--- A visit inside an empty round counts like any other; an empty piece starts where the tape has been read to.
+-- 02: a `Z` too. A visit inside an empty round counts like any other; an empty piece starts where the tape has been read to.
 abbrev pub visits : (t : Tree) → Value t → (start : ℕ) → List Visit
 visits (nothing m) v i = visit-of (nothing m) v i ∷ []
 visits (letter m c) v i = visit-of (letter m c) v i ∷ []
