@@ -9,7 +9,8 @@ pub mod RoundTripText
 -- The third demand for pattern texts and the call from C.
 pub mod ThirdDemand
 pub mod ThirdDemanded
--- The statements of document 03 over pattern texts, under 03's names, by the definitions of this repository.
+-- The statements of document 03 over pattern texts, under 03's names, by the definitions of this repository. 03's own definitions stand here
+-- word for word but for kind `Z` of 02, Job 2.
 pub mod Paper03Pattern
 pub mod Paper03Codes
 pub mod Numbers
@@ -27,3 +28,6 @@ pub mod Paper03Promise
 pub mod Paper03Promised
 pub mod Paper03Entry
 pub mod Paper03Spell
+-- Where a text has no line of kind `Z` they are 03's as 03 has them.
+pub mod Paper03Plain
+pub mod Paper03PlainLaws

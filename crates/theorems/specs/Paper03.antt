@@ -62,7 +62,7 @@ letters-good (c ∷ cs) = (leb 33 c && leb c 126) && letters-good cs
 unfoldable pub tape-good : List ℕ → Bool
 tape-good cs = leb (length cs) 3600 && letters-good cs
 
--- 03: how many of the text's nodes are of kind 4 or 5 (`A` or `K`)
+-- 03: how many of the text's nodes are of kind 4 or 5 (`A` or `K`). 02, Job 2: or 6 (`Z`)
 unfoldable pub choices : Pattern → ℕ
 choices p = count-below (p .count) (λ l. is-choice (node-at p l))
 

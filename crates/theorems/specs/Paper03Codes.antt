@@ -1,5 +1,6 @@
--- Document 03's specs/Codes.antt, word for word: what a code spells, empty rounds, the order of codes, and the greedy reading of a tape by its
--- code. Its bytes are in crate bits (Paper03). Definitions only.
+-- Document 03's specs/Codes.antt, word for word but for kind `Z` of 02, Job 2: what a code spells, empty rounds, the order of codes, and the
+-- greedy reading of a tape by its code. Its bytes are in crate bits (Paper03). Above each line that is not 03's a comment names the job;
+-- Paper03Plain has 03's own of these. Definitions only.
 use mathlib.Core.Path.{_≡_}
 use mathlib.Core.Bool.{Bool, true, false, _&&_, _||_, cond}
 use mathlib.Core.List.{List, [], _∷_, _++_}
@@ -38,13 +39,14 @@ range-read a b bs =
     let v = value-from 0 (take 8 bs) in cond (leb 8 (length bs) && (leb a v && leb v b)) (read (v ∷ []) (drop 8 bs) false) bad
 
 -- 0 and a round, again and again, then 1
-unfoldable pub rounds-read : (fuel : ℕ) → (one : List ℕ → Read) → List ℕ → Read
-rounds-read zero f bs = bad
-rounds-read (suc n) f [] = bad
-rounds-read (suc n) f (b ∷ bs) =
+-- 02, Job 2: `Z` "writes 0 to stop and 1 before a round", so the bit that stops is handed over; where it is 1 this is 03's
+unfoldable pub rounds-read : (stop fuel : ℕ) → (one : List ℕ → Read) → List ℕ → Read
+rounds-read stop zero f bs = bad
+rounds-read stop (suc n) f [] = bad
+rounds-read stop (suc n) f (b ∷ bs) =
     let x = f bs in
-    let more = rounds-read n f (x .rest) in
-    let round = cond (x .good) (with-hollow (eqb (length (x .letters)) 0) (joined x more)) bad in cond (eqb b 1) (read [] bs false) round
+    let more = rounds-read stop n f (x .rest) in
+    let round = cond (x .good) (with-hollow (eqb (length (x .letters)) 0) (joined x more)) bad in cond (eqb b stop) (read [] bs false) round
 
 unfoldable pub side-read : (left right : List ℕ → Read) → List ℕ → Read
 side-read f g [] = bad
@@ -57,11 +59,14 @@ read-node (suc n) t l bs =
     let first = read-node n t (x .a) bs in
     let pair = cond (first .good) (joined first (read-node n t (x .b) (first .rest))) bad in
     let side = side-read (λ cs. read-node n t (x .a) cs) (λ cs. read-node n t (x .b) cs) bs in
-    let rounds = rounds-read (suc (length bs)) (λ cs. read-node n t (x .a) cs) bs in
+    -- 02, Job 2: 1 stops kind 5, as in 03, and 0 stops kind 6
+    let rounds = rounds-read 1 (suc (length bs)) (λ cs. read-node n t (x .a) cs) bs in
+    let lazy = rounds-read 0 (suc (length bs)) (λ cs. read-node n t (x .a) cs) bs in
     cond (eqb (x .kind) 0) (read [] bs false)
     (cond (eqb (x .kind) 1) (read (x .a ∷ []) bs false)
     (cond (eqb (x .kind) 2) (range-read (x .a) (x .b) bs)
-    (cond (eqb (x .kind) 3) pair (cond (eqb (x .kind) 4) side (cond (eqb (x .kind) 5) rounds bad)))))
+    -- 02, Job 2: kind 6
+    (cond (eqb (x .kind) 3) pair (cond (eqb (x .kind) 4) side (cond (eqb (x .kind) 5) rounds (cond (eqb (x .kind) 6) lazy bad))))))
 
 unfoldable pub read-code : List Node → (bits : List ℕ) → Read
 read-code t bs = read-node 64 t (root t) bs

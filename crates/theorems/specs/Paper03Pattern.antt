@@ -1,4 +1,5 @@
--- Document 03's specs/Pattern.antt, word for word: pattern texts, nodes, and refusals 1 and 2 with their lines. Definitions only.
+-- Document 03's specs/Pattern.antt, word for word but for kind `Z` of 02, Job 2: pattern texts, nodes, and refusals 1 and 2 with their lines.
+-- Above each line that is not 03's a comment names the job; Paper03Plain has 03's own of these. Definitions only.
 use mathlib.Core.Bool.{Bool, true, false, _&&_, _||_, not, cond}
 use mathlib.Core.List.{List, [], _∷_, _++_}
 use Prim.Native.Nat.{ℕ, zero, suc, _+_, _*_, _-_}
@@ -6,6 +7,7 @@ use lib.Dec.{ltb, leb, eqb}
 use lib.ListN.{length, getD}
 
 -- kinds: 0 nothing, 1 a letter, 2 a range, 3 one after the other, 4 either, 5 rounds; a and b are letters or places
+-- 02, Job 2: 6 rounds that prefer to stop, "kind `Z`, one part, which writes 0 to stop and 1 before a round"
 pub record Node : Type 0 where
   pub kind : ℕ
   pub account : ℕ
@@ -13,7 +15,8 @@ pub record Node : Type 0 where
   pub b : ℕ
 
 abbrev pub no-node : Node
-no-node = record { kind = 6; account = 0; a = 0; b = 0 }
+-- 02, Job 2: 7 is no kind, where 03 has 6
+no-node = record { kind = 7; account = 0; a = 0; b = 0 }
 
 unfoldable pub node : List Node → (l : ℕ) → Node
 node t l = getD t l no-node
@@ -64,8 +67,9 @@ account-value w = cond (eqb (length w) 1) (cond (eqb (getD w 0 0) 45) 0 (cond (l
 unfoldable pub kind-value : List ℕ → ℕ
 kind-value w =
     let b = getD w 0 0 in
-    cond (not (eqb (length w) 1)) 6
-    (cond (eqb b 69) 0 (cond (eqb b 76) 1 (cond (eqb b 82) 2 (cond (eqb b 83) 3 (cond (eqb b 65) 4 (cond (eqb b 75) 5 6))))))
+    -- 02, Job 2: 7 is no kind, where 03 has 6; byte 90, `Z`, is kind 6
+    cond (not (eqb (length w) 1)) 7
+    (cond (eqb b 69) 0 (cond (eqb b 76) 1 (cond (eqb b 82) 2 (cond (eqb b 83) 3 (cond (eqb b 65) 4 (cond (eqb b 75) 5 (cond (eqb b 90) 6 7)))))))
 
 unfoldable pub field : List (List ℕ) → (i : ℕ) → List ℕ
 field ws i = getD ws i []
@@ -79,12 +83,14 @@ line-good i x =
     let l4 = is-letter (field ws 4) in
     let p3 = is-place (field ws 3) in
     let p4 = is-place (field ws 4) in
-    let first = (x .closed && eqb (place-value (field ws 0)) i) && (ltb (account-value (field ws 2)) 10 && ltb k 6) in
+    -- 02, Job 2: kinds are below 7, where 03 has 6
+    let first = (x .closed && eqb (place-value (field ws 0)) i) && (ltb (account-value (field ws 2)) 10 && ltb k 7) in
     first
     && cond (eqb k 0) (eqb (length ws) 3)
     (cond (eqb k 1) (eqb (length ws) 4 && l3)
     (cond (eqb k 2) (eqb (length ws) 5 && ((l3 && l4) && leb (getD (field ws 3) 0 0) (getD (field ws 4) 0 0)))
-    (cond (eqb k 5) (eqb (length ws) 4 && p3) (eqb (length ws) 5 && (p3 && p4)))))
+    -- 02, Job 2: kind 6 has the form of kind 5
+    (cond (eqb k 5 || eqb k 6) (eqb (length ws) 4 && p3) (eqb (length ws) 5 && (p3 && p4)))))
 
 unfoldable pub node-in : Line → Node
 node-in x =
@@ -116,7 +122,8 @@ forms-from i (x ∷ xs) = cond (leb 64 i) (refusal 1 64) (cond (line-good i x) (
 
 -- parts named by a line
 unfoldable pub parts : Node → List ℕ
-parts x = cond (eqb (x .kind) 5) (x .a ∷ []) (cond (eqb (x .kind) 3 || eqb (x .kind) 4) (x .a ∷ x .b ∷ []) [])
+-- 02, Job 2: kind 6 names one part, as kind 5 does
+parts x = cond (eqb (x .kind) 5 || eqb (x .kind) 6) (x .a ∷ []) (cond (eqb (x .kind) 3 || eqb (x .kind) 4) (x .a ∷ x .b ∷ []) [])
 
 unfoldable pub member : ℕ → List ℕ → Bool
 member v [] = false

@@ -1,5 +1,5 @@
--- Document 03's specs/Promise.antt, word for word, over 03's own definitions of texts, nodes and codes; only the mark words of `Marks-right` are
--- those of this repository. Definitions only.
+-- Document 03's specs/Promise.antt, word for word but for kind `Z` of 02, Job 2, over 03's own definitions of texts, nodes and codes with that
+-- kind; only the mark words of `Marks-right` are those of this repository. Definitions only.
 use mathlib.Core.Path.{_≡_}
 use mathlib.Core.Bool.{Bool, true, false, _||_, cond}
 use mathlib.Core.List.{List, [], _∷_, _++_}
@@ -40,9 +40,10 @@ Codes-part =
     (text bs cs : List ℕ) → is-pattern text ≡ true → is-code (loaded text) bs ≡ true → is-code (loaded text) (bs ++ cs) ≡ true → cs ≡ []
 
 -- bit bounds: a nodes of either and rounds, n letters
+-- 02, Job 2: "`Z` follows every rule for `K` on [..] the count a"
 unfoldable pub choices : List Node → ℕ
 choices [] = 0
-choices (x ∷ xs) = cond (eqb (x .kind) 4 || eqb (x .kind) 5) 1 0 + choices xs
+choices (x ∷ xs) = cond (eqb (x .kind) 4 || (eqb (x .kind) 5 || eqb (x .kind) 6)) 1 0 + choices xs
 
 unfoldable pub Few-bits : Type 0
 Few-bits =

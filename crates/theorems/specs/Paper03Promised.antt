@@ -1,6 +1,7 @@
--- Document 03's statements hold by 03's own definitions: each follows from the one of Paper03, since texts, nodes and codes are the same.
+-- Document 03's statements hold by 03's own definitions with kind `Z` of 02, Job 2: each follows from the one of Paper03, since texts, nodes and
+-- codes are the same.
 use mathlib.Core.Path.{_≡_, refl, sym, ap, ap₂, subst, _∙_}
-use mathlib.Core.Bool.{Bool, true, _||_, cond}
+use mathlib.Core.Bool.{Bool, true, false, _||_, cond}
 use mathlib.Core.List.{List, [], _∷_, _++_}
 use Prim.Native.Nat.{ℕ, zero, suc, _+_, _-_, _≤_, _<_}
 use native.Mathlib.Omega.{arith}
@@ -30,14 +31,18 @@ use Rattle.theorems.specs.Paper03Same.{Lists, code-same, spelled-same, h
 use Rattle.theorems.specs.Paper03Tree.{Loads-03, loads-03, lists-03}
 use Rattle.theorems.specs.Paper03Promise.{is-pattern, Settles, Settled-equal, Settled-again, choices, Codes-part, Few-bits, Marks-right, Promise}
 
--- ── the count of `A` and `K` ──
-choice-same : (c : ℕ) (n : Own-node) → cond (eqb (node-as c n .kind) 4 || eqb (node-as c n .kind) 5) 1 0 ≡ bit (is-choice n)
+-- ── the count of `A`, `K` and `Z` ──
+abbrev chooses : Node → ℕ
+chooses x = cond (eqb (x .kind) 4 || (eqb (x .kind) 5 || eqb (x .kind) 6)) 1 0
+
+choice-same : (c : ℕ) (n : Own-node) → chooses (node-as c n) ≡ bit (is-choice n)
 choice-same c (Leaf-node Nothing) = refl
 choice-same c (Leaf-node (Letter x)) = refl
 choice-same c (Leaf-node (Range x y)) = refl
 choice-same c (Sequence x y) = refl
 choice-same c (Alternative x y) = refl
-choice-same c (Star x) = refl
+choice-same c (Star false x) = refl
+choice-same c (Star true x) = refl
 
 -- counted from the front
 count-front : (n : ℕ) (f : ℕ → Bool) → count-below (suc n) f ≡ bit (f 0) + count-below n (λ l. f (suc l))
@@ -46,7 +51,7 @@ count-front zero f = refl
 count-front (suc n) f = omega (arith, count-front n f)
 
 choices-listed : (ns : List Node) (f : ℕ → Bool)
-    → ((l : ℕ) → l < length ns → cond (eqb (getD ns l no-node .kind) 4 || eqb (getD ns l no-node .kind) 5) 1 0 ≡ bit (f l))
+    → ((l : ℕ) → l < length ns → chooses (getD ns l no-node) ≡ bit (f l))
     → choices ns ≡ count-below (length ns) f
 unfolding choices count-below
 choices-listed [] f h = refl
@@ -61,7 +66,7 @@ choices-same p ns h =
     choices-listed ns (λ l. is-choice (node-at p l))
     (λ l k.
     let m : l < p .count = subst (λ n. l < n) (h .size) k in
-    ap (λ x. cond (eqb (x .kind) 4 || eqb (x .kind) 5) 1 0) (h .same l m) ∙ choice-same (line-at p l .account) (node-at p l))
+    ap chooses (h .same l m) ∙ choice-same (line-at p l .account) (node-at p l))
     ∙ ap (λ n. count-below n (λ l. is-choice (node-at p l))) (h .size)
 
 -- ── the statements ──
@@ -132,7 +137,7 @@ marks-right text cs h good =
       λ bs c s. ap (mark-bit (getD (words (load-table text) cs) 1 0)) e ∙ q .1 bs (coded text h bs c) (sym (spells text h bs c) ∙ s),
     )
 
--- NOTHING OF 03 IS WEAKENED: its own statements
+-- NOTHING OF 03 IS WEAKENED: its own statements, for all texts, those with kind `Z` too
 pub promised : Promise
 promised = record {
   settles = settles;

@@ -1,14 +1,14 @@
 -- Document 03's reading of a code is the decoding of crate semantics: at every node of a table that obeys the rules, on all bits.
 use mathlib.Core.Path.{_≡_, refl, sym, ap, subst, _∙_}
 use mathlib.Core.Bool.{Bool, true, false, _&&_, _||_, not, cond}
-use mathlib.Core.Logic.{inl, inr}
+use mathlib.Core.Logic.{_⊎_, inl, inr}
 use mathlib.Core.Option.{Option, none, some, bind}
 use mathlib.Core.List.{List, [], _∷_, _++_}
 use Prim.Native.Nat.{ℕ, zero, suc, _+_, _*_, _-_, _^_, _≤_, _<_}
 use native.Mathlib.Nat.{mul-assoc, add-mul, pow-suc}
 use native.Mathlib.Omega.{arith}
 use native.Mathlib.Decide.{decLe}
-use borrow.Author.Tests.{leb-true, le-leb, lt-leb, ne-eqb}
+use borrow.Author.Tests.{leb-true, le-leb, lt-leb, eq-eqb, ne-eqb}
 use lib.Dec.{leb, eqb}
 use lib.ListN.{length, take, drop, length-append}
 use Rattle.syntax.specs.declared.Leaf.the-variants.{Nothing, Letter, Range}
@@ -173,44 +173,80 @@ hollow-round : (w : List ℕ) (a b : Bool) → (eqb (length w) 0 || (not a || no
 hollow-round [] a b = refl
 hollow-round (c ∷ w) a b = rw (ne-eqb (suc (length w)) 0 (λ z. omega arith)) (not-and a b)
 
-module _ (m : Label) (t : Tree) (f : List ℕ → Read) (F : Reads-as f t) where
-  no-round : decoded (star m false t) [] ≡ none
+-- a bit means another round, or it stops
+sides : (again b : Bool) → (b ≡ again) ⊎ (b ≡ not again)
+sides false false = inl refl
+sides false true = inr refl
+sides true true = inl refl
+sides true false = inr refl
+
+-- a star that takes another round for the bit `again`: `K` for 0, `Z` for 1
+module _ (m : Label) (again : Bool) (t : Tree) (f : List ℕ → Read) (F : Reads-as f t) where
+  abbrev u : Tree
+  u = star m again t
+
+  -- 03's rounds, which the other bit stops
+  abbrev rounds : (fuel : ℕ) → List ℕ → Read
+  rounds n bs = rounds-read (bit (not again)) n f bs
+
+  no-round : decoded u [] ≡ none
   unfolding decoded
   no-round = refl
 
-  rounds-as : (n : ℕ) (bs : List Bool) → length bs < n → Same (star m false t) (rounds-read n f (numbers bs)) (decoded (star m false t) bs)
-  unfolding rounds-read with-hollow joined read bind
-  rounds-as zero bs h = absurd (omega arith)
-  rounds-as (suc n) [] h = subst (Same (star m false t) bad) (sym no-round) refl
-  rounds-as (suc n) (true ∷ bs) h = subst (Same (star m false t) (read [] (numbers bs) false)) (sym (read-stop m false t bs)) refl
-  rounds-as (suc n) (false ∷ bs) h =
-      subst (Same (star m false t) (rounds-read (suc n) f (numbers (false ∷ bs)))) (sym (read-round m false t bs))
-      (go (λ r l. rounds-as n r l) (decoded t bs) refl (F bs))
+  rounds-stop : (n : ℕ) (bs : List ℕ) → rounds (suc n) (bit (not again) ∷ bs) ≡ read [] bs false
+  unfolding rounds-read
+  rounds-stop n bs = rw (eq-eqb (bit (not again)) (bit (not again)) refl) refl
+
+  rounds-on : (n : ℕ) (bs : List ℕ) → rounds (suc n) (bit again ∷ bs)
+      ≡ cond (f bs .good) (with-hollow (eqb (length (f bs .letters)) 0) (joined (f bs) (rounds n (f bs .rest)))) bad
+  unfolding rounds-read
+  rounds-on n bs = rw (differ again) refl
     where
-      more : (v : Value t) (r : List Bool) (o : Option (List (Value t) × List Bool)) → Same (star m false t) (rounds-read n f (numbers r)) o
-          → Same (star m false t)
-          (with-hollow (eqb (length (flat t v)) 0) (joined (read (flat t v) (numbers r) (not (nonproblematic t v))) (rounds-read n f (numbers r))))
-          (bind o (λ q. some (v ∷ q .0, q .1)))
-      more v r none e = ap (λ b. true && b) e
-      more v r (some q) e =
-          rw e (ap (λ h. read (flat t v ++ flat (star m false t) (q .0)) (numbers (q .1)) h)
-          (hollow-round (flat t v) (nonproblematic t v) (nonproblematic (star m false t) (q .0))))
+      differ : (b : Bool) → eqb (bit b) (bit (not b)) ≡ false
+      differ false = refl
+      differ true = refl
 
-      go : ((r : List Bool) → length r < n → Same (star m false t) (rounds-read n f (numbers r)) (decoded (star m false t) r))
-          → (o : Option (Value t × List Bool)) → decoded t bs ≡ o → Same t (f (numbers bs)) o
-          → Same (star m false t)
-          (cond (f (numbers bs) .good)
-          (with-hollow (eqb (length (f (numbers bs) .letters)) 0) (joined (f (numbers bs)) (rounds-read n f (f (numbers bs) .rest)))) bad)
-          (bind o (λ p. bind (decoded (star m false t) (p .1)) (λ q. some (p .0 ∷ q .0, q .1))))
-      go ih none s e = rw e refl
-      go ih (some p) s e =
-          let l : length bs ≡ length (code t (p .0)) + length (p .1) = ap length (read-sound t bs p s) ∙ length-append (code t (p .0)) (p .1) in
-          rw e (more (p .0) (p .1) (decoded (star m false t) (p .1)) (ih (p .1) (omega arith)))
+  module _ (n : ℕ) (ih : (r : List Bool) → length r < n → Same u (rounds n (numbers r)) (decoded u r)) (bs : List Bool) (h : length bs < n) where
+    more : (v : Value t) (r : List Bool) (o : Option (List (Value t) × List Bool)) → Same u (rounds n (numbers r)) o
+        → Same u (with-hollow (eqb (length (flat t v)) 0) (joined (read (flat t v) (numbers r) (not (nonproblematic t v))) (rounds n (numbers r))))
+        (bind o (λ q. some (v ∷ q .0, q .1)))
+    unfolding with-hollow joined read bind
+    more v r none e = ap (λ b. true && b) e
+    more v r (some q) e =
+        rw e (ap (λ h. read (flat t v ++ flat u (q .0)) (numbers (q .1)) h)
+        (hollow-round (flat t v) (nonproblematic t v) (nonproblematic u (q .0))))
 
-  reads-star : Reads-as (λ bs. rounds-read (suc (length bs)) f bs) (star m false t)
+    one-more : (o : Option (Value t × List Bool)) → decoded t bs ≡ o → Same t (f (numbers bs)) o
+        → Same u (cond (f (numbers bs) .good)
+        (with-hollow (eqb (length (f (numbers bs) .letters)) 0) (joined (f (numbers bs)) (rounds n (f (numbers bs) .rest)))) bad)
+        (bind o (λ p. bind (decoded u (p .1)) (λ q. some (p .0 ∷ q .0, q .1))))
+    unfolding read bind
+    one-more none s e = rw e refl
+    one-more (some p) s e =
+        let l : length bs ≡ length (code t (p .0)) + length (p .1) = ap length (read-sound t bs p s) ∙ length-append (code t (p .0)) (p .1) in
+        rw e (more (p .0) (p .1) (decoded u (p .1)) (ih (p .1) (omega arith)))
+
+    by-side : (b : Bool) → (b ≡ again) ⊎ (b ≡ not again) → Same u (rounds (suc n) (bit b ∷ numbers bs)) (decoded u (b ∷ bs))
+    by-side b (inr e) =
+        rw (e, read-stop m again t bs, rounds-stop n (numbers bs)) refl
+    by-side b (inl e) =
+        rw (e, read-round m again t bs, rounds-on n (numbers bs)) (one-more (decoded t bs) refl (F bs))
+
+  rounds-as : (n : ℕ) (bs : List Bool) → length bs < n → Same u (rounds n (numbers bs)) (decoded u bs)
+  unfolding rounds-read
+  rounds-as zero bs h = absurd (omega arith)
+  rounds-as (suc n) [] h = rw no-round refl
+  rounds-as (suc n) (b ∷ bs) h = by-side n (λ r l. rounds-as n r l) bs (omega arith) b (sides again b)
+
+  reads-star : Reads-as (λ bs. rounds (suc (length bs)) bs) u
   reads-star bs = rounds-as (suc (length (numbers bs))) bs (omega (arith, length-numbers bs))
 
 -- ── the nodes of a table ──
+
+-- 03: "5 rounds". 02, Job 2: 6 for kind `Z`
+abbrev pub star-kind : (again : Bool) → ℕ
+star-kind false = 5
+star-kind true = 6
 
 -- a line as 03 writes it: "kinds: 0 nothing, 1 a letter, 2 a range, 3 one after the other, 4 either, 5 rounds; a and b are letters or places"
 abbrev pub node-as : (account : ℕ) → Own-node → Node
@@ -219,7 +255,7 @@ node-as c (Leaf-node (Letter x)) = record { kind = 1; account = c; a = x; b = 0 
 node-as c (Leaf-node (Range x y)) = record { kind = 2; account = c; a = x; b = y }
 node-as c (Sequence q r) = record { kind = 3; account = c; a = q; b = r }
 node-as c (Alternative q r) = record { kind = 4; account = c; a = q; b = r }
-node-as c (Star q) = record { kind = 5; account = c; a = q; b = 0 }
+node-as c (Star again q) = record { kind = star-kind again; account = c; a = q; b = 0 }
 
 abbrev pub line-as : Line → Node
 line-as x = node-as (x .account) (x .node)
@@ -238,7 +274,8 @@ module _ (p : Pattern) (r : Rules p) (ns : List Node) (same : (l : ℕ) → l < 
       rw e (reads-seq m (tree-of (line-at p) x) (tree-of (line-at p) y) (read-node n ns x) (read-node n ns y) (ih x (b .0)) (ih y (b .1)) bs)
   by-node n l (Alternative x y) c e g b ih m bs =
       rw e (reads-alt m (tree-of (line-at p) x) (tree-of (line-at p) y) (read-node n ns x) (read-node n ns y) (ih x (b .0)) (ih y (b .1)) bs)
-  by-node n l (Star x) c e g b ih m bs = rw e (reads-star m (tree-of (line-at p) x) (read-node n ns x) (ih x b) bs)
+  by-node n l (Star false x) c e g b ih m bs = rw e (reads-star m false (tree-of (line-at p) x) (read-node n ns x) (ih x b) bs)
+  by-node n l (Star true x) c e g b ih m bs = rw e (reads-star m true (tree-of (line-at p) x) (read-node n ns x) (ih x b) bs)
 
   good-node : (l : ℕ) → l < p .count → node-good (node-at p l) ≡ true
   unfolding line-good

@@ -17,7 +17,7 @@ use Rattle.syntax.specs.Bools.{and-fst, and-snd, and-intro}
 use Rattle.syntax.specs.Letter.{is-letter}
 use Rattle.syntax.specs.Table.{tree-fault}
 use Rattle.refusals.specs.Refusals.{Answer}
-use Rattle.fields.specs.Text.{place, single, account, when, node-of-none, node-of-one, range-of, parts-of, node-of-two, node-of}
+use Rattle.fields.specs.Text.{place, single, account, when, star-of, node-of-none, node-of-one, range-of, parts-of, node-of-two, node-of}
 use Rattle.fields.specs.Text.{with-account, line-of, row-line, Forms, good, fault, line-front, forms}
 use Rattle.loading.specs.Load.{table, load-answer}
 use Rattle.loading.specs.LoadForms.{tree-answer, forms-answer, load-answer-is}
@@ -38,31 +38,36 @@ kind-of : (q : List ℕ) (c : ℕ) → eqb (single q) c ≡ true → kind-value 
 kind-of q c e = kind-same q ∙ ap kind-by (eqb-true (single q) c e)
 
 -- what is asked of a kind that is known
-known : (q : List ℕ) (ws : List (List ℕ)) (c : ℕ) → eqb (single q) c ≡ true → ltb (kind-by c) 6 ≡ true → needs (kind-by c) ws ≡ true
-    → (ltb (kind-value q) 6 ≡ true) × (needs (kind-value q) ws ≡ true)
-known q ws c e l h = let k = kind-of q c e in (ap (λ j. ltb j 6) k ∙ l, ap (λ j. needs j ws) k ∙ h)
+known : (q : List ℕ) (ws : List (List ℕ)) (c : ℕ) → eqb (single q) c ≡ true → ltb (kind-by c) 7 ≡ true → needs (kind-by c) ws ≡ true
+    → (ltb (kind-value q) 7 ≡ true) × (needs (kind-value q) ws ≡ true)
+known q ws c e l h = let k = kind-of q c e in (ap (λ j. ltb j 7) k ∙ l, ap (λ j. needs j ws) k ∙ h)
 
 module _ (p q u : List ℕ) where
   out-three : (n : Own-node) → node-of (single q) [] ≡ some n
-      → (ltb (kind-value q) 6 ≡ true) × (needs (kind-value q) (p ∷ q ∷ u ∷ []) ≡ true)
+      → (ltb (kind-value q) 7 ≡ true) × (needs (kind-value q) (p ∷ q ∷ u ∷ []) ≡ true)
   unfolding node-of node-of-none field
   out-three n e = known q (p ∷ q ∷ u ∷ []) 69 (when-yes (eqb (single q) 69) (Leaf-node Nothing) n e) refl refl
 
   out-four : (x : List ℕ) (n : Own-node) → node-of (single q) (x ∷ []) ≡ some n
-      → (ltb (kind-value q) 6 ≡ true) × (needs (kind-value q) (p ∷ q ∷ u ∷ x ∷ []) ≡ true)
+      → (ltb (kind-value q) 7 ≡ true) × (needs (kind-value q) (p ∷ q ∷ u ∷ x ∷ []) ≡ true)
   unfolding node-of node-of-one field
-  out-four x n e = go (eqb (single q) 76) refl (eqb (single q) 75) refl e
+  out-four x n e = go (eqb (single q) 76) refl (eqb (single q) 75) refl (eqb (single q) 90) refl e
     where
-      go : (l : Bool) → eqb (single q) 76 ≡ l → (k : Bool) → eqb (single q) 75 ≡ k
-          → cond l (when (is-letter (single x)) (Leaf-node (Letter (single x)))) (cond k (when (ltb (place x) 64) (Star (place x))) none) ≡ some n
-          → (ltb (kind-value q) 6 ≡ true) × (needs (kind-value q) (p ∷ q ∷ u ∷ x ∷ []) ≡ true)
-      go true el k ek f =
+      star : (again : Bool) → star-of again (place x) ≡ some n → is-place x ≡ true
+      star again f = is-place-back x (when-yes (ltb (place x) 64) (Star again (place x)) n f)
+
+      go : (l : Bool) → eqb (single q) 76 ≡ l → (k : Bool) → eqb (single q) 75 ≡ k → (z : Bool) → eqb (single q) 90 ≡ z
+          → cond l (when (is-letter (single x)) (Leaf-node (Letter (single x))))
+          (cond k (star-of false (place x)) (cond z (star-of true (place x)) none)) ≡ some n
+          → (ltb (kind-value q) 7 ≡ true) × (needs (kind-value q) (p ∷ q ∷ u ∷ x ∷ []) ≡ true)
+      go true el k ek z ez f =
           known q (p ∷ q ∷ u ∷ x ∷ []) 76 el refl (letter-back x (when-yes (is-letter (single x)) (Leaf-node (Letter (single x))) n f) .0)
-      go false el true ek f = known q (p ∷ q ∷ u ∷ x ∷ []) 75 ek refl (is-place-back x (when-yes (ltb (place x) 64) (Star (place x)) n f))
-      go false el false ek f = absurd (Option·none-ne-some n f)
+      go false el true ek z ez f = known q (p ∷ q ∷ u ∷ x ∷ []) 75 ek refl (star false f)
+      go false el false ek true ez f = known q (p ∷ q ∷ u ∷ x ∷ []) 90 ez refl (star true f)
+      go false el false ek false ez f = absurd (Option·none-ne-some n f)
 
   out-five : (x y : List ℕ) (n : Own-node) → node-of (single q) (x ∷ y ∷ []) ≡ some n
-      → (ltb (kind-value q) 6 ≡ true) × (needs (kind-value q) (p ∷ q ∷ u ∷ x ∷ y ∷ []) ≡ true)
+      → (ltb (kind-value q) 7 ≡ true) × (needs (kind-value q) (p ∷ q ∷ u ∷ x ∷ y ∷ []) ≡ true)
   unfolding node-of node-of-two range-of parts-of field
   out-five x y n e = go (eqb (single q) 82) refl (eqb (single q) 83) refl (eqb (single q) 65) refl e
     where
@@ -82,7 +87,7 @@ module _ (p q u : List ℕ) where
           → cond r (when ((is-letter (single x) && is-letter (single y)) && leb (single x) (single y)) (Leaf-node (Range (single x) (single y))))
           (cond s (when (ltb (place x) 64 && ltb (place y) 64) (Sequence (place x) (place y)))
           (cond a (when (ltb (place x) 64 && ltb (place y) 64) (Alternative (place x) (place y))) none)) ≡ some n
-          → (ltb (kind-value q) 6 ≡ true) × (needs (kind-value q) (p ∷ q ∷ u ∷ x ∷ y ∷ []) ≡ true)
+          → (ltb (kind-value q) 7 ≡ true) × (needs (kind-value q) (p ∷ q ∷ u ∷ x ∷ y ∷ []) ≡ true)
       go true er s es a ea f =
           known q (p ∷ q ∷ u ∷ x ∷ y ∷ []) 82 er refl
           (letters (when-yes ((is-letter (single x) && is-letter (single y)) && leb (single x) (single y)) (Leaf-node (Range (single x) (single y))) n f))
@@ -93,7 +98,7 @@ module _ (p q u : List ℕ) where
       go false er false es false ea f = absurd (Option·none-ne-some n f)
 
   out-more : (more : List (List ℕ)) (n : Own-node) → node-of (single q) more ≡ some n
-      → (ltb (kind-value q) 6 ≡ true) × (needs (kind-value q) (p ∷ q ∷ u ∷ more) ≡ true)
+      → (ltb (kind-value q) 7 ≡ true) × (needs (kind-value q) (p ∷ q ∷ u ∷ more) ≡ true)
   unfolding node-of
   out-more [] n e = out-three n e
   out-more (x ∷ []) n e = out-four x n e
@@ -104,7 +109,7 @@ module _ (p q u : List ℕ) where
 abbrev Asks : (i : ℕ) → (ws : List (List ℕ)) → Type 0
 Asks i ws =
     (eqb (place-value (field ws 0)) i ≡ true) × (ltb (account-value (field ws 2)) 10 ≡ true)
-    × ((ltb (kind-value (field ws 1)) 6 ≡ true) × (needs (kind-value (field ws 1)) ws ≡ true))
+    × ((ltb (kind-value (field ws 1)) 7 ≡ true) × (needs (kind-value (field ws 1)) ws ≡ true))
 
 fields-out : (i : ℕ) (ws : List (List ℕ)) (l : Line) → i < 64 → line-of i ws ≡ some l → Asks i ws
 unfolding line-of field
@@ -116,7 +121,7 @@ fields-out i (p ∷ q ∷ u ∷ more) l s e = go (eqb (place p) i) refl (node-of
     go : (b : Bool) → eqb (place p) i ≡ b → (o : Option Own-node) → node-of (single q) more ≡ o
         → cond b (with-account (account (single u)) o) none ≡ some l
         → (eqb (place-value p) i ≡ true) × (ltb (account-value u) 10 ≡ true)
-        × ((ltb (kind-value q) 6 ≡ true) × (needs (kind-value q) (p ∷ q ∷ u ∷ more) ≡ true))
+        × ((ltb (kind-value q) 7 ≡ true) × (needs (kind-value q) (p ∷ q ∷ u ∷ more) ≡ true))
     go false b o f g = absurd (Option·none-ne-some l g)
     go true b none f g = absurd (Option·none-ne-some l g)
     go true b (some n) f g =

@@ -34,7 +34,8 @@ parts-same c (Leaf-node (Letter x)) = refl
 parts-same c (Leaf-node (Range x y)) = refl
 parts-same c (Sequence x y) = refl
 parts-same c (Alternative x y) = refl
-parts-same c (Star x) = refl
+parts-same c (Star false x) = refl
+parts-same c (Star true x) = refl
 
 member-same : (v : ℕ) (xs : List ℕ) → member-03 v xs ≡ member v xs
 unfolding member-03

@@ -1,5 +1,5 @@
--- C1 to C11 of document 01 as a caller meets them: the pattern's text, the tape's or code's bytes, the number and value answered, the code's
--- bytes. Definitions only.
+-- C1 to C11 of document 01, and rows for kind `Z` of document 02, as a caller meets them: the pattern's text, the tape's or code's bytes, the
+-- number and value answered, the code's bytes. Definitions only.
 use mathlib.Core.Path.{_≡_}
 use mathlib.Core.List.{List, [], _∷_}
 use Prim.Native.Nat.{ℕ, _+_, _*_, _≤_}
@@ -12,7 +12,7 @@ use Rattle.parser.specs.declared.Parsed.{Parsed}
 use Rattle.parser.specs.Parse.{parsed-answer, Parses}
 use Rattle.canonical.specs.declared.Canonicalized.{Canonicalized}
 use Rattle.canonical.specs.Canonicalize.{canonicalized-answer, Canonicalizes}
-use Rattle.worked_examples.specs.Texts.{P1, P2, P3, P4, P5, Listing, d, a, b, W}
+use Rattle.worked_examples.specs.Texts.{P1, P2, P3, P4, P5, Listing, Z1, Z2, Z3, Z4, Z5, Z6, Z7, d, a, b, W}
 
 -- what is asked: to read the tape, or to settle a code, given by its bytes and bit count
 pub data Asked : Type 0 where
@@ -93,4 +93,17 @@ rows =
     ∷ settles P1 4 (72 ∷ []) 5 (a ∷ []) 0 3 (32 ∷ [])
     -- the listing: tape `3W2`, 21 bits, 4cc328
     ∷ reads Listing 6 (d 3 ∷ W ∷ d 2 ∷ []) 0 21 (76 ∷ 195 ∷ 40 ∷ [])
+    -- 02, Job 2: `Z` "writes 0 to stop and 1 before a round". `Z` over a, empty: `0`
+    ∷ reads Z1 2 [] 0 1 (0 ∷ [])
+    -- 02: "The settled code is still the earliest without an empty round". `Z` over (a|e), empty: `0`; code `110` settles to `0`
+    ∷ reads Z2 4 [] 0 1 (0 ∷ [])
+    ∷ settles Z2 4 (192 ∷ []) 3 [] 0 1 (0 ∷ [])
+    -- `Z` over (a|aa), aa: `10100`, two rounds of a, which is the left side
+    ∷ reads Z3 6 (a ∷ a ∷ []) 0 5 (160 ∷ [])
+    -- 02: "a pattern may mix both kinds". `Z` over a, then `K` over a, aa: `0001`. `K` over `Z` over a, a: `0101`
+    ∷ reads Z4 5 (a ∷ a ∷ []) 0 4 (16 ∷ [])
+    ∷ reads Z5 3 (a ∷ []) 0 4 (80 ∷ [])
+    -- `K` over `Z` over (a|e), a: `01001`. `Z` over `K` over (a|e), a: `10010`
+    ∷ reads Z6 5 (a ∷ []) 0 5 (72 ∷ [])
+    ∷ reads Z7 5 (a ∷ []) 0 5 (144 ∷ [])
     ∷ []

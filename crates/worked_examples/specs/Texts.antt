@@ -1,4 +1,4 @@
--- 01, "Tapes to try": the patterns P1 to P5, and that of "A whole listing", as texts. Definitions only.
+-- 01, "Tapes to try": the patterns P1 to P5, and that of "A whole listing", as texts; and patterns with kind `Z` of 02, Job 2. Definitions only.
 use mathlib.Core.List.{List, [], _∷_, _++_}
 use Prim.Native.Nat.{ℕ, _+_}
 
@@ -31,6 +31,10 @@ A = 65
 
 abbrev pub K : ℕ
 K = 75
+
+-- 02, Job 2: "Add kind `Z`, one part, which writes 0 to stop and 1 before a round."
+abbrev pub Z : ℕ
+Z = 90
 
 -- 01: "Account is `-` or a digit 1 to 9."
 abbrev pub dash : ℕ
@@ -118,4 +122,78 @@ Listing =
     ∷ (d 3 ∷ R ∷ d 1 ∷ d 0 ∷ d 9 ∷ [])
     ∷ (d 4 ∷ A ∷ dash ∷ d 2 ∷ d 3 ∷ [])
     ∷ (d 5 ∷ K ∷ dash ∷ d 4 ∷ [])
+    ∷ [])
+
+-- ── 02, Job 2: patterns with kind `Z` ──
+
+-- `Z` over a
+unfoldable pub Z1 : List ℕ
+Z1 =
+    lines
+    ((d 0 ∷ L ∷ dash ∷ a ∷ [])
+    ∷ (d 1 ∷ Z ∷ dash ∷ d 0 ∷ [])
+    ∷ [])
+
+-- `Z` over (a|e): P1 with `Z`
+unfoldable pub Z2 : List ℕ
+Z2 =
+    lines
+    ((d 0 ∷ L ∷ dash ∷ a ∷ [])
+    ∷ (d 1 ∷ E ∷ dash ∷ [])
+    ∷ (d 2 ∷ A ∷ dash ∷ d 0 ∷ d 1 ∷ [])
+    ∷ (d 3 ∷ Z ∷ dash ∷ d 2 ∷ [])
+    ∷ [])
+
+-- `Z` over (a|aa)
+unfoldable pub Z3 : List ℕ
+Z3 =
+    lines
+    ((d 0 ∷ L ∷ dash ∷ a ∷ [])
+    ∷ (d 1 ∷ L ∷ dash ∷ a ∷ [])
+    ∷ (d 2 ∷ L ∷ dash ∷ a ∷ [])
+    ∷ (d 3 ∷ S ∷ dash ∷ d 1 ∷ d 2 ∷ [])
+    ∷ (d 4 ∷ A ∷ dash ∷ d 0 ∷ d 3 ∷ [])
+    ∷ (d 5 ∷ Z ∷ dash ∷ d 4 ∷ [])
+    ∷ [])
+
+-- "a pattern may mix both kinds": `Z` over a, then `K` over a
+unfoldable pub Z4 : List ℕ
+Z4 =
+    lines
+    ((d 0 ∷ L ∷ dash ∷ a ∷ [])
+    ∷ (d 1 ∷ Z ∷ dash ∷ d 0 ∷ [])
+    ∷ (d 2 ∷ L ∷ dash ∷ a ∷ [])
+    ∷ (d 3 ∷ K ∷ dash ∷ d 2 ∷ [])
+    ∷ (d 4 ∷ S ∷ dash ∷ d 1 ∷ d 3 ∷ [])
+    ∷ [])
+
+-- `K` over `Z` over a
+unfoldable pub Z5 : List ℕ
+Z5 =
+    lines
+    ((d 0 ∷ L ∷ dash ∷ a ∷ [])
+    ∷ (d 1 ∷ Z ∷ dash ∷ d 0 ∷ [])
+    ∷ (d 2 ∷ K ∷ dash ∷ d 1 ∷ [])
+    ∷ [])
+
+-- `K` over `Z` over (a|e)
+unfoldable pub Z6 : List ℕ
+Z6 =
+    lines
+    ((d 0 ∷ L ∷ dash ∷ a ∷ [])
+    ∷ (d 1 ∷ E ∷ dash ∷ [])
+    ∷ (d 2 ∷ A ∷ dash ∷ d 0 ∷ d 1 ∷ [])
+    ∷ (d 3 ∷ Z ∷ dash ∷ d 2 ∷ [])
+    ∷ (d 4 ∷ K ∷ dash ∷ d 3 ∷ [])
+    ∷ [])
+
+-- `Z` over `K` over (a|e)
+unfoldable pub Z7 : List ℕ
+Z7 =
+    lines
+    ((d 0 ∷ L ∷ dash ∷ a ∷ [])
+    ∷ (d 1 ∷ E ∷ dash ∷ [])
+    ∷ (d 2 ∷ A ∷ dash ∷ d 0 ∷ d 1 ∷ [])
+    ∷ (d 3 ∷ K ∷ dash ∷ d 2 ∷ [])
+    ∷ (d 4 ∷ Z ∷ dash ∷ d 3 ∷ [])
     ∷ [])
