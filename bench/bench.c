@@ -50,7 +50,7 @@ static void c_masks_fill(void) { c_masks(), c_fill(); }
 static void c_parse(void) {
   make_masks(&table, &masks);
   fill_words(&masks, tape, n, words[1]);
-  sink = write_code(&table, words[1], tape, codes[1]);
+  sink = write_code(&table, &masks, words[1], tape, n, codes[1]);
 }
 static void c_walk(void) { sink = check_code(&table, codes[0], bytes, bits); }
 static void c_spell(void) { sink = spell(&table, codes[0], spelled[1]); }
@@ -60,7 +60,7 @@ static void c_settle(void) {
   c_flatten();
   make_masks(&table, &masks);
   fill_words(&masks, spelled[1], n, words[1]);
-  sink = write_code(&table, words[1], spelled[1], settled[1]);
+  sink = write_code(&table, &masks, words[1], spelled[1], n, settled[1]);
 }
 
 static Matcher matchers[MATCHERS];
@@ -259,7 +259,7 @@ static void grown_c(int k) {
   for (size_t i = 0; i < LETTERS; i += cases[k].n) {
     make_masks(&cases[k].table, &masks);
     fill_words(&masks, cases[k].tapes + i, cases[k].n, words[1]);
-    sink = write_code(&cases[k].table, words[1], cases[k].tapes + i, codes[1]);
+    sink = write_code(&cases[k].table, &masks, words[1], cases[k].tapes + i, cases[k].n, codes[1]);
   }
 }
 
@@ -331,12 +331,13 @@ static void stacks(const char *name) {
 static void meter(void) { meter_pattern(&table, 64); }
 static void hostile(void) { hostile_pattern(&table, 64); }
 static void stress(void) { stress_pattern(&table); }
-static void stars(void) { stars_pattern(&table); }
+static void stars(void) { stars_pattern(&table, 'K'); }
+static void lazy_stars(void) { stars_pattern(&table, 'Z'); }
 static void left_chain(void) { chain_pattern(&table, 1); }
 static void right_chain(void) { chain_pattern(&table, 0); }
 
 // The first are timed; of all of them, the deepest too, the stack is measured. A bound of 0 is none: the time is printed without one.
-enum { TIMED = 3, PATTERNS = 6 };
+enum { TIMED = 3, PATTERNS = 7 };
 static const struct {
   const char *name;
   void (*make)(void);
@@ -346,6 +347,7 @@ static const struct {
                         {"hostile", hostile, 12, 3, 1.3},
                         {"stress", stress, 1, 2, 0},
                         {"63 nested stars", stars, 12, 0, 0},
+                        {"63 nested lazy stars", lazy_stars, 12, 0, 0},
                         {"31 sequences down to the left", left_chain, 12, 0, 0},
                         {"31 sequences down to the right", right_chain, 12, 0, 0}};
 

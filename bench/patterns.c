@@ -133,11 +133,11 @@ void stress_pattern(Table *t) {
   checked(t, 64);
 }
 
-void stars_pattern(Table *t) {
+void stars_pattern(Table *t, char kind) {
   made = t;
   t->count = 0;
   int rest = range('a', 'b');
-  while (t->count < 64) rest = star(rest);
+  while (t->count < 64) rest = node(kind, rest, 0);
   checked(t, 64);
 }
 
@@ -156,7 +156,7 @@ int depth(const Table *t) {
   int below[64];
   for (int l = 0; l < t->count; l++) {
     Node d = t->node[l];
-    int parts = strchr("SA", d.kind) ? 2 : d.kind == 'K';
+    int parts = strchr("SA", d.kind) ? 2 : strchr("KZ", d.kind) != 0;
     below[l] = 1 + (parts ? below[d.first] : 0);
     if (parts == 2 && below[d.second] >= below[l]) below[l] = 1 + below[d.second];
   }
@@ -171,7 +171,8 @@ size_t write_text(const Table *t, char *text) {
     switch (d.kind) {
       case 'L': s += sprintf(s, "\t%c", d.first); break;
       case 'R': s += sprintf(s, "\t%c\t%c", d.first, d.second); break;
-      case 'K': s += sprintf(s, "\t%d", d.first); break;
+      case 'K':
+      case 'Z': s += sprintf(s, "\t%d", d.first); break;
       case 'S':
       case 'A': s += sprintf(s, "\t%d\t%d", d.first, d.second); break;
     }
@@ -205,8 +206,9 @@ static char *write_node(const Table *t, char *s, int l) {
       return s;
   }
   s = write_part(t, s, d.first);
-  if (d.kind == 'K') {
+  if (d.kind == 'K' || d.kind == 'Z') {
     *s++ = '*';
+    if (d.kind == 'Z') *s++ = '?';
     return s;
   }
   if (d.kind == 'A') *s++ = '|';
@@ -257,7 +259,8 @@ static void draw_node(Drawing *w, int l) {
       draw_node(w, left && (!right || draw(16) < w->lefts) ? d.first : d.second);
       break;
     }
-    case 'K': {
+    case 'K':
+    case 'Z': {
       int flag = w->flag;
       while (can(w, d.first, 0) && (!can_stop(w, l, flag) || draw(16))) {
         w->flag = 0;

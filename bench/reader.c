@@ -22,6 +22,7 @@ static void followers(Making *g, int l, int behind, int in_star) {
       followers(g, d->second, behind, in_star);
       break;
     case 'K':
+    case 'Z':
       followers(g, d->first, l, 1);
       break;
   }
@@ -58,7 +59,8 @@ static uint64_t reached(Making *g, int l, int flag) {
     case 'R': s = 1ull << l; break;
     case 'S': s = into(g, d->first, flag, &ends); break;
     case 'A': s = into(g, d->first, flag, &ends) | into(g, d->second, flag, &ends); break;
-    case 'K': s = into(g, d->first, 0, &ends) | onward(g, l, flag, &ends); break;
+    case 'K':
+    case 'Z': s = into(g, d->first, 0, &ends) | onward(g, l, flag, &ends); break;
   }
   g->known[flag][l] = 1;
   g->ends[flag][l] = ends;
@@ -114,8 +116,9 @@ void fill_words(const Masks *m, const uint8_t *tape, size_t n, uint64_t *words) 
 
 typedef struct {
   const Node *node;
+  const Masks *m;
   const uint64_t *words;  // of the present position
-  const uint8_t *tape;
+  const uint8_t *tape, *end;
   uint8_t *code;
   uint64_t held;  // bits not yet stored, `filled` of them
   int filled, flag;
@@ -130,6 +133,26 @@ static void put(Writing *w, unsigned bits, int n) {
     memcpy(w->code, &big, 4);
     w->code += 4;
   }
+}
+
+static void write_node(Writing *w, int l);
+
+// Whether what follows a star can be gone on with: the tape's end, or a node behind it, or a star that it is in, and that only if the
+// round has a letter.
+static int may_stop(const Writing *w, int l) {
+  int f = w->m->follower[l];
+  if (f == 64) return w->flag && w->tape == w->end;
+  if (w->m->in_star[l] && !w->flag) return 0;
+  return w->words[w->flag] >> f & 1;
+}
+
+static void write_lazy_star(Writing *w, int l) {
+  while (!may_stop(w, l)) {
+    put(w, 1, 1);
+    w->flag = 0;
+    write_node(w, w->node[l].first);
+  }
+  put(w, 0, 1);
 }
 
 static void write_node(Writing *w, int l) {
@@ -153,6 +176,7 @@ static void write_node(Writing *w, int l) {
         l = left ? d.first : d.second;
         break;
       }
+      case 'Z': write_lazy_star(w, l); return;
       default: {
         int flag = w->flag;
         while (w->words[0] >> d.first & 1) {
@@ -169,8 +193,8 @@ static void write_node(Writing *w, int l) {
   }
 }
 
-uint32_t write_code(const Table *t, const uint64_t *words, const uint8_t *tape, uint8_t *code) {
-  Writing w = {t->node, words, tape, code, 0, 0, 1};
+uint32_t write_code(const Table *t, const Masks *m, const uint64_t *words, const uint8_t *tape, size_t n, uint8_t *code) {
+  Writing w = {t->node, m, words, tape, tape + n, code, 0, 0, 1};
   write_node(&w, t->count - 1);
   uint32_t bits = 8 * (w.code - code) + w.filled;
   for (; w.filled > 0; w.filled -= 8) *w.code++ = w.filled >= 8 ? w.held >> (w.filled - 8) : w.held << (8 - w.filled);
@@ -216,6 +240,13 @@ static uint32_t check_node(Checking *w, int l, uint32_t at) {
         if (at >= w->count) return BAD;
         l = bit_at(w->code, at++) ? d.second : d.first;
         break;
+      case 'Z':
+        for (;;) {
+          if (at >= w->count) return BAD;
+          if (!bit_at(w->code, at++)) return at;
+          at = check_node(w, d.first, at);
+          if (at == BAD) return BAD;
+        }
       default:
         for (;;) {
           if (at >= w->count) return BAD;
@@ -252,6 +283,9 @@ static uint32_t spell_node(Spelling *w, int l, uint32_t at) {
         l = d.second;
         break;
       case 'A': l = bit_at(w->code, at++) ? d.second : d.first; break;
+      case 'Z':
+        while (bit_at(w->code, at++)) at = spell_node(w, d.first, at);
+        return at;
       default:
         while (!bit_at(w->code, at++)) at = spell_node(w, d.first, at);
         return at;
@@ -288,6 +322,9 @@ static uint32_t charge_node(const Charging *w, int l, int account, uint32_t at) 
         l = d.second;
         break;
       case 'A': l = bit_at(w->code, at++) ? d.second : d.first; break;
+      case 'Z':
+        while (bit_at(w->code, at++)) at = charge_node(w, d.first, account, at);
+        return at;
       default:
         while (!bit_at(w->code, at++)) at = charge_node(w, d.first, account, at);
         return at;
@@ -318,7 +355,8 @@ static int good_node(uint64_t *named, int l, Node d) {
     case 'R': return is_letter(d.first) && is_letter(d.second) && d.first <= d.second;
     case 'S':
     case 'A': return name(named, l, d.first) && name(named, l, d.second);
-    case 'K': return name(named, l, d.first);
+    case 'K':
+    case 'Z': return name(named, l, d.first);
   }
   return 0;
 }

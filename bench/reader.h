@@ -6,7 +6,7 @@
 
 // first and second: the parts, or a range's limits, or a letter
 typedef struct {
-  uint8_t kind, first, second, account;  // kind: E L R S A K; account: 0 for none
+  uint8_t kind, first, second, account;  // kind: E L R S A K Z; account: 0 for none
 } Node;
 
 typedef struct {
@@ -30,7 +30,7 @@ typedef struct {
 // The two sweeps: no test of what is handed over. A code is written in whole words, so its buffer has 8 bytes to spare.
 void make_masks(const Table *t, Masks *m);
 void fill_words(const Masks *m, const uint8_t *tape, size_t n, uint64_t *words);
-uint32_t write_code(const Table *t, const uint64_t *words, const uint8_t *tape, uint8_t *code);
+uint32_t write_code(const Table *t, const Masks *m, const uint64_t *words, const uint8_t *tape, size_t n, uint8_t *code);
 
 // One walk that tests everything about a code: bytes, padding, bits left, ranges, that all bits are used. The letters, or -1.
 int check_code(const Table *t, const uint8_t *code, size_t bytes, uint32_t count);

@@ -29,7 +29,7 @@ static int line(const char *rest) {
 
 static int parts(char kind, int first, int second) {
   char rest[32];
-  if (kind == 'K') sprintf(rest, "K\t-\t%d", first);
+  if (kind == 'K' || kind == 'Z') sprintf(rest, "%c\t-\t%d", kind, first);
   else sprintf(rest, "%c\t-\t%d\t%d", kind, first, second);
   return line(rest);
 }
@@ -56,6 +56,13 @@ static void stars_in_a_star(void) {
     row = row < 0 ? star : parts('S', row, star);
   }
   parts('K', row, 0);
+}
+
+// 63 lazy stars around a letter: each letter takes a round of every one of them, so that its code is nearly as long as any.
+static void lazy_stars(void) {
+  size = lines = 0;
+  int star = line("R\t1\t!\t~");
+  while (lines < NODES) star = parts('Z', star, 0);
 }
 
 // ---- times
@@ -157,6 +164,8 @@ static void on_tapes(void) {
   stars_in_a_star();
   for (int i = 0; i < LETTERS; i++) tape[i] = 'A' + 20 - i % 21;
   read_tape("21 stars in a star, letters in falling order");
+  lazy_stars();
+  read_tape("63 nested lazy stars");
   unsigned state = 1;
   for (int i = 0; i < LETTERS; i++) {
     state = state * 1103515245u + 12345u;

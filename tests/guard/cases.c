@@ -36,7 +36,8 @@ static bool fits(char kind, uint32_t trees, uint32_t left)
     switch (kind) {
     case 'S':
     case 'A': return trees >= 2;
-    case 'K': return trees >= 1 && left + 1 >= trees;
+    case 'K':
+    case 'Z': return trees >= 1 && left + 1 >= trees;
     default: return left >= trees;
     }
 }
@@ -60,7 +61,8 @@ static void write_text(struct pattern *pattern)
         switch (node->kind) {
         case 'L': end += sprintf(end, "\t%c", node->low); break;
         case 'R': end += sprintf(end, "\t%c\t%c", node->low, node->high); break;
-        case 'K': end += sprintf(end, "\t%u", node->first); break;
+        case 'K':
+        case 'Z': end += sprintf(end, "\t%u", node->first); break;
         case 'S':
         case 'A': end += sprintf(end, "\t%u\t%u", node->first, node->second); break;
         default: break;
@@ -72,8 +74,8 @@ static void write_text(struct pattern *pattern)
 
 void draw_pattern(struct source *source, struct pattern *pattern, bool endless)
 {
-    static const char *const mixes[] = {"ELLRRSSAAK", "ELRSAKKKK", "EEELSSSSAK", "ELAAAAASK", "RRRRSSSSK", "ELRSAK"};
-    const char *mix = endless ? "EEKSA" : mixes[draw(source, 6)];
+    static const char *const mixes[] = {"ELLRRSSAAKZ", "ELRSAKKZZ", "EEELSSSSAKZ", "ELAAAAASZ", "RRRRSSSSKZ", "ELRSAK", "ELRSAZ"};
+    const char *mix = endless ? "EEKZSA" : mixes[draw(source, sizeof mixes / sizeof *mixes)];
     const uint32_t kinds = (uint32_t)strlen(mix);
     uint32_t tree[WUMBYRA_MAX_LINES], trees = 0, joined;
 
@@ -90,7 +92,7 @@ void draw_pattern(struct source *source, struct pattern *pattern, bool endless)
         node->high = draw_letter(source);
         if (node->high < node->low)
             node->high = node->low;
-        if (strchr("SAK", node->kind) != NULL)
+        if (strchr("SAKZ", node->kind) != NULL)
             node->first = take(source, tree, &trees);
         if (strchr("SA", node->kind) != NULL)
             node->second = take(source, tree, &trees);
@@ -108,7 +110,7 @@ struct walk {
     uint32_t rounds, on;
 };
 
-static void put_bits(struct parse *parse, uint32_t bits, uint32_t count)
+void put_bits(struct parse *parse, uint32_t bits, uint32_t count)
 {
     while (count-- > 0) {
         uint32_t at = parse->bits++;
@@ -134,17 +136,18 @@ static bool another_round(struct walk *walk)
 
 static void visit(struct walk *walk, uint32_t place, uint32_t account);
 
-static void visit_rounds(struct walk *walk, uint32_t place, uint32_t account)
+/* `stop` is the bit that ends the rounds: 1 of a star, 0 of a lazy one. The other bit stands before each round. */
+static void visit_rounds(struct walk *walk, uint32_t place, uint32_t account, uint32_t stop)
 {
     struct parse *parse = walk->parse;
     while (another_round(walk)) {
         uint32_t before = parse->count;
         walk->rounds--;
-        put_bits(parse, 0, 1);
+        put_bits(parse, 1 - stop, 1);
         visit(walk, place, account);
         parse->empty_round = parse->empty_round || parse->count == before;
     }
-    put_bits(parse, 1, 1);
+    put_bits(parse, stop, 1);
 }
 
 static void visit_kind(struct walk *walk, const struct node *node, uint32_t account)
@@ -166,7 +169,8 @@ static void visit_kind(struct walk *walk, const struct node *node, uint32_t acco
         put_bits(walk->parse, drawn, 1);
         visit(walk, drawn == 0 ? node->first : node->second, account);
         break;
-    case 'K': visit_rounds(walk, node->first, account); break;
+    case 'K': visit_rounds(walk, node->first, account, 1); break;
+    case 'Z': visit_rounds(walk, node->first, account, 0); break;
     default: break;
     }
 }
@@ -200,7 +204,7 @@ void draw_parse(struct source *source, const struct pattern *pattern, struct par
 
 static uint8_t draw_byte(struct source *source)
 {
-    static const uint8_t telling[] = {0, 9, 10, 13, 32, 33, 126, 127, 255, '-', '0', '1', 'E', 'K'};
+    static const uint8_t telling[] = {0, 9, 10, 13, 32, 33, 126, 127, 255, '-', '0', '1', 'E', 'K', 'Z', 'z'};
     return chance(source, 2) ? telling[draw(source, sizeof telling)] : (uint8_t)draw(source, 256);
 }
 

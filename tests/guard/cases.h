@@ -22,7 +22,7 @@ uint32_t draw(struct source *source, uint32_t below);
 bool chance(struct source *source, uint32_t of);
 
 struct node {
-    char kind;
+    char kind; /* of E L R S A K Z */
     uint32_t account; /* 0: none */
     uint32_t first, second;
     uint8_t low, high;
@@ -52,6 +52,9 @@ void draw_pattern(struct source *source, struct pattern *pattern, bool endless);
 
 /* A parse, which may have empty rounds. It goes through `rounds` rounds at most, and on while `on` of `on + 1` chances say so. */
 void draw_parse(struct source *source, const struct pattern *pattern, struct parse *parse, uint32_t rounds, uint32_t on);
+
+/* Adds the last `count` of these bits to the code of a parse. */
+void put_bits(struct parse *parse, uint32_t bits, uint32_t count);
 
 /* Bytes after some damage: changed, lost, added, cut, doubled. There is room for `room` of them; the answer is how many there are. */
 size_t damage(struct source *source, uint8_t *bytes, size_t size, size_t room);

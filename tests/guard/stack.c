@@ -54,19 +54,20 @@ static int on_small_stack(const struct pattern *pattern, uint8_t *stack)
     return 0;
 }
 
-/* A leaf under 63 lines of kind K, or under 31 of kind S or A, whose other part is a leaf, down to the left or to the right. */
+/* A leaf under 63 lines of kind K or Z, or under 31 of kind S or A, whose other part is a leaf, down to the left or to the right. */
 static void chain(struct pattern *pattern, char kind, int right)
 {
+    const bool star = kind == 'K' || kind == 'Z';
     char *end = (char *)pattern->text;
     uint32_t last = 0;
     end += sprintf(end, "0\tR\t1\t0\t9\n");
     pattern->node[0] = (struct node){'R', 1, 0, 0, '0', '9'};
     pattern->count = 1;
-    while (pattern->count + (kind == 'K' ? 1 : 2) <= WUMBYRA_MAX_LINES) {
+    while (pattern->count + (star ? 1 : 2) <= WUMBYRA_MAX_LINES) {
         uint32_t leaf = pattern->count;
-        if (kind == 'K') {
-            pattern->node[leaf] = (struct node){'K', 0, last, 0, 0, 0};
-            end += sprintf(end, "%u\tK\t-\t%u\n", leaf, last);
+        if (star) {
+            pattern->node[leaf] = (struct node){kind, 0, last, 0, 0, 0};
+            end += sprintf(end, "%u\t%c\t-\t%u\n", leaf, kind, last);
             last = leaf;
         } else {
             uint32_t first = right ? leaf : last, second = right ? last : leaf;
@@ -80,12 +81,49 @@ static void chain(struct pattern *pattern, char kind, int right)
     pattern->size = (size_t)(end - (char *)pattern->text);
 }
 
+/* The code of the longest tape under 63 stars, as it must be written. Of kind K the innermost star takes all letters. Of kind Z each
+ * star stops as soon as its round has a letter, so that the outermost takes a round for each. */
+static void longest(char kind)
+{
+    const uint32_t stars = WUMBYRA_MAX_LINES - 1;
+    parse.bits = 0;
+    parse.count = WUMBYRA_MAX_LETTERS;
+    parse.watched = stars;
+    parse.visits = 1;
+    for (uint32_t i = 0; i < parse.count; i++) {
+        parse.letters[i] = (uint8_t)('0' + i % 10);
+        for (uint32_t star = kind == 'K' && i > 0 ? stars - 1 : 0; star < stars; star++)
+            put_bits(&parse, kind == 'Z', 1);
+        put_bits(&parse, parse.letters[i], 8);
+        for (uint32_t star = 1; star < stars && kind == 'Z'; star++)
+            put_bits(&parse, 0, 1);
+    }
+    for (uint32_t star = kind == 'Z' ? stars - 1 : 0; star < stars; star++)
+        put_bits(&parse, kind == 'K', 1);
+}
+
+static int read_longest(struct pattern *pattern, char kind, uint8_t *stack)
+{
+    chain(pattern, kind, 0);
+    longest(kind);
+    if (on_small_stack(pattern, stack) != 0)
+        return 1;
+    /* What settling wrote stands where the parse wrote before. */
+    if (wumbyra_value(answers[1]) != parse.bits || wumbyra_value(answers[3]) != parse.bits ||
+        memcmp(written, parse.code, WUMBYRA_BYTES_OF_BITS(parse.bits)) != 0 || memcmp(tape, parse.letters, parse.count) != 0) {
+        fprintf(stderr, "FAILED: the code of the longest tape under 63 stars of kind %c\n", kind);
+        return 1;
+    }
+    printf("%u letters under 63 stars of kind %c: %u bits\n", parse.count, kind, parse.bits);
+    return 0;
+}
+
 int main(void)
 {
     static const struct {
         char kind;
         int right;
-    } chains[] = {{'K', 0}, {'S', 0}, {'S', 1}, {'A', 0}, {'A', 1}};
+    } chains[] = {{'K', 0}, {'Z', 0}, {'S', 0}, {'S', 1}, {'A', 0}, {'A', 1}};
     static struct pattern pattern;
     struct source source = {1};
     uint8_t *around = mmap(NULL, WUMBYRA_STACK_BYTES + 2 * PAGE, PROT_NONE, MAP_PRIVATE | MAP_ANONYMOUS, -1, 0);
@@ -102,6 +140,7 @@ int main(void)
         draw_parse(&source, &pattern, &parse, 90, 40);
         failed = on_small_stack(&pattern, around + PAGE);
     }
+    failed = failed || read_longest(&pattern, 'K', around + PAGE) || read_longest(&pattern, 'Z', around + PAGE);
     if (!failed)
         printf("%zu patterns, seven calls each, on %d bytes of stack\n", sizeof chains / sizeof *chains + DRAWN, WUMBYRA_STACK_BYTES);
     return failed;

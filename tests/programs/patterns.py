@@ -28,8 +28,19 @@ EACH_ACCOUNT = text(
 # The node's own account goes before that of the nodes above it.
 INNERMOST = text("R 2 0 9", "L - x", "S 3 1 0", "R - 0 9", "A - 2 3", "K 5 4")
 
-# 63 stars, one in the other.
+# The pattern of 01's section "A whole listing" with a lazy star.
+LAZY_WORKED = text("R - 0 9", "L - W", "S 9 1 0", "R 1 0 9", "A - 2 3", "Z - 4")
+
+# A star over a lazy star over one letter.
+LAZY_IN_STAR = text("L - a", "Z - 0", "K - 1")
+
+# One letter or two, under a lazy star.
+ONE_OR_TWO = text("L - a", "L - a", "L - a", "S - 1 2", "A - 0 3", "Z - 4")
+
+# 63 stars, one in the other: greedy, lazy, and in turn.
 STARS = text("R 1 0 9", *(f"K - {place}" for place in range(LIMIT - 1)))
+LAZY_STARS = text("R 1 0 9", *(f"Z - {place}" for place in range(LIMIT - 1)))
+BOTH_STARS = text("R 1 0 9", *(f"{'KZ'[place % 2]} - {place}" for place in range(LIMIT - 1)))
 
 
 def longest():

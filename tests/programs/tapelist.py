@@ -110,6 +110,22 @@ def litres_and_codes():
     ]
 
 
+def lazy_stars():
+    listed = LISTED.replace("4cc328", "cce320")
+    return [
+        plain("the worked example with a lazy star", patterns.LAZY_WORKED, b"3W2\n", listed),
+        plain("a lazy star that takes nothing", patterns.LAZY_WORKED, b"", NO_LETTERS.replace("80", "00")),
+        plain("a lazy star in a star", patterns.LAZY_IN_STAR, b"a\n", "tape\t1\t4\t50\nopen\t0\t3\nopen\t1\t2\n"),
+        plain("a lazy star that goes on", patterns.ONE_OR_TWO, b"aa\n"),
+        plain("63 lazy stars, one in the other", patterns.LAZY_STARS, b"7" * 1000 + b"\n"),
+        plain("63 stars of both kinds", patterns.BOTH_STARS, b"7" * 100 + b"\n"),
+        text("a small z", patterns.text("E -", "z - 0"), refused(1, 1)),
+        text("a lazy star without a part", patterns.text("E -", "Z -"), refused(1, 1)),
+        text("a lazy star with two parts", patterns.text("E -", "E -", "Z - 0 1"), refused(1, 2)),
+        text("a lazy star that names itself", patterns.text("E -", "Z - 1"), refused(2, 1)),
+    ]
+
+
 def forms_of_texts():
     named = patterns.WORKED
     return [
@@ -200,6 +216,7 @@ CASES = [
     *bytes_of_tapes(),
     *lengths_of_tapes(),
     *litres_and_codes(),
+    *lazy_stars(),
     *forms_of_texts(),
     *trees_of_texts(),
     *files_not_read(),

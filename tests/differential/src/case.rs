@@ -1,17 +1,18 @@
 //! Random cases: a pattern text, a tape, a code and the buffers lent.
 
-use wumbyra_reference::cases::mutated::change;
+use wumbyra_reference::cases::mutated::{change, LIKELY_MIXED_BYTES};
 use wumbyra_reference::code::{encode, pack};
 use wumbyra_reference::codes::damaged::damage;
 use wumbyra_reference::codes::random::{put_in, sample};
 use wumbyra_reference::codes::Code;
+use wumbyra_reference::lazy;
 use wumbyra_reference::load::load;
-use wumbyra_reference::memo::greedy_reading;
+use wumbyra_reference::memo::preferred_reading;
 use wumbyra_reference::patterns::{random, text_of, LISTING, P1, P2, P3, P4, P5};
 use wumbyra_reference::prng::Prng;
 use wumbyra_reference::services::spelling::letters_of;
-use wumbyra_reference::table::{Kind, Node, Table};
-use wumbyra_reference::tapes::random::{METER, NULLABLE};
+use wumbyra_reference::table::{Kind, Node, Star, Table};
+use wumbyra_reference::tapes::random::{MIXED, WITHOUT_Z};
 use wumbyra_reference::value::{spell, Value};
 
 #[derive(Clone, Debug, PartialEq, Eq)]
@@ -40,34 +41,46 @@ pub struct Case {
 /// Letters of a sampled tape; longer ones are made of simple patterns only, since the reference is slow.
 const MOST_SAMPLED: usize = 60;
 const STAR: &str = "0\tL\t4\t7\n1\tK\t-\t0\n";
+const LAZY_STAR: &str = "0\tL\t4\t7\n1\tZ\t-\t0\n";
 
 pub fn random_case(rng: &mut Prng) -> Case {
     let sort = rng.below(1_000);
-    let table = match sort {
+    let (table, value) = match sort {
         0..=4 => return long_case(rng),
-        5..=99 => by_hand(rng),
-        100..=299 => nested(rng),
-        _ => sampled_pattern(rng),
+        5..=14 => deep(rng),
+        15..=99 => sampled(rng, by_hand),
+        100..=299 => sampled(rng, nested),
+        _ => sampled(rng, sampled_pattern),
     };
-    let value = sampled_value(rng, &table);
     let tape = tape_of(rng, &table, &value);
     let code = code_of(rng, &table, &value, &tape);
     let mut text = text_of(&table);
     if rng.below(6) == 0 {
         for _ in 0..1 + rng.below(3) {
-            text = change(rng, text);
+            text = change(rng, text, LIKELY_MIXED_BYTES);
         }
     }
     finished(rng, text, tape, code)
 }
 
+fn sampled(rng: &mut Prng, pattern: fn(&mut Prng) -> Table) -> (Table, Value) {
+    let table = pattern(rng);
+    let value = sampled_value(rng, &table);
+    (table, value)
+}
+
 fn by_hand(rng: &mut Prng) -> Table {
-    let text = *rng.pick(&[LISTING, P1, P2, P3, P4, P5, STAR]);
+    let text = match rng.below(2) {
+        0 => *rng.pick(&[LISTING, P1, P2, P3, P4, P5, STAR]),
+        _ => rng.pick(&lazy::ALL).1,
+    };
     load(text.as_bytes()).expect("a good pattern")
 }
 
+/// Three patterns in four may mix both kinds of stars.
 fn sampled_pattern(rng: &mut Prng) -> Table {
-    let taste = *rng.pick(&[&NULLABLE, &NULLABLE, &METER]);
+    let tastes = *rng.pick(&[&WITHOUT_Z, &MIXED, &MIXED, &MIXED]);
+    let taste = *rng.pick(tastes);
     let count = match rng.below(40) {
         0 => 64,
         1 => 40 + rng.below(24),
@@ -85,8 +98,9 @@ fn nested(rng: &mut Prng) -> Table {
     };
     let mut whole = add(Kind::Letter, usize::from(b'0') + rng.below(3), 0);
     for _ in 0..1 + rng.below(9) {
+        let star = any_star(rng);
         whole = match rng.below(6) {
-            0 | 1 => add(Kind::Rounds, whole, 0),
+            0 | 1 => add(star, whole, 0),
             2 => {
                 let empty = add(Kind::Nothing, 0, 0);
                 add(Kind::Either, whole, empty)
@@ -97,7 +111,7 @@ fn nested(rng: &mut Prng) -> Table {
             }
             4 => {
                 let other = add(Kind::Range, usize::from(b'0'), usize::from(b'2'));
-                let other = add(Kind::Rounds, other, 0);
+                let other = add(star, other, 0);
                 add(Kind::Sequence, whole, other)
             }
             _ => {
@@ -109,6 +123,56 @@ fn nested(rng: &mut Prng) -> Table {
         };
     }
     Table::of_nodes(&nodes)
+}
+
+fn any_star(rng: &mut Prng) -> Kind {
+    *rng.pick(&[Kind::GREEDY_STAR, Kind::LAZY_STAR])
+}
+
+/// A range under as many stars as lines allow, or nearly: all of one kind, or of both. A random value would hardly get down to a
+/// letter, so this one has letters from the start.
+fn deep(rng: &mut Prng) -> (Table, Value) {
+    let range = Node::new(Kind::Range, 3, u64::from(b'0'), u64::from(b'3'));
+    let mut nodes = vec![range];
+    let stars = 63 - rng.below(3) * rng.below(30);
+    let same = any_star(rng);
+    let mixed = rng.below(2) == 0;
+    for place in 0..stars {
+        let kind = if mixed { any_star(rng) } else { same };
+        nodes.push(Node::new(kind, 0, place as u64, 0));
+    }
+    let letters: Vec<u8> = (0..rng.below(20))
+        .map(|_| b'0' + rng.below(4) as u8)
+        .collect();
+    let value = deep_value(rng, &nodes, stars, &letters);
+    let table = Table::of_nodes(&nodes);
+    match rng.below(2) {
+        0 => (table, value),
+        _ => {
+            let more = put_in(rng, &table, stars, &value);
+            (table, more)
+        }
+    }
+}
+
+/// The letters in rounds of the star at this place: one each in the innermost star, further out mostly all in one round.
+fn deep_value(rng: &mut Prng, nodes: &[Node], place: usize, letters: &[u8]) -> Value {
+    let Kind::Rounds(star) = nodes[place].kind else {
+        return Value::Letter(letters[0]);
+    };
+    let mut rounds = Vec::new();
+    let mut rest = letters;
+    while !rest.is_empty() {
+        let length = match (place, rng.below(12)) {
+            (1, _) => 1,
+            (_, 0) => 1 + rng.below(rest.len()),
+            _ => rest.len(),
+        };
+        let (round, behind) = rest.split_at(length);
+        rounds.push(deep_value(rng, nodes, place - 1, round));
+        rest = behind;
+    }
+    Value::Rounds(star, rounds)
 }
 
 /// A value that is not too long, with empty rounds put in half of the time.
@@ -185,7 +249,7 @@ fn code_of(rng: &mut Prng, table: &Table, value: &Value, tape: &[u8]) -> Code {
                 u64::from(u32::MAX) - 6,
             ]),
         },
-        5 => match greedy_reading(table, tape) {
+        5 => match preferred_reading(table, tape) {
             Some(reading) => Code::of_bits(&encode(table, &reading)),
             None => Code::of_bits(&bits),
         },
@@ -195,11 +259,15 @@ fn code_of(rng: &mut Prng, table: &Table, value: &Value, tape: &[u8]) -> Code {
 
 /// Tapes and codes about 3,600 letters, and codes about 65,536 bytes.
 fn long_case(rng: &mut Prng) -> Case {
-    let (text, round, letter) = *rng.pick(&[
-        (STAR, "0", b'7'),
-        (P1, "00", b'a'),
-        (P2, "01", b'a'),
-        (P3, "0001", b'b'),
+    let (text, round, star, letter) = *rng.pick(&[
+        (STAR, "0", Star::Greedy, b'7'),
+        (P1, "00", Star::Greedy, b'a'),
+        (P2, "01", Star::Greedy, b'a'),
+        (P3, "0001", Star::Greedy, b'b'),
+        (LAZY_STAR, "1", Star::Lazy, b'7'),
+        (lazy::Z2, "10", Star::Lazy, b'a'),
+        (lazy::Z3, "11", Star::Lazy, b'a'),
+        (lazy::Z13, "1100", Star::Lazy, b'a'),
     ]);
     let count = *rng.pick(&[3_599, 3_600, 3_601, 3_602]);
     let mut tape = vec![letter; count];
@@ -215,7 +283,7 @@ fn long_case(rng: &mut Prng) -> Case {
         .bytes()
         .map(|bit| bit == b'1')
         .collect();
-    bits.push(true);
+    bits.push(star.stop_bit());
     finished(rng, text.into(), tape, Code::of_bits(&bits))
 }
 
@@ -252,7 +320,7 @@ fn finished(rng: &mut Prng, text: Vec<u8>, tape: Vec<u8>, code: Code) -> Case {
     let (mut parse_bytes, mut letters, mut bytes) = (0, 0, 0);
     if let Ok(table) = load(&case.text) {
         nodes = table.count as usize;
-        let needed = |tape: &[u8]| match greedy_reading(&table, tape) {
+        let needed = |tape: &[u8]| match preferred_reading(&table, tape) {
             Some(reading) if tape.len() <= 3_600 => encode(&table, &reading).len().div_ceil(8),
             _ => 0,
         };

@@ -4,7 +4,7 @@ use crate::case::Case;
 use wumbyra_reference::code::{decode, encode, pack, unpack};
 use wumbyra_reference::load::load;
 use wumbyra_reference::patterns::text_of;
-use wumbyra_reference::table::{Node, Table};
+use wumbyra_reference::table::{Kind, Node, Star, Table};
 use wumbyra_reference::value::Value;
 
 /// Calls of the test; a case that shrinks on is left as it is then.
@@ -104,7 +104,7 @@ fn shorter(list: &[u8]) -> Vec<Vec<u8>> {
 }
 
 /// A good pattern with a node replaced by one of its parts or by nothing, and a whole code cut down with it or left as it is;
-/// a code with fewer rounds; of a text that does not load, fewer bytes.
+/// a code with fewer rounds; a pattern without lazy stars; of a text that does not load, fewer bytes.
 fn smaller_patterns(case: &Case) -> Vec<(Vec<u8>, Option<Vec<bool>>)> {
     let Ok(table) = load(&case.text) else {
         return shorter(&case.text)
@@ -143,7 +143,33 @@ fn smaller_patterns(case: &Case) -> Vec<(Vec<u8>, Option<Vec<bool>>)> {
         let fewer = encode(&table, &without_round(value, &mut (round as i64)));
         found.push((case.text.clone(), Some(fewer)));
     }
+    let greedy = with_greedy_stars(&table);
+    if greedy != table {
+        let bits = value.map(|value| encode(&greedy, &as_greedy(&value)));
+        found.push((text_of(&greedy), bits));
+    }
     found
+}
+
+/// Each `Z` made a `K`: a fault that needs no `Z` is shown without one.
+fn with_greedy_stars(table: &Table) -> Table {
+    let mut greedy = table.clone();
+    for node in &mut greedy.nodes {
+        if node.kind == Kind::LAZY_STAR {
+            node.kind = Kind::GREEDY_STAR;
+        }
+    }
+    greedy
+}
+
+fn as_greedy(value: &Value) -> Value {
+    match value {
+        Value::Nothing | Value::Letter(_) => value.clone(),
+        Value::Pair(pair) => Value::pair(as_greedy(&pair.0), as_greedy(&pair.1)),
+        Value::Left(side) => Value::Left(Box::new(as_greedy(side))),
+        Value::Right(side) => Value::Right(Box::new(as_greedy(side))),
+        Value::Rounds(_, list) => Value::Rounds(Star::Greedy, list.iter().map(as_greedy).collect()),
+    }
 }
 
 /// What a value becomes where the node `target` gives way to its part `to`, or to nothing; none if it went another way there.
@@ -163,7 +189,7 @@ fn cut(
             (Some(_), Value::Pair(pair)) => Some(pair.1.clone()),
             (Some(to), Value::Left(side)) if to == node.x => Some((**side).clone()),
             (Some(to), Value::Right(side)) if to == node.y => Some((**side).clone()),
-            (Some(_), Value::Rounds(rounds)) if rounds.len() == 1 => Some(rounds[0].clone()),
+            (Some(_), Value::Rounds(_, rounds)) if rounds.len() == 1 => Some(rounds[0].clone()),
             _ => None,
         };
     }
@@ -172,10 +198,10 @@ fn cut(
         Value::Pair(pair) => Some(Value::pair(part(node.x, &pair.0)?, part(node.y, &pair.1)?)),
         Value::Left(side) => Some(Value::Left(Box::new(part(node.x, side)?))),
         Value::Right(side) => Some(Value::Right(Box::new(part(node.y, side)?))),
-        Value::Rounds(rounds) => {
+        Value::Rounds(star, rounds) => {
             let rounds: Option<Vec<Value>> =
                 rounds.iter().map(|round| part(node.x, round)).collect();
-            Some(Value::Rounds(rounds?))
+            Some(Value::Rounds(*star, rounds?))
         }
     }
 }
@@ -185,7 +211,7 @@ fn rounds(value: &Value) -> usize {
         Value::Nothing | Value::Letter(_) => 0,
         Value::Pair(pair) => rounds(&pair.0) + rounds(&pair.1),
         Value::Left(side) | Value::Right(side) => rounds(side),
-        Value::Rounds(list) => list.iter().map(|round| 1 + rounds(round)).sum(),
+        Value::Rounds(_, list) => list.iter().map(|round| 1 + rounds(round)).sum(),
     }
 }
 
@@ -199,7 +225,7 @@ fn without_round(value: &Value, number: &mut i64) -> Value {
         }
         Value::Left(side) => Value::Left(Box::new(without_round(side, number))),
         Value::Right(side) => Value::Right(Box::new(without_round(side, number))),
-        Value::Rounds(list) => {
+        Value::Rounds(star, list) => {
             let mut kept = Vec::new();
             for round in list {
                 *number -= 1;
@@ -207,7 +233,7 @@ fn without_round(value: &Value, number: &mut i64) -> Value {
                     kept.push(without_round(round, number));
                 }
             }
-            Value::Rounds(kept)
+            Value::Rounds(*star, kept)
         }
     }
 }
@@ -248,7 +274,6 @@ mod tests {
     use super::*;
     use crate::case::random_case;
     use wumbyra_reference::prng::Prng;
-    use wumbyra_reference::table::Kind;
     use wumbyra_reference::value::has_empty_round;
 
     /// A fault in codes with an empty round comes down to one star and one round.
@@ -275,12 +300,46 @@ mod tests {
         }
     }
 
+    /// A fault in codes in which a lazy star goes on keeps its lazy star.
+    #[test]
+    fn a_lazy_star_is_kept_where_it_is_needed() {
+        let fails = |case: &Case| {
+            let value = load(&case.text).ok().and_then(|table| {
+                let bits = unpack(&case.code, u64::from(case.count))?;
+                decode(&table, &bits)
+            });
+            value.is_some_and(|value| goes_on(&value))
+        };
+        let mut rng = Prng::new(7);
+        let mut seen = 0;
+        while seen < 20 {
+            let case = random_case(&mut rng);
+            if case.code.len() < 100 && fails(&case) {
+                seen += 1;
+                let small = shrink(&case, &fails);
+                assert_eq!(small.text, b"0\tE\t-\n1\tZ\t-\t0\n");
+                assert_eq!((&small.code[..], small.count), (&[0x80][..], 2));
+            }
+        }
+    }
+
+    fn goes_on(value: &Value) -> bool {
+        match value {
+            Value::Nothing | Value::Letter(_) => false,
+            Value::Pair(pair) => goes_on(&pair.0) || goes_on(&pair.1),
+            Value::Left(side) | Value::Right(side) => goes_on(side),
+            Value::Rounds(star, list) => {
+                *star == Star::Lazy && !list.is_empty() || list.iter().any(goes_on)
+            }
+        }
+    }
+
     /// A fault that needs a star, two letters on the tape and a code becomes a case with these alone.
     #[test]
     fn a_fault_is_made_small() {
         let fails = |case: &Case| {
-            let star = load(&case.text)
-                .is_ok_and(|table| table.lines().iter().any(|node| node.kind == Kind::Rounds));
+            let is_star = |node: &Node| matches!(node.kind, Kind::Rounds(_));
+            let star = load(&case.text).is_ok_and(|table| table.lines().iter().any(is_star));
             star && case.tape.len() >= 2 && case.count >= 1
         };
         let mut rng = Prng::new(3);

@@ -35,12 +35,14 @@ fn parents(table: &Table) -> Vec<Option<usize>> {
 
 /// "A node's follower is: for the root, the end; for the first of `S`, the
 /// second; for the child of `K`, that `K`; otherwise its parent's follower."
+/// `Z` follows the rules for `K` here and in all that is below, so the marks
+/// are those of the pattern with each `Z` made a `K`.
 fn follower(table: &Table, parents: &[Option<usize>], place: usize) -> Option<usize> {
     let parent = parents[place]?;
     let node = table.node(parent);
     match node.kind {
         Kind::Sequence if node.x == place as u64 => Some(node.y as usize),
-        Kind::Rounds => Some(parent),
+        Kind::Rounds(_) => Some(parent),
         _ => follower(table, parents, parent),
     }
 }
@@ -53,7 +55,7 @@ fn is_above(parents: &[Option<usize>], place: usize, above: usize) -> bool {
 }
 
 /// A node's follower (none is the end), and whether it is above the node in
-/// the tree. 001 calls P the nodes for which it is; it is a `K` then.
+/// the tree. 001 calls P the nodes for which it is; it is a star then.
 #[derive(Clone, Copy, PartialEq, Eq, Debug)]
 pub struct Follower {
     pub place: Option<usize>,
@@ -113,12 +115,12 @@ impl Automaton {
                         automaton.silent.push((from, to(node.y, flag)));
                     }
                     // "`K` enters its child with flag 0."
-                    Kind::Rounds => automaton.silent.push((from, to(node.x, false))),
+                    Kind::Rounds(_) => automaton.silent.push((from, to(node.x, false))),
                     Kind::Nothing => {}
                 }
                 // "`E` and `K` step to the follower with the same flag, but
                 // where the follower is a `K` above them, only with flag 1."
-                let steps_on = matches!(node.kind, Kind::Nothing | Kind::Rounds);
+                let steps_on = matches!(node.kind, Kind::Nothing | Kind::Rounds(_));
                 if steps_on && (flag || !follower.above) {
                     automaton.silent.push((
                         from,

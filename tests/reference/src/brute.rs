@@ -4,7 +4,7 @@
 //! 001, proposition 2, which hold no empty round from the start.
 
 use crate::table::{Kind, Table};
-use crate::value::{greedy, has_empty_round, spell, Value};
+use crate::value::{has_empty_round, preferred, spell, Value};
 
 /// The enumeration met more values than the caller allowed.
 #[derive(Debug, PartialEq, Eq)]
@@ -54,13 +54,14 @@ pub fn all_values(
                     .map(|side| Value::Right(Box::new(side))),
             );
         }
-        Kind::Rounds => {
+        Kind::Rounds(star) => {
             let choices = of(node.x)?;
             let mut longest = vec![vec![]];
-            found.push(Value::Rounds(vec![]));
+            found.push(Value::Rounds(star, vec![]));
             for _ in 0..rounds {
                 longest = with_one_more(&longest, &choices, letters, limit)?;
-                found.extend(longest.iter().cloned().map(Value::Rounds));
+                let lists = longest.iter().cloned();
+                found.extend(lists.map(|list| Value::Rounds(star, list)));
                 within(&found, limit)?;
             }
         }
@@ -97,10 +98,10 @@ fn within<T>(found: &[T], limit: usize) -> Result<(), TooMany> {
     Ok(())
 }
 
-/// The greedy reading straight from its definition: "the greatest among
+/// The preferred reading straight from its definition: "the greatest among
 /// those of the tape without empty rounds". Without empty rounds a list has
 /// at most as many rounds as the tape has letters.
-pub fn greedy_by_definition(
+pub fn preferred_by_definition(
     table: &Table,
     tape: &[u8],
     limit: usize,
@@ -123,7 +124,7 @@ pub fn greedy_by_definition(
 
 /// The greatest of some values of one type.
 fn greatest(values: impl Iterator<Item = Value>) -> Option<Value> {
-    values.max_by(greedy)
+    values.max_by(preferred)
 }
 
 /// All non-problematic values of a node that spell a first piece of `rest`,
@@ -168,22 +169,22 @@ fn matches(
                 found.push((Value::Right(Box::new(side)), length));
             }
         }
-        Kind::Rounds => {
+        Kind::Rounds(star) => {
             for (round, length) in of(node.x, rest)? {
                 // flat(v) is not []: the round is not empty.
                 if length == 0 {
                     continue;
                 }
                 for (value, more) in matches(table, place, &rest[length..], limit)? {
-                    let Value::Rounds(tail) = value else {
-                        unreachable!("a value of K is a list");
+                    let Value::Rounds(_, tail) = value else {
+                        unreachable!("a value of K or Z is a list");
                     };
                     let list = [vec![round.clone()], tail].concat();
-                    found.push((Value::Rounds(list), length + more));
+                    found.push((Value::Rounds(star, list), length + more));
                     within(&found, limit)?;
                 }
             }
-            found.push((Value::Rounds(vec![]), 0));
+            found.push((Value::Rounds(star, vec![]), 0));
         }
     }
     within(&found, limit)?;
@@ -192,7 +193,7 @@ fn matches(
 
 /// The naive algorithm of 001, section 4: all prefix matches, of those the
 /// whole ones, of those the greatest.
-pub fn greedy_by_matches(
+pub fn preferred_by_matches(
     table: &Table,
     tape: &[u8],
     limit: usize,

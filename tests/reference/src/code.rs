@@ -38,13 +38,14 @@ fn write(table: &Table, place: usize, value: &Value, bits: &mut Vec<bool>) {
             bits.push(true);
             write(table, y, side, bits);
         }
-        // "`K` writes 0 and a round, again and again, then 1."
-        (Kind::Rounds, Value::Rounds(rounds)) => {
+        // "`K` writes 0 and a round, again and again, then 1." `Z` "writes 0
+        // to stop and 1 before a round".
+        (Kind::Rounds(star), Value::Rounds(same, rounds)) if star == *same => {
             for round in rounds {
-                bits.push(false);
+                bits.push(!star.stop_bit());
                 write(table, x, round, bits);
             }
-            bits.push(true);
+            bits.push(star.stop_bit());
         }
         _ => panic!("not a value of this node"),
     }
@@ -90,13 +91,13 @@ fn read<'a>(table: &Table, place: usize, bits: &'a [bool]) -> Option<(Value, &'a
                 Some((Value::Left(Box::new(side)), rest))
             }
         }
-        Kind::Rounds => {
+        Kind::Rounds(star) => {
             let mut rounds = Vec::new();
             let mut left = bits;
             loop {
-                let (stop, rest) = left.split_first()?;
-                if *stop {
-                    return Some((Value::Rounds(rounds), rest));
+                let (bit, rest) = left.split_first()?;
+                if *bit == star.stop_bit() {
+                    return Some((Value::Rounds(star, rounds), rest));
                 }
                 let (round, rest) = read(table, x, rest)?;
                 rounds.push(round);

@@ -77,7 +77,8 @@ fn node_of_line(line: usize, bytes: &[u8]) -> Option<Node> {
             place(left)?,
             place(right)?,
         )),
-        (b"K", [child]) => Some(Node::new(Kind::Rounds, account, place(child)?, 0)),
+        (b"K", [child]) => Some(Node::new(Kind::GREEDY_STAR, account, place(child)?, 0)),
+        (b"Z", [child]) => Some(Node::new(Kind::LAZY_STAR, account, place(child)?, 0)),
         _ => None,
     }
 }

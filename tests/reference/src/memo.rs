@@ -1,10 +1,10 @@
-//! The greedy reading of a tape of any allowed length, by memoised sets of
+//! The preferred reading of a tape of any allowed length, by memoised sets of
 //! positions. It knows no automaton and no flags: for each node and start
 //! it keeps the set of positions where a value of the node can end, and
 //! chooses with a set of allowed ends in hand.
 
 use crate::positions::Positions;
-use crate::table::{Kind, Table};
+use crate::table::{Kind, Star, Table};
 use crate::value::Value;
 
 /// For each node and each start, where its values can end.
@@ -58,10 +58,12 @@ impl<'a> Ends<'a> {
                 set.join(self.of(node.x, start));
                 set.join(self.of(node.y, start));
             }
-            Kind::Rounds => {
+            Kind::Rounds(_) => {
                 set.insert(start);
                 for next in self.of(node.x, start).iter() {
-                    if next > start {
+                    // What rounds reach from a position that rounds reach is
+                    // in the set already.
+                    if next > start && !set.contains(next) {
                         set.join(&falling[length - next]);
                     }
                 }
@@ -117,17 +119,23 @@ impl<'a> Ends<'a> {
                     (Value::Right(Box::new(side)), end)
                 }
             }
-            Kind::Rounds => {
+            Kind::Rounds(star) => {
                 let mut rounds = Vec::new();
                 let mut position = start;
                 loop {
+                    // Stopping before another round, if here is an allowed
+                    // end. A round that may not be empty allows no end where
+                    // it starts, so a `Z` in it cannot stop there.
+                    if star == Star::Lazy && allowed.contains(position) {
+                        return (Value::Rounds(star, rounds), position);
+                    }
                     // Another round before stopping, if it spells something
                     // and further rounds can still reach an allowed end.
                     let mut next = self.of(node.x, position).clone();
                     next.remove(position);
                     let handed = self.handing_over(&next, place as u64, allowed);
                     if handed.is_empty() {
-                        return (Value::Rounds(rounds), position);
+                        return (Value::Rounds(star, rounds), position);
                     }
                     let (round, end) = self.greatest(node.x as usize, position, &handed);
                     rounds.push(round);
@@ -141,7 +149,7 @@ impl<'a> Ends<'a> {
     fn handing_over(&self, middles: &Positions, then: u64, allowed: &Positions) -> Positions {
         let mut handed = Positions::none(self.tape.len());
         for middle in middles.iter() {
-            if self.of(then, middle).meets(allowed) {
+            if self.of(then, middle).meets_from(middle, allowed) {
                 handed.insert(middle);
             }
         }
@@ -149,8 +157,8 @@ impl<'a> Ends<'a> {
     }
 }
 
-/// The greedy reading of the whole tape, if any reading spells it.
-pub fn greedy_reading(table: &Table, tape: &[u8]) -> Option<Value> {
+/// The preferred reading of the whole tape, if any reading spells it.
+pub fn preferred_reading(table: &Table, tape: &[u8]) -> Option<Value> {
     let ends = Ends::new(table, tape);
     let mut whole = Positions::none(tape.len());
     whole.insert(tape.len());

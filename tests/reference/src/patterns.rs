@@ -17,7 +17,7 @@ pub fn text_of(table: &Table) -> Vec<u8> {
             Kind::Nothing => {}
             Kind::Letter => text.extend_from_slice(&[9, node.x as u8]),
             Kind::Range => text.extend_from_slice(&[9, node.x as u8, 9, node.y as u8]),
-            Kind::Sequence | Kind::Either | Kind::Rounds => {
+            Kind::Sequence | Kind::Either | Kind::Rounds(_) => {
                 for part in node.parts() {
                     text.extend_from_slice(format!("\t{part}").as_bytes());
                 }
@@ -68,7 +68,7 @@ pub fn random(rng: &mut Prng, count: usize, taste: &Taste) -> Table {
         }
         for &kind in taste.inner {
             let fits = match kind {
-                Kind::Rounds => !unnamed.is_empty() && unnamed.len() <= left,
+                Kind::Rounds(_) => !unnamed.is_empty() && unnamed.len() <= left,
                 _ => unnamed.len() >= 2,
             };
             if fits {
@@ -89,7 +89,7 @@ pub fn random(rng: &mut Prng, count: usize, taste: &Taste) -> Table {
                 (one.min(other), one.max(other))
             }
             Kind::Sequence | Kind::Either => (take(rng, &mut unnamed), take(rng, &mut unnamed)),
-            Kind::Rounds => (take(rng, &mut unnamed), 0),
+            Kind::Rounds(_) => (take(rng, &mut unnamed), 0),
         };
         nodes.push(Node::new(kind, account, x, y));
         unnamed.push(line as u64);

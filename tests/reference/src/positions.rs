@@ -21,14 +21,25 @@ impl Positions {
         self.words[position / 64] &= !(1 << (position % 64));
     }
 
+    pub fn contains(&self, position: usize) -> bool {
+        self.words[position / 64] >> (position % 64) & 1 == 1
+    }
+
     pub fn is_empty(&self) -> bool {
         self.words.iter().all(|&word| word == 0)
     }
 
     pub fn meets(&self, other: &Positions) -> bool {
+        self.meets_from(0, other)
+    }
+
+    /// The same for a set that has no position before `first`; the words
+    /// before that one need not be looked at.
+    pub fn meets_from(&self, first: usize, other: &Positions) -> bool {
         self.words
             .iter()
             .zip(&other.words)
+            .skip(first / 64)
             .any(|(one, other)| one & other != 0)
     }
 

@@ -29,6 +29,29 @@ pub fn number_and_value(answer: &Result<u64, Refusal>) -> (u64, u64) {
     }
 }
 
+/// The two sorts of rounds. They differ in what is preferred and in the bits,
+/// and in nothing else: followers, flags, empty rounds, visits and the count a
+/// are the same.
+#[derive(Clone, Copy, PartialEq, Eq, Debug)]
+pub enum Star {
+    /// `K`: another round is preferred to stopping.
+    Greedy,
+    /// `Z`: stopping is preferred to another round.
+    Lazy,
+}
+
+impl Star {
+    /// The bit that ends the rounds; the other one stands before each round.
+    /// "`K` writes 0 and a round, again and again, then 1"; `Z` "writes 0 to
+    /// stop and 1 before a round".
+    pub fn stop_bit(self) -> bool {
+        match self {
+            Star::Greedy => true,
+            Star::Lazy => false,
+        }
+    }
+}
+
 #[derive(Clone, Copy, PartialEq, Eq, Debug)]
 pub enum Kind {
     /// `E`: nothing
@@ -41,11 +64,14 @@ pub enum Kind {
     Sequence,
     /// `A`: two places, the left preferred
     Either,
-    /// `K`: one place, any number of rounds
-    Rounds,
+    /// `K` or `Z`: one place, any number of rounds
+    Rounds(Star),
 }
 
 impl Kind {
+    pub const GREEDY_STAR: Kind = Kind::Rounds(Star::Greedy);
+    pub const LAZY_STAR: Kind = Kind::Rounds(Star::Lazy);
+
     pub fn letter(self) -> char {
         match self {
             Kind::Nothing => 'E',
@@ -53,7 +79,8 @@ impl Kind {
             Kind::Range => 'R',
             Kind::Sequence => 'S',
             Kind::Either => 'A',
-            Kind::Rounds => 'K',
+            Kind::Rounds(Star::Greedy) => 'K',
+            Kind::Rounds(Star::Lazy) => 'Z',
         }
     }
 }
@@ -88,7 +115,7 @@ impl Node {
         match self.kind {
             Kind::Nothing | Kind::Letter | Kind::Range => vec![],
             Kind::Sequence | Kind::Either => vec![self.x, self.y],
-            Kind::Rounds => vec![self.x],
+            Kind::Rounds(_) => vec![self.x],
         }
     }
 }
@@ -163,7 +190,7 @@ fn numbers_are_good(node: &Node) -> bool {
         Kind::Letter => is_letter(node.x),
         Kind::Range => is_letter(node.x) && is_letter(node.y) && node.x <= node.y,
         // Places are judged with the tree.
-        Kind::Nothing | Kind::Sequence | Kind::Either | Kind::Rounds => true,
+        Kind::Nothing | Kind::Sequence | Kind::Either | Kind::Rounds(_) => true,
     };
     kind_is_good && node.account <= MOST_ACCOUNT
 }

@@ -1,13 +1,17 @@
 //! The second pass of 001, section 5.2 (`build'`), over the marks of the
-//! first. It checks the marks against the readings found without them.
+//! first, with the case that section 6 adds for a lazy star: it "simply tries
+//! to return [] when possible". It checks the marks against the readings
+//! found without them.
 
-use crate::table::{Kind, Table};
+use crate::automaton::{followers, Follower};
+use crate::table::{Kind, Star, Table};
 use crate::value::Value;
 
 struct Build<'a> {
     table: &'a Table,
     tape: &'a [u8],
     marks: &'a [u64],
+    followers: Vec<Follower>,
     /// What is left of the tape begins here, and the flag b; both change
     /// when a letter is read, as 001 allows.
     position: usize,
@@ -21,6 +25,7 @@ pub fn build(table: &Table, tape: &[u8], marks: &[u64]) -> Option<Value> {
         table,
         tape,
         marks,
+        followers: followers(table),
         position: 0,
         flag: true,
     };
@@ -31,6 +36,27 @@ pub fn build(table: &Table, tape: &[u8], marks: &[u64]) -> Option<Value> {
 impl Build<'_> {
     fn open(&self, place: usize, flag: bool) -> bool {
         self.marks[2 * self.position + usize::from(flag)] >> place & 1 == 1
+    }
+
+    /// Whether the rest can be read after this star has stopped here. The
+    /// star's own mark does not tell that: it is there too where only another
+    /// round goes on.
+    fn may_stop(&self, place: usize) -> bool {
+        let follower = self.followers[place];
+        match follower.place {
+            // "The end accepts with flag 1", and no letter is left.
+            None => self.flag && self.position == self.tape.len(),
+            // "where the follower is a `K` above them, only with flag 1"
+            Some(star) if follower.above => self.flag && self.open(star, true),
+            Some(next) => self.open(next, self.flag),
+        }
+    }
+
+    fn goes_on(&self, star: Star, place: usize, child: usize) -> bool {
+        match star {
+            Star::Greedy => self.open(child, false),
+            Star::Lazy => !self.may_stop(place),
+        }
     }
 
     fn node(&mut self, place: usize) -> Value {
@@ -56,13 +82,13 @@ impl Build<'_> {
                     Value::Right(Box::new(self.node(y)))
                 }
             }
-            Kind::Rounds => {
+            Kind::Rounds(star) => {
                 let mut rounds = Vec::new();
-                while self.open(x, false) {
+                while self.goes_on(star, place, x) {
                     self.flag = false;
                     rounds.push(self.node(x));
                 }
-                Value::Rounds(rounds)
+                Value::Rounds(star, rounds)
             }
         }
     }

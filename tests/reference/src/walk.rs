@@ -7,7 +7,7 @@ use crate::table::{Kind, Table};
 /// What the walk meets, in the order in which the code goes.
 #[derive(Clone, Copy, PartialEq, Eq, Debug)]
 pub enum Step {
-    /// The code enters this node from above; a `K` only once for all rounds.
+    /// The code enters this node from above; a star only once for all rounds.
     Enter(usize),
     /// A leaf reads this letter.
     Letter(u8),
@@ -81,8 +81,8 @@ impl Walk<'_> {
                 let side = if self.bit()? { y } else { x };
                 self.node(side)?;
             }
-            Kind::Rounds => {
-                while !self.bit()? {
+            Kind::Rounds(star) => {
+                while self.bit()? != star.stop_bit() {
                     self.node(x)?;
                 }
             }

@@ -16,10 +16,12 @@ fn answers_of_settling_set_by_hand() {
     }
 }
 
+/// Program `vectors` holds 20,480 bytes of a line.
 #[test]
 fn lines_are_short() {
     for case in codes::all() {
-        assert!(case.line().len() <= 7_400, "{}", case.name);
+        assert!(case.line().len() <= 20_000, "{}", case.name);
+        assert!(case.code.bytes.len() <= 4_096, "{}", case.name);
     }
 }
 

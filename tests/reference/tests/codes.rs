@@ -1,18 +1,18 @@
-//! Codes: that they fix their readings, that their order is the greedy
+//! Codes: that they fix their readings, that their order is the preferred
 //! order backwards, that none begins another, and what is no code.
 
 mod common;
 
-use common::{small, table, tapes, written, METER, NULLABLE};
+use common::{small, table, tapes, written, METER, MIXED};
 use std::cmp::Ordering;
 use wumbyra_reference::brute::{all_readings, all_values};
 use wumbyra_reference::code::{decode, encode, pack, unpack};
-use wumbyra_reference::memo::greedy_reading;
+use wumbyra_reference::memo::preferred_reading;
 use wumbyra_reference::patterns::random;
 use wumbyra_reference::prng::Prng;
 use wumbyra_reference::services::spelling::letters_of;
 use wumbyra_reference::table::{Kind, Table};
-use wumbyra_reference::value::{greedy, spell, Value};
+use wumbyra_reference::value::{preferred, spell, Value};
 
 /// The first bit at which both codes have a bit and differ.
 fn first_difference(one: &[bool], other: &[bool]) -> Option<usize> {
@@ -35,7 +35,7 @@ fn check_pairs(table: &Table, values: &[Value]) {
                 Some(_) => Ordering::Greater,
             };
             assert_eq!(
-                greedy(value, other),
+                preferred(value, other),
                 order,
                 "{} {}",
                 written(code),
@@ -75,6 +75,28 @@ fn values_of_all_tapes_with_empty_rounds_are_ordered_as_their_codes() {
     assert!(many > 100, "{many}");
 }
 
+/// "The settled code is still the earliest without an empty round."
+#[test]
+fn the_preferred_reading_has_the_earliest_code_without_an_empty_round() {
+    let mut rng = Prng::new(14);
+    let mut many = 0;
+    for _ in 0..800 {
+        let table = small(&mut rng, 14);
+        for tape in tapes(b"ab", 4) {
+            let Ok(readings) = all_readings(&table, &tape, 300) else {
+                continue;
+            };
+            // No code begins another, so the order of lists is that of codes.
+            let codes = readings.iter().map(|reading| encode(&table, reading));
+            let found = preferred_reading(&table, &tape);
+            assert_eq!(codes.min(), found.map(|reading| encode(&table, &reading)));
+            many += usize::from(readings.len() > 1);
+        }
+    }
+    assert!(many > 1_000, "{many}");
+}
+
+/// a counts `A`, `K` and `Z` nodes alike.
 #[test]
 fn codes_without_empty_rounds_keep_the_bound() {
     let mut rng = Prng::new(6);
@@ -82,10 +104,10 @@ fn codes_without_empty_rounds_keep_the_bound() {
         let table = small(&mut rng, 20);
         let kinds = table.lines().iter().map(|node| node.kind);
         let a = kinds
-            .filter(|kind| matches!(kind, Kind::Either | Kind::Rounds))
+            .filter(|kind| matches!(kind, Kind::Either | Kind::Rounds(_)))
             .count();
         for tape in tapes(b"ab", 4) {
-            if let Some(reading) = greedy_reading(&table, &tape) {
+            if let Some(reading) = preferred_reading(&table, &tape) {
                 let n = tape.len();
                 let bound = if n == 0 { a } else { 2 * a * n + 8 * n };
                 assert!(encode(&table, &reading).len() <= bound);
@@ -100,7 +122,7 @@ fn walking_and_decoding_agree_on_any_bits() {
     let mut whole = 0;
     for round in 0..400 {
         let count = 1 + rng.below(9);
-        let taste = if round % 2 == 0 { &METER } else { &NULLABLE };
+        let taste = if round % 2 == 0 { &METER } else { &MIXED };
         let table = random(&mut rng, count, taste);
         for length in 0..=9 {
             for number in 0..1_u32 << length {
@@ -152,9 +174,14 @@ fn range_letters_outside_their_range_are_no_code() {
 
 #[test]
 fn the_longest_code_is_walked_to_its_end() {
-    let table = table("0\tE\t-\n1\tK\t-\t0\n");
+    let star = table("0\tE\t-\n1\tK\t-\t0\n");
     let mut code = vec![0; 65_536];
-    assert!(letters_of(&table, &code, 524_288).is_err());
+    assert!(letters_of(&star, &code, 524_288).is_err());
     code[65_535] = 1;
-    assert_eq!(letters_of(&table, &code, 524_288), Ok(vec![]));
+    assert_eq!(letters_of(&star, &code, 524_288), Ok(vec![]));
+    let lazy = table("0\tE\t-\n1\tZ\t-\t0\n");
+    let mut code = vec![255; 65_536];
+    assert!(letters_of(&lazy, &code, 524_288).is_err());
+    code[65_535] = 254;
+    assert_eq!(letters_of(&lazy, &code, 524_288), Ok(vec![]));
 }

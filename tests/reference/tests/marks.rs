@@ -5,9 +5,10 @@ mod common;
 
 use common::{small, table, tapes};
 use wumbyra_reference::automaton::{followers, marks, Automaton, State};
-use wumbyra_reference::memo::{greedy_reading, Ends};
+use wumbyra_reference::memo::{preferred_reading, Ends};
 use wumbyra_reference::patterns::P3;
 use wumbyra_reference::prng::Prng;
+use wumbyra_reference::table::Kind;
 
 /// Whether the letters lead from this state to the end with flag 1: every
 /// state that can be reached is tried, letter by letter.
@@ -72,7 +73,10 @@ fn the_root_with_flag_1_is_marked_where_a_reading_spells_the_rest() {
             let words = marks(&table, &tape);
             for position in 0..=tape.len() {
                 let marked = words[2 * position + 1] >> table.root() & 1 == 1;
-                assert_eq!(marked, greedy_reading(&table, &tape[position..]).is_some());
+                assert_eq!(
+                    marked,
+                    preferred_reading(&table, &tape[position..]).is_some()
+                );
             }
             // "whenever q0 is in a subset, then q1 is also in a subset"
             for pair in words.chunks(2) {
@@ -84,7 +88,7 @@ fn the_root_with_flag_1_is_marked_where_a_reading_spells_the_rest() {
 
 /// Lemma 2 of 001: with flag 1 a node's language is its own before that of
 /// its follower with flag 1; with flag 0 the node must spell something, or
-/// its follower with flag 0 takes over, unless that is a `K` above.
+/// its follower with flag 0 takes over, unless that is a star above.
 #[test]
 fn the_languages_are_those_of_lemma_2() {
     let mut rng = Prng::new(10);
@@ -114,6 +118,28 @@ fn the_languages_are_those_of_lemma_2() {
             }
         }
     }
+}
+
+/// `Z` "follows every rule for `K` on followers, flags": the marks are those
+/// of the pattern with each `Z` made a `K`.
+#[test]
+fn marks_do_not_tell_the_stars_apart() {
+    let mut rng = Prng::new(15);
+    let mut told = 0;
+    for _ in 0..600 {
+        let table = small(&mut rng, 24);
+        let mut greedy = table.clone();
+        for node in &mut greedy.nodes {
+            if node.kind == Kind::LAZY_STAR {
+                node.kind = Kind::GREEDY_STAR;
+            }
+        }
+        for tape in tapes(b"ab", 4) {
+            assert_eq!(marks(&table, &tape), marks(&greedy, &tape));
+        }
+        told += usize::from(table != greedy);
+    }
+    assert!(told > 200, "{told}");
 }
 
 /// 001 numbers (c1* x c2*)*: 0 the outer star, 1 the pair, 2 and 3 the inner

@@ -1,13 +1,13 @@
-//! The greedy reading found in four ways: from its definition, by the sets
+//! The preferred reading found in four ways: from its definition, by the sets
 //! of 001 (proposition 2), by memoised sets of ends, and by the two passes
-//! of section 5.
+//! of section 5. Most of the patterns mix `K` and `Z`.
 
 mod common;
 
-use common::{sample, small, tapes, METER, NULLABLE};
+use common::{sample, small, tapes, METER, MIXED};
 use wumbyra_reference::automaton::marks;
-use wumbyra_reference::brute::{greedy_by_definition, greedy_by_matches};
-use wumbyra_reference::memo::greedy_reading;
+use wumbyra_reference::brute::{preferred_by_definition, preferred_by_matches};
+use wumbyra_reference::memo::preferred_reading;
 use wumbyra_reference::patterns::random;
 use wumbyra_reference::prng::Prng;
 use wumbyra_reference::table::{Kind, Node, Table};
@@ -21,16 +21,16 @@ fn by_definition_and_by_sets_agree_on_very_small_patterns() {
     for _ in 0..1500 {
         let table = small(&mut rng, 8);
         for tape in tapes(b"ab", 3) {
-            let Ok(by_definition) = greedy_by_definition(&table, &tape, 1000) else {
+            let Ok(by_definition) = preferred_by_definition(&table, &tape, 1000) else {
                 continue;
             };
             assert_eq!(
                 Ok(&by_definition),
-                greedy_by_matches(&table, &tape, 100_000).as_ref()
+                preferred_by_matches(&table, &tape, 100_000).as_ref()
             );
             assert_eq!(
                 by_definition,
-                greedy_reading(&table, &tape),
+                preferred_reading(&table, &tape),
                 "{table:?} {tape:?}"
             );
             compared += 1;
@@ -47,7 +47,7 @@ fn by_sets_memoised_and_in_two_passes_agree_on_small_patterns() {
     for _ in 0..1000 {
         let table = small(&mut rng, 16);
         for tape in tapes(b"ab", 5) {
-            let memoised = greedy_reading(&table, &tape);
+            let memoised = preferred_reading(&table, &tape);
             assert_eq!(
                 memoised,
                 build(&table, &tape, &marks(&table, &tape)),
@@ -58,7 +58,7 @@ fn by_sets_memoised_and_in_two_passes_agree_on_small_patterns() {
                 assert!(!has_empty_round(reading));
                 read += 1;
             }
-            if let Ok(by_sets) = greedy_by_matches(&table, &tape, 2000) {
+            if let Ok(by_sets) = preferred_by_matches(&table, &tape, 2000) {
                 assert_eq!(by_sets, memoised, "{table:?} {tape:?}");
                 compared += 1;
             }
@@ -76,7 +76,7 @@ fn memoised_and_in_two_passes_agree_on_large_patterns() {
         for _ in 0..10 {
             let length = rng.below(200);
             let tape: Vec<u8> = (0..length).map(|_| b'a' + rng.below(2) as u8).collect();
-            let memoised = greedy_reading(&table, &tape);
+            let memoised = preferred_reading(&table, &tape);
             assert_eq!(memoised, build(&table, &tape, &marks(&table, &tape)));
             read += usize::from(memoised.is_some());
         }
@@ -84,15 +84,16 @@ fn memoised_and_in_two_passes_agree_on_large_patterns() {
     assert!(read > 100, "{read}");
 }
 
-/// A `K` over a random pattern of 63 lines, and a tape of rounds of it as
+/// A star over a random pattern of 63 lines, and a tape of rounds of it as
 /// long as a tape may be, or nearly.
 #[test]
 fn memoised_and_in_two_passes_agree_on_the_longest_tapes() {
     let mut rng = Prng::new(13);
     for round in 0..10 {
-        let taste = if round % 2 == 0 { &NULLABLE } else { &METER };
+        let taste = if round % 2 == 0 { &MIXED } else { &METER };
         let inner = random(&mut rng, 63, taste);
-        let root = Node::new(Kind::Rounds, 0, 62, 0);
+        let star = [Kind::GREEDY_STAR, Kind::LAZY_STAR][round / 2 % 2];
+        let root = Node::new(star, 0, 62, 0);
         let table = Table::of_nodes(&[inner.lines(), &[root]].concat());
         let mut tape = Vec::new();
         for _ in 0..20_000 {
@@ -102,7 +103,7 @@ fn memoised_and_in_two_passes_agree_on_the_longest_tapes() {
                 tape.extend(piece);
             }
         }
-        let reading = greedy_reading(&table, &tape).expect("rounds of the pattern");
+        let reading = preferred_reading(&table, &tape).expect("rounds of the pattern");
         assert_eq!(spell(&reading), tape);
         assert!(!has_empty_round(&reading));
         assert_eq!(Some(reading), build(&table, &tape, &marks(&table, &tape)));

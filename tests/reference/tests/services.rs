@@ -6,7 +6,7 @@ mod common;
 use common::{bits, small, table, tapes, METER};
 use wumbyra_reference::automaton;
 use wumbyra_reference::code::{encode, pack};
-use wumbyra_reference::memo::greedy_reading;
+use wumbyra_reference::memo::preferred_reading;
 use wumbyra_reference::patterns::{random, LISTING, P1, P3, P4, P5};
 use wumbyra_reference::prng::Prng;
 use wumbyra_reference::services::reading::{open_counts, parse};
@@ -69,12 +69,16 @@ fn bad_tables() -> Vec<Table> {
         with(0, Node::new(Kind::Letter, 0, 32, 0)),
         with(0, Node::new(Kind::Letter, 0, 127, 0)),
         with(0, Node::new(Kind::Nothing, 10, 0, 0)),
-        with(5, Node::new(Kind::Rounds, 0, 5, 0)),
-        with(5, Node::new(Kind::Rounds, 0, 3, 0)),
-        with(5, Node::new(Kind::Rounds, 0, 64, 0)),
-        with(5, Node::new(Kind::Rounds, 0, u64::MAX, 0)),
+        with(5, Node::new(Kind::GREEDY_STAR, 0, 5, 0)),
+        with(5, Node::new(Kind::GREEDY_STAR, 0, 3, 0)),
+        with(5, Node::new(Kind::GREEDY_STAR, 0, 64, 0)),
+        with(5, Node::new(Kind::GREEDY_STAR, 0, u64::MAX, 0)),
+        with(5, Node::new(Kind::LAZY_STAR, 0, 5, 0)),
+        with(5, Node::new(Kind::LAZY_STAR, 0, 3, 0)),
+        with(5, Node::new(Kind::LAZY_STAR, 0, 64, 0)),
+        with(5, Node::new(Kind::LAZY_STAR, 10, 4, 0)),
         with(4, Node::new(Kind::Either, 0, 2, 2)),
-        with(4, Node::new(Kind::Rounds, 0, 2, 0)),
+        with(4, Node::new(Kind::GREEDY_STAR, 0, 2, 0)),
     ]
 }
 
@@ -103,7 +107,7 @@ fn every_service_refuses_a_bad_table_first() {
 #[test]
 fn cells_past_the_count_and_numbers_not_needed_are_not_looked_at() {
     let mut odd = table(P1);
-    odd.nodes[4] = Node::new(Kind::Rounds, 99, 99, 99);
+    odd.nodes[4] = Node::new(Kind::GREEDY_STAR, 99, 99, 99);
     odd.nodes[3].y = 99;
     odd.nodes[1].x = 99;
     odd.nodes[1].y = 99;
@@ -340,7 +344,7 @@ fn totals_add_up_to_the_digits_and_go_to_the_innermost_account() {
         let count = 1 + rng.below(14);
         let table = random(&mut rng, count, &METER);
         for tape in tapes(b"03W", 4) {
-            let Some(reading) = greedy_reading(&table, &tape) else {
+            let Some(reading) = preferred_reading(&table, &tape) else {
                 continue;
             };
             let bits = encode(&table, &reading);

@@ -41,8 +41,8 @@ fn listed(table: &Table, place: usize, value: &Value, at: u64, all: &mut Vec<(us
         }
         Value::Left(side) => listed(table, x, side, at, all),
         Value::Right(side) => listed(table, y, side, at, all),
-        Value::Rounds(rounds) => {
-            assert_eq!(node.kind, Kind::Rounds);
+        Value::Rounds(star, rounds) => {
+            assert_eq!(node.kind, Kind::Rounds(*star));
             let mut at = at;
             for round in rounds {
                 listed(table, x, round, at, all);

@@ -1,6 +1,8 @@
 //! The cases for loading: those set by hand, each with the answer read from
 //! the documents, then mutated good texts, good texts with
-//! changed trees, and random good patterns.
+//! changed trees, and random good patterns; behind them the same with kind
+//! `Z`. Other cases take every so many-th text that is refused, so new cases
+//! come last.
 
 mod by_hand;
 pub mod mutated;
@@ -20,6 +22,8 @@ pub fn all() -> Vec<Case> {
     cases.extend(mutated::mutations());
     cases.extend(mutated::changed_trees());
     cases.extend(mutated::good_patterns());
+    cases.extend(by_hand::lazy_cases());
+    cases.extend(mutated::mixed());
     cases
 }
 

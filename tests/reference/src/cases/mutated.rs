@@ -1,19 +1,40 @@
 //! Random cases with a fixed seed: good texts with a few bytes or lines
-//! changed, and good patterns of 1 to 64 nodes.
+//! changed, and good patterns of 1 to 64 nodes. First of patterns that have
+//! no `Z`, then of such as mix `K` and `Z`.
 
 use super::Case;
+use crate::lazy;
 use crate::patterns::{random, text_of, Taste, LISTING, P1, P2, P3, P4, P5};
 use crate::prng::Prng;
 use crate::table::Kind;
 
 /// Bytes that turn one field into another more often than any byte would.
 const LIKELY_BYTES: &[u8] = b"0123456789012345\t\n\t\nELRSAKe-ab +\r~!";
+/// The same where patterns may have `Z`.
+pub const LIKELY_MIXED_BYTES: &[u8] = b"0123456789012345\t\n\t\nELRSAKZZKez-ab +\r~!";
 
 const ANY_PATTERN: Taste = Taste {
     leaves: &[Kind::Nothing, Kind::Letter, Kind::Letter, Kind::Range],
-    inner: &[Kind::Sequence, Kind::Sequence, Kind::Either, Kind::Rounds],
+    inner: &[
+        Kind::Sequence,
+        Kind::Sequence,
+        Kind::Either,
+        Kind::GREEDY_STAR,
+    ],
     letters: b"!0123456789AWabz~",
     accounts: true,
+};
+
+const ANY_MIXED_PATTERN: Taste = Taste {
+    inner: &[
+        Kind::Sequence,
+        Kind::Sequence,
+        Kind::Either,
+        Kind::GREEDY_STAR,
+        Kind::LAZY_STAR,
+    ],
+    letters: b"!0123456789AWZabz~",
+    ..ANY_PATTERN
 };
 
 pub fn mutations() -> Vec<Case> {
@@ -24,7 +45,7 @@ pub fn mutations() -> Vec<Case> {
         let changes = 1 + rng.below(3);
         let mut text = base;
         for _ in 0..changes {
-            text = change(&mut rng, text);
+            text = change(&mut rng, text, LIKELY_BYTES);
         }
         cases.push(Case {
             name: format!("mutation {index}"),
@@ -38,11 +59,14 @@ pub fn mutations() -> Vec<Case> {
 /// Good patterns of which some named places were changed. The form stays
 /// good, so these try the order among tree faults.
 pub fn changed_trees() -> Vec<Case> {
-    let mut rng = Prng::new(0x0003_0064);
+    drawn_trees(Prng::new(0x0003_0064), "", &ANY_PATTERN, 60)
+}
+
+fn drawn_trees(mut rng: Prng, sort: &str, taste: &Taste, cases_wanted: usize) -> Vec<Case> {
     let mut cases = Vec::new();
-    for index in 0..60 {
+    for index in 0..cases_wanted {
         let count = 3 + rng.below(if index % 3 == 0 { 62 } else { 10 });
-        let mut table = random(&mut rng, count, &ANY_PATTERN);
+        let mut table = random(&mut rng, count, taste);
         for _ in 0..1 + rng.below(3) {
             let node = &mut table.nodes[rng.below(count)];
             let place = match rng.below(4) {
@@ -51,16 +75,16 @@ pub fn changed_trees() -> Vec<Case> {
             };
             match (node.kind, rng.below(2)) {
                 (Kind::Sequence | Kind::Either, 0) => node.y = place,
-                (Kind::Sequence | Kind::Either | Kind::Rounds, _) => node.x = place,
-                // A leaf becomes a `K`: its line now names a place.
+                (Kind::Sequence | Kind::Either | Kind::Rounds(_), _) => node.x = place,
+                // A leaf becomes a star: its line now names a place.
                 (Kind::Nothing | Kind::Letter | Kind::Range, _) => {
-                    node.kind = Kind::Rounds;
+                    node.kind = *taste.inner.last().expect("a kind of star");
                     node.x = place;
                 }
             }
         }
         cases.push(Case {
-            name: format!("changed tree {index}"),
+            name: format!("{sort}changed tree {index}"),
             text: text_of(&table),
             expected: None,
         });
@@ -88,6 +112,39 @@ pub fn good_patterns() -> Vec<Case> {
     cases
 }
 
+/// The same three sorts with patterns that mix `K` and `Z`.
+pub fn mixed() -> Vec<Case> {
+    let mut rng = Prng::new(0x0011_1093);
+    let mut cases = Vec::new();
+    for index in 0..60 {
+        let mut text: Vec<u8> = match index % 3 {
+            0 => rng.pick(&lazy::ALL).1.into(),
+            _ => {
+                let count = 2 + rng.below(14);
+                text_of(&random(&mut rng, count, &ANY_MIXED_PATTERN))
+            }
+        };
+        for _ in 0..1 + rng.below(3) {
+            text = change(&mut rng, text, LIKELY_MIXED_BYTES);
+        }
+        cases.push(Case {
+            name: format!("mixed mutation {index}"),
+            text,
+            expected: None,
+        });
+    }
+    let seed = Prng::new(0x0013_0064);
+    cases.extend(drawn_trees(seed, "mixed ", &ANY_MIXED_PATTERN, 24));
+    for (index, count) in [2, 3, 5, 8, 13, 21, 34, 55, 63, 64].into_iter().enumerate() {
+        cases.push(Case {
+            name: format!("mixed good pattern {index}"),
+            text: text_of(&random(&mut rng, count, &ANY_MIXED_PATTERN)),
+            expected: Some((0, count as u64)),
+        });
+    }
+    cases
+}
+
 fn good_text(rng: &mut Prng, index: usize) -> Vec<u8> {
     match index % 8 {
         0 => LISTING.into(),
@@ -101,19 +158,20 @@ fn good_text(rng: &mut Prng, index: usize) -> Vec<u8> {
     }
 }
 
-pub fn change(rng: &mut Prng, mut text: Vec<u8>) -> Vec<u8> {
+/// A text with one change; new bytes are mostly of the likely ones.
+pub fn change(rng: &mut Prng, mut text: Vec<u8>, likely: &[u8]) -> Vec<u8> {
     if text.is_empty() {
-        return vec![*rng.pick(LIKELY_BYTES)];
+        return vec![*rng.pick(likely)];
     }
     let at = rng.below(text.len());
     match rng.below(9) {
         // One bit of one byte.
         0 => text[at] ^= 1 << rng.below(8),
-        1 => text[at] = *rng.pick(LIKELY_BYTES),
+        1 => text[at] = *rng.pick(likely),
         2 => {
             text.remove(at);
         }
-        3 => text.insert(at, *rng.pick(LIKELY_BYTES)),
+        3 => text.insert(at, *rng.pick(likely)),
         4 => {
             return with_lines(rng, text, |rng, lines| {
                 let (one, other) = (rng.below(lines.len()), rng.below(lines.len()));

@@ -1,10 +1,12 @@
 //! Codes of random values with one damage each. Some are whole codes still.
+//! First of patterns that have no `Z`, then of such as mix `K` and `Z`.
 
 use super::random::{pattern, sample};
 use super::{just_enough, Case, Code};
 use crate::code::encode;
 use crate::patterns::text_of;
 use crate::prng::Prng;
+use crate::tapes::random::{Tastes, MIXED, WITHOUT_Z};
 
 /// What is done to a code; the index picks it.
 const DAMAGES: [&str; 8] = [
@@ -19,11 +21,16 @@ const DAMAGES: [&str; 8] = [
 ];
 
 pub fn cases() -> Vec<Case> {
-    let mut rng = Prng::new(11);
+    let mut cases = drawn(Prng::new(11), "damaged", &WITHOUT_Z, 96);
+    cases.extend(drawn(Prng::new(111), "mixed damaged", &MIXED, 64));
+    cases
+}
+
+fn drawn(mut rng: Prng, sort: &str, tastes: &Tastes, count: usize) -> Vec<Case> {
     let mut cases = Vec::new();
-    while cases.len() < 96 {
+    while cases.len() < count {
         let index = cases.len();
-        let table = pattern(&mut rng, index / 8);
+        let table = pattern(&mut rng, tastes, index / 8);
         let value = sample(&mut rng, &table, table.root(), &mut 0);
         let bits = encode(&table, &value);
         if bits.len() < 6 {
@@ -36,7 +43,7 @@ pub fn cases() -> Vec<Case> {
         lent.words += 6;
         lent.bytes += 6;
         cases.push(Case {
-            name: format!("damaged: {index}, {}", DAMAGES[index % 8]),
+            name: format!("{sort}: {index}, {}", DAMAGES[index % 8]),
             text: text_of(&table),
             code,
             lent,

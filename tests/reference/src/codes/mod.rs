@@ -3,6 +3,7 @@
 
 mod by_hand;
 pub mod damaged;
+mod lazy;
 mod long;
 pub mod random;
 
@@ -67,6 +68,7 @@ pub fn all() -> Vec<Case> {
     cases.extend(long::cases());
     cases.extend(random::cases());
     cases.extend(damaged::cases());
+    cases.extend(lazy::cases());
     cases
 }
 

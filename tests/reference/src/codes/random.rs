@@ -1,41 +1,52 @@
 //! Codes of random values of random patterns, with empty rounds put in, and
 //! pairs of codes of one pattern: of the same tape and of different tapes.
+//! First of patterns that have no `Z`, then of such as mix `K` and `Z`.
 
 use super::{just_enough, Case, Code, Lent};
 use crate::code::encode;
 use crate::patterns::{random, text_of};
 use crate::prng::Prng;
 use crate::table::{Kind, Table};
-use crate::tapes::random::{METER, NULLABLE};
+use crate::tapes::random::{Tastes, MIXED, WITHOUT_Z};
 use crate::value::{has_empty_round, spell, Value};
 
 /// Rounds of a random value.
 const MOST_ROUNDS: usize = 30;
 
 pub fn cases() -> Vec<Case> {
-    let mut rng = Prng::new(47);
+    let mut cases = drawn(Prng::new(47), "", &WITHOUT_Z, [70, 30, 20]);
+    cases.extend(drawn(Prng::new(147), "mixed ", &MIXED, [40, 16, 8]));
+    cases
+}
+
+/// So many codes with empty rounds, pairs of one tape and pairs of two tapes.
+fn drawn(mut rng: Prng, sort: &str, tastes: &Tastes, counts: [usize; 3]) -> Vec<Case> {
+    let rng = &mut rng;
     let mut cases = Vec::new();
-    for index in 0..70 {
-        let (table, value) = with_empty_round(&mut rng, index);
-        cases.push(case(&mut rng, "empty rounds", index, &table, &value));
+    for index in 0..counts[0] {
+        let (table, value) = with_empty_round(rng, tastes, index);
+        let name = format!("{sort}empty rounds");
+        cases.push(case(rng, &name, index, &table, &value));
     }
-    for index in 0..30 {
-        let (table, one) = with_empty_round(&mut rng, index);
-        let other = same_tape(&mut rng, &table, &one);
-        cases.push(case(&mut rng, "pair of one tape", index, &table, &one));
-        cases.push(case(&mut rng, "pair of one tape", index, &table, &other));
+    for index in 0..counts[1] {
+        let (table, one) = with_empty_round(rng, tastes, index);
+        let other = same_tape(rng, &table, &one);
+        let name = format!("{sort}pair of one tape");
+        cases.push(case(rng, &name, index, &table, &one));
+        cases.push(case(rng, &name, index, &table, &other));
     }
-    for index in 0..20 {
-        let (table, one) = with_empty_round(&mut rng, index);
-        let other = other_tape(&mut rng, &table, &one);
-        cases.push(case(&mut rng, "pair of two tapes", index, &table, &one));
-        cases.push(case(&mut rng, "pair of two tapes", index, &table, &other));
+    for index in 0..counts[2] {
+        let (table, one) = with_empty_round(rng, tastes, index);
+        let other = other_tape(rng, &table, &one);
+        let name = format!("{sort}pair of two tapes");
+        cases.push(case(rng, &name, index, &table, &one));
+        cases.push(case(rng, &name, index, &table, &other));
     }
     cases
 }
 
-pub fn pattern(rng: &mut Prng, index: usize) -> Table {
-    let taste = [&NULLABLE, &NULLABLE, &METER][index % 3];
+pub fn pattern(rng: &mut Prng, tastes: &Tastes, index: usize) -> Table {
+    let taste = tastes[index % 3];
     // Every tenth has all 64 lines.
     let count = if index % 10 == 9 {
         64
@@ -72,9 +83,9 @@ fn case(rng: &mut Prng, sort: &str, index: usize, table: &Table, value: &Value) 
 }
 
 /// A pattern and a value of it that holds an empty round.
-pub fn with_empty_round(rng: &mut Prng, index: usize) -> (Table, Value) {
+pub fn with_empty_round(rng: &mut Prng, tastes: &Tastes, index: usize) -> (Table, Value) {
     loop {
-        let table = pattern(rng, index);
+        let table = pattern(rng, tastes, index);
         for _ in 0..20 {
             let value = sample(rng, &table, table.root(), &mut 0);
             let value = put_in(rng, &table, table.root(), &value);
@@ -132,13 +143,13 @@ pub fn sample(rng: &mut Prng, table: &Table, place: usize, rounds: &mut usize) -
         }
         Kind::Either if rng.below(2) == 0 => Value::Left(Box::new(sample(rng, table, x, rounds))),
         Kind::Either => Value::Right(Box::new(sample(rng, table, y, rounds))),
-        Kind::Rounds => {
+        Kind::Rounds(star) => {
             let mut list = Vec::new();
             while *rounds < MOST_ROUNDS && rng.below(5) < 3 {
                 *rounds += 1;
                 list.push(sample(rng, table, x, rounds));
             }
-            Value::Rounds(list)
+            Value::Rounds(star, list)
         }
     }
 }
@@ -160,12 +171,12 @@ fn empty(rng: &mut Prng, table: &Table, place: usize) -> Option<Value> {
                 right.or(left)
             }
         }
-        Kind::Rounds => {
+        Kind::Rounds(star) => {
             let mut list = Vec::new();
             if rng.below(3) == 0 {
                 list.extend(empty(rng, table, x));
             }
-            Some(Value::Rounds(list))
+            Some(Value::Rounds(star, list))
         }
     }
 }
@@ -183,7 +194,7 @@ pub fn put_in(rng: &mut Prng, table: &Table, place: usize, value: &Value) -> Val
         }
         Value::Left(side) => Value::Left(Box::new(put_in(rng, table, x, side))),
         Value::Right(side) => Value::Right(Box::new(put_in(rng, table, y, side))),
-        Value::Rounds(rounds) => {
+        Value::Rounds(star, rounds) => {
             let mut list = Vec::new();
             for round in rounds {
                 if rng.below(3) == 0 {
@@ -194,7 +205,7 @@ pub fn put_in(rng: &mut Prng, table: &Table, place: usize, value: &Value) -> Val
             if rng.below(2) == 0 {
                 list.extend(empty(rng, table, x));
             }
-            Value::Rounds(list)
+            Value::Rounds(*star, list)
         }
     }
 }

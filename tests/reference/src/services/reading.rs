@@ -3,7 +3,7 @@
 use super::{judge_bytes, judge_length};
 use crate::automaton;
 use crate::code::{encode, pack};
-use crate::memo::greedy_reading;
+use crate::memo::preferred_reading;
 use crate::table::{judge, Refusal, Table};
 
 /// Reading a tape: 2, 3, 4, 6, 5, 7. Gives the bit count, and in the lent
@@ -23,7 +23,7 @@ pub fn parse(
     }
     // From here on a refusal leaves the marks filled.
     marks[..words].copy_from_slice(&automaton::marks(table, tape));
-    let reading = greedy_reading(table, tape);
+    let reading = preferred_reading(table, tape);
     // Reading starts at the root with flag 1. The reading was found without
     // the automaton, so this holds the one against the other.
     let accepted = marks[1] >> table.root() & 1 == 1;

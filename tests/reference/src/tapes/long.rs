@@ -15,7 +15,7 @@ pub fn cases() -> Vec<Case> {
 }
 
 /// So many letters of a piece said again and again.
-fn repeated(piece: &[u8], letters: usize) -> Vec<u8> {
+pub fn repeated(piece: &[u8], letters: usize) -> Vec<u8> {
     piece.iter().copied().cycle().take(letters).collect()
 }
 

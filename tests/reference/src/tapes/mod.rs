@@ -2,6 +2,7 @@
 //! with tapes that they read and tapes that they do not.
 
 pub mod by_hand;
+mod lazy;
 mod long;
 pub mod random;
 
@@ -40,6 +41,7 @@ pub fn all() -> Vec<Case> {
     let mut cases = by_hand::cases();
     cases.extend(long::cases());
     cases.extend(random::cases());
+    cases.extend(lazy::cases());
     cases
 }
 

@@ -1,5 +1,6 @@
-//! Random patterns full of `K` over parts that can spell nothing, and of
-//! ranges, with tapes that they read and tapes that they do not.
+//! Random patterns full of stars over parts that can spell nothing, and of
+//! ranges, with tapes that they read and tapes that they do not: first those
+//! that have no `Z`, then such as mix `K` and `Z`.
 
 use super::{bytes_for, read, words_for, Case};
 use crate::patterns::{random, text_of, Taste};
@@ -11,8 +12,8 @@ const MOST_SAMPLED: usize = 40;
 pub const NULLABLE: Taste = Taste {
     leaves: &[Kind::Nothing, Kind::Letter, Kind::Letter, Kind::Range],
     inner: &[
-        Kind::Rounds,
-        Kind::Rounds,
+        Kind::GREEDY_STAR,
+        Kind::GREEDY_STAR,
         Kind::Either,
         Kind::Either,
         Kind::Sequence,
@@ -24,18 +25,52 @@ pub const NULLABLE: Taste = Taste {
 
 pub const METER: Taste = Taste {
     leaves: &[Kind::Nothing, Kind::Letter, Kind::Range, Kind::Range],
-    inner: &[Kind::Rounds, Kind::Either, Kind::Sequence],
+    inner: &[Kind::GREEDY_STAR, Kind::Either, Kind::Sequence],
     letters: b"!01379W~",
     accounts: true,
 };
 
+pub const MIXED_NULLABLE: Taste = Taste {
+    inner: &[
+        Kind::GREEDY_STAR,
+        Kind::LAZY_STAR,
+        Kind::LAZY_STAR,
+        Kind::Either,
+        Kind::Either,
+        Kind::Sequence,
+        Kind::Sequence,
+    ],
+    ..NULLABLE
+};
+
+pub const MIXED_METER: Taste = Taste {
+    inner: &[
+        Kind::GREEDY_STAR,
+        Kind::LAZY_STAR,
+        Kind::Either,
+        Kind::Sequence,
+    ],
+    ..METER
+};
+
+/// What patterns without `Z` are made of, in turn, and what those that mix
+/// `K` and `Z` are made of.
+pub type Tastes = [&'static Taste<'static>; 3];
+pub const WITHOUT_Z: Tastes = [&NULLABLE, &NULLABLE, &METER];
+pub const MIXED: Tastes = [&MIXED_NULLABLE, &MIXED_NULLABLE, &MIXED_METER];
+
 pub fn cases() -> Vec<Case> {
-    let mut rng = Prng::new(6);
+    let mut cases = drawn(Prng::new(6), "random", &WITHOUT_Z, 300, 20);
+    cases.extend(drawn(Prng::new(106), "mixed", &MIXED, 150, 10));
+    cases
+}
+
+/// So many cases of patterns of up to 24 lines, and so many of all 64.
+fn drawn(mut rng: Prng, sort: &str, tastes: &Tastes, some: usize, full: usize) -> Vec<Case> {
     let mut cases = Vec::new();
-    for index in 0..320 {
-        let taste = [&NULLABLE, &NULLABLE, &METER][index % 3];
-        // The last 20 have all 64 lines.
-        let count = if index < 300 { 1 + rng.below(24) } else { 64 };
+    for index in 0..some + full {
+        let taste = tastes[index % 3];
+        let count = if index < some { 1 + rng.below(24) } else { 64 };
         let table = random(&mut rng, count, taste);
         let wanted = index % 2 == 0;
         let tape = if wanted {
@@ -43,15 +78,15 @@ pub fn cases() -> Vec<Case> {
         } else {
             unreadable(&mut rng, &table, taste.letters)
         };
-        cases.push(case(&mut rng, index, &table, tape));
+        cases.push(case(&mut rng, sort, index, &table, tape));
     }
     cases
 }
 
 /// Code buffers just long enough, a byte short and longer in turn.
-fn case(rng: &mut Prng, index: usize, table: &Table, tape: Vec<u8>) -> Case {
+fn case(rng: &mut Prng, sort: &str, index: usize, table: &Table, tape: Vec<u8>) -> Case {
     let text = text_of(table);
-    let sort = if read(table, &tape).is_ok() {
+    let found = if read(table, &tape).is_ok() {
         "readable"
     } else {
         "unreadable"
@@ -63,7 +98,7 @@ fn case(rng: &mut Prng, index: usize, table: &Table, tape: Vec<u8>) -> Case {
         _ => ("plenty", bytes + 1 + rng.below(9)),
     };
     Case {
-        name: format!("random {sort}: {index}, {room}"),
+        name: format!("{sort} {found}: {index}, {room}"),
         words: words_for(&tape) + rng.below(3),
         text,
         tape,
@@ -126,7 +161,7 @@ fn sample(rng: &mut Prng, table: &Table, place: usize, letters: &mut Vec<u8>) {
             let side = if rng.below(2) == 0 { x } else { y };
             sample(rng, table, side, letters);
         }
-        Kind::Rounds => {
+        Kind::Rounds(_) => {
             while letters.len() <= MOST_SAMPLED && rng.below(5) < 3 {
                 sample(rng, table, x, letters);
             }

@@ -14,12 +14,20 @@ use crate::tapes::table_of;
 const LETTERS: &str = "0\tL\t-\ta\n1\tK\t-\t0\n";
 
 /// Collects cases; each call is one.
-struct Hand {
-    cases: Vec<Case>,
+pub struct Hand {
+    pub cases: Vec<Case>,
 }
 
 impl Hand {
-    fn add(&mut self, name: &str, text: &[u8], tape: &[u8], code: &Code, node: u64, visit: u64) {
+    pub fn add(
+        &mut self,
+        name: &str,
+        text: &[u8],
+        tape: &[u8],
+        code: &Code,
+        node: u64,
+        visit: u64,
+    ) {
         self.cases.push(Case {
             name: format!("{name}, node {node}, visit {visit}"),
             text: text.to_vec(),
@@ -32,7 +40,7 @@ impl Hand {
     }
 
     /// Sets number, start and length for the case added last.
-    fn gives(&mut self, number: u64, start: u64, length: u64) {
+    pub fn gives(&mut self, number: u64, start: u64, length: u64) {
         if let Some(last) = self.cases.last_mut() {
             last.expected = Some((number, start, length));
         }
@@ -40,7 +48,7 @@ impl Hand {
 
     /// Every node of a code, with the first visits, the last one and the one
     /// past it; and nodes outside the table.
-    fn every(&mut self, name: &str, text: &str, code: &Code) {
+    pub fn every(&mut self, name: &str, text: &str, code: &Code) {
         let table = table_of(text.as_bytes());
         let (bytes, count) = (&code.bytes, code.count);
         let tape = letters_of(&table, bytes, count).expect("a code");

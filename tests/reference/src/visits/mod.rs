@@ -2,6 +2,7 @@
 //! codes with empty rounds, damaged codes and codes of another tape.
 
 mod by_hand;
+mod lazy;
 mod random;
 
 use crate::codes::Code;
@@ -25,6 +26,7 @@ pub struct Case {
 pub fn all() -> Vec<Case> {
     let mut cases = by_hand::cases();
     cases.extend(random::cases());
+    cases.extend(lazy::cases());
     cases
 }
 

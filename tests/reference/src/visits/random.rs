@@ -1,5 +1,6 @@
 //! Codes of random values of random patterns: with empty rounds, damaged, and
-//! of another tape.
+//! of another tape. First of patterns that have no `Z`, then of such as mix
+//! `K` and `Z`.
 
 use super::Case;
 use crate::code::encode;
@@ -10,20 +11,27 @@ use crate::patterns::text_of;
 use crate::prng::Prng;
 use crate::services::visits::count_of_visits;
 use crate::table::Table;
+use crate::tapes::random::{Tastes, MIXED, WITHOUT_Z};
 use crate::value::spell;
 
 pub fn cases() -> Vec<Case> {
-    let mut rng = Prng::new(83);
+    let mut cases = drawn(Prng::new(83), "", &WITHOUT_Z, [30, 20, 48]);
+    cases.extend(drawn(Prng::new(183), "mixed ", &MIXED, [12, 8, 16]));
+    cases
+}
+
+/// So many codes with empty rounds, of another tape and damaged.
+fn drawn(mut rng: Prng, sort: &str, tastes: &Tastes, counts: [usize; 3]) -> Vec<Case> {
     let mut cases = Vec::new();
-    for index in 0..30 {
-        let (table, value) = with_empty_round(&mut rng, index);
+    for index in 0..counts[0] {
+        let (table, value) = with_empty_round(&mut rng, tastes, index);
         let code = Code::of_bits(&encode(&table, &value));
         let tape = spell(&value);
         for _ in 0..3 {
             let (node, visits) = visited(&mut rng, &table, &code);
             for visit in [rng.below(visits as usize) as u64, visits] {
                 cases.push(case(
-                    "empty rounds",
+                    &format!("{sort}empty rounds"),
                     index,
                     &table,
                     &tape,
@@ -34,13 +42,13 @@ pub fn cases() -> Vec<Case> {
             }
         }
     }
-    for index in 0..20 {
-        let (table, one) = with_empty_round(&mut rng, index);
+    for index in 0..counts[1] {
+        let (table, one) = with_empty_round(&mut rng, tastes, index);
         let other = other_tape(&mut rng, &table, &one);
         let code = Code::of_bits(&encode(&table, &one));
         let (node, _) = visited(&mut rng, &table, &code);
         cases.push(case(
-            "another tape",
+            &format!("{sort}another tape"),
             index,
             &table,
             &spell(&other),
@@ -50,8 +58,8 @@ pub fn cases() -> Vec<Case> {
         ));
     }
     let mut index = 0;
-    while index < 48 {
-        let table = pattern(&mut rng, index / 8);
+    while index < counts[2] {
+        let table = pattern(&mut rng, tastes, index / 8);
         let value = sample(&mut rng, &table, table.root(), &mut 0);
         let bits = encode(&table, &value);
         if bits.len() < 6 {
@@ -60,7 +68,7 @@ pub fn cases() -> Vec<Case> {
         let code = damage(&mut rng, index % 8, &bits);
         let node = table.root() as u64;
         cases.push(case(
-            "damaged",
+            &format!("{sort}damaged"),
             index,
             &table,
             &spell(&value),

@@ -10,8 +10,8 @@ use wumbyra_reference::table::{Kind, Table};
 pub const NULLABLE: Taste = Taste {
     leaves: &[Kind::Nothing, Kind::Letter, Kind::Letter, Kind::Range],
     inner: &[
-        Kind::Rounds,
-        Kind::Rounds,
+        Kind::GREEDY_STAR,
+        Kind::GREEDY_STAR,
         Kind::Either,
         Kind::Either,
         Kind::Sequence,
@@ -21,10 +21,29 @@ pub const NULLABLE: Taste = Taste {
     accounts: false,
 };
 
-/// Patterns with digits, accounts and ranges.
+/// The same with both kinds of stars.
+pub const MIXED: Taste = Taste {
+    inner: &[
+        Kind::GREEDY_STAR,
+        Kind::LAZY_STAR,
+        Kind::LAZY_STAR,
+        Kind::Either,
+        Kind::Either,
+        Kind::Sequence,
+        Kind::Sequence,
+    ],
+    ..NULLABLE
+};
+
+/// Patterns with digits, accounts, ranges and both kinds of stars.
 pub const METER: Taste = Taste {
     leaves: &[Kind::Nothing, Kind::Letter, Kind::Range, Kind::Range],
-    inner: &[Kind::Rounds, Kind::Either, Kind::Sequence],
+    inner: &[
+        Kind::GREEDY_STAR,
+        Kind::LAZY_STAR,
+        Kind::Either,
+        Kind::Sequence,
+    ],
     letters: b"012379W",
     accounts: true,
 };
@@ -33,9 +52,11 @@ pub fn table(text: &str) -> Table {
     load(text.as_bytes()).expect("a good pattern")
 }
 
+/// One pattern in three has no `Z`, the others mix both kinds.
 pub fn small(rng: &mut Prng, most: usize) -> Table {
     let count = 1 + rng.below(most);
-    random(rng, count, &NULLABLE)
+    let taste = *rng.pick(&[&NULLABLE, &MIXED, &MIXED]);
+    random(rng, count, taste)
 }
 
 /// All tapes over some letters with at most `most` letters.
@@ -83,7 +104,7 @@ pub fn sample(rng: &mut Prng, table: &Table, place: usize, letters: &mut Vec<u8>
             let side = if rng.below(2) == 0 { x } else { y };
             sample(rng, table, side, letters);
         }
-        Kind::Rounds => {
+        Kind::Rounds(_) => {
             while rng.below(5) < 2 {
                 sample(rng, table, x, letters);
             }

@@ -212,6 +212,7 @@ pub fn accounts(hand: &mut Hand) {
     }
 }
 
+/// Each line has three fields, so a kind that needs more is at fault too.
 pub fn kinds(hand: &mut Hand) {
     for kind in [
         "B", "C", "D", "F", "G", "J", "M", "Q", "T", "X", "Z", "e", "l", "r", "s", "a", "k", "EE",

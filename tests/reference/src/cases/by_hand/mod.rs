@@ -2,6 +2,7 @@
 //! the answers taken where two careful implementers differ.
 
 mod fields;
+mod lazy;
 mod lines;
 mod trees;
 
@@ -40,6 +41,19 @@ pub fn cases() -> Vec<Case> {
     trees::trees(&mut hand);
     trees::mixed(&mut hand);
     lines::long(&mut hand);
+    hand.cases
+}
+
+/// Those about kind `Z`.
+pub fn lazy_cases() -> Vec<Case> {
+    let mut hand = Hand { cases: Vec::new() };
+    lazy::good(&mut hand);
+    lazy::fields(&mut hand);
+    lazy::kinds(&mut hand);
+    lazy::trees(&mut hand);
+    for case in &mut hand.cases {
+        case.name.insert_str(0, "lazy: ");
+    }
     hand.cases
 }
 
