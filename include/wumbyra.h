@@ -25,7 +25,7 @@
  *                                 the text does not load, for whatever reason
  *   WUMBYRA_TAPE_TOO_LONG    3    a tape of over 3,600 letters                                 0
  *   WUMBYRA_TAPE_BYTE        4    a byte of the tape is outside 33 to 126                      first such position
- *   WUMBYRA_UNREADABLE       5    no reading of the pattern spells the tape                    0
+ *   WUMBYRA_UNREADABLE       5    no parse of the pattern spells the tape                      0
  *   WUMBYRA_WORDS_TOO_SHORT  6    fewer than 2 * (n + 1) words for n letters                   words needed
  *   WUMBYRA_CODE_TOO_SHORT   7    the code buffer is shorter than this code                    bytes needed
  *   WUMBYRA_NOT_A_CODE       8    not a whole code of the pattern: bits, range, count or       0
@@ -35,6 +35,14 @@
  *
  *  Where several causes hold, the first in the order that is given with the call is answered. A number that is not in that
  *  order is never answered by the call.
+ *
+ * Patterns
+ *  A pattern text has a line for each node, of kind E (nothing), L (a letter), R (a range of letters), S (one part, then
+ *  another), A (the left part or the right one), K (any number of rounds of a part) or, from 1.1.0 on, Z (the same, as a lazy
+ *  star). A parse says how the nodes read the letters of a tape. Where there are several, the preferred parse is taken. No round
+ *  of it is without a letter, and its choices are made from the tape's start on, each so that the rest can still be read: A takes
+ *  its left part wherever it can, K takes another round wherever it can, and Z stops wherever it can. docs/PATTERNS.md shows how
+ *  to write a pattern, and docs/REFERENCE.md has every rule.
  *
  * Codes
  *  A code is bytes and a bit count. Bits fill bytes from the highest; the bytes are exactly enough for the count, unused bits
@@ -61,10 +69,10 @@ extern "C" {
 #endif
 
 /* The version of this header. wumbyra_version() tells that of the library that is linked: the two differ only where a program
- * was compiled with another header than its library's. A call that is added raises the minor number; one that is changed or
- * dropped raises the major number. */
+ * was compiled with another header than its library's. A call or a kind of line that is added raises the minor number; a call
+ * that is changed or dropped raises the major number. */
 #define WUMBYRA_VERSION_MAJOR 1
-#define WUMBYRA_VERSION_MINOR 0
+#define WUMBYRA_VERSION_MINOR 1
 #define WUMBYRA_VERSION_PATCH 0
 #define WUMBYRA_VERSION_NUMBER (WUMBYRA_VERSION_MAJOR * 10000 + WUMBYRA_VERSION_MINOR * 100 + WUMBYRA_VERSION_PATCH)
 
@@ -173,7 +181,7 @@ uint32_t wumbyra_version(void);
 WUMBYRA_CHECK_ANSWER
 uint64_t wumbyra_load(const uint8_t *text, size_t text_len);
 
-/* The code of the greedy reading of a tape.
+/* The code of the preferred parse of a tape.
  *
  * Order: 2, 3, 4, 6, 5, 7. Value: the code's bit count.
  * Written: words[0] to words[2 * n + 1], where bit l of words[2 * i + b] says that the letters from i on can be read from
@@ -204,14 +212,14 @@ uint64_t wumbyra_flatten(const uint8_t *text, size_t text_len, const uint8_t *co
  *   2, 8, 3, 9  tape, words and canonical are left as they were
  *   6           words and canonical are left as they were; tape is filled
  *   7           canonical is left as it was; tape and words are filled
- *   5           does not occur: the code is itself a reading of what it spells */
+ *   5           does not occur: the code is itself a parse of what it spells */
 WUMBYRA_CHECK_ANSWER
 uint64_t wumbyra_canonicalize(const uint8_t *text, size_t text_len, const uint8_t *code, size_t code_len, uint32_t count,
                               uint8_t *tape, size_t tape_len, uint64_t *words, size_t words_len, uint8_t *canonical,
                               size_t canonical_len);
 
-/* The piece of the tape that a visit of a node covers; visits are counted from 0 as the code enters them, and a K with all its
- * rounds is one visit.
+/* The piece of the tape that a visit of a node covers; visits are counted from 0 as the code enters them, and a K or Z with all
+ * its rounds is one visit.
  *
  * Order: 2, 3, 4, 8, 10. Value: start << 16 | length; at a refusal that of the table of causes.
  * No buffer is written. */

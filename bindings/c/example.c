@@ -16,6 +16,30 @@ static void expect(const char *what, uint64_t answer, uint32_t number, uint32_t 
     }
 }
 
+/* A star over a lazy star over one letter. The lazy star prefers to stop, and here it must take the letter first: an empty round of the
+ * star above it is none. Another code of two letters has both of them in one round of that star. */
+static void try_lazy_star(void)
+{
+    static const char lazy[] = "0\tL\t-\ta\n1\tZ\t-\t0\n2\tK\t-\t1\n";
+    static const uint8_t letters[] = {'a', 'a'}, one_round[] = {0x68}; /* 01101 */
+    const uint8_t *text = (const uint8_t *)lazy;
+    const size_t len = sizeof lazy - 1;
+    uint64_t words[2 * (2 + 1)];
+    uint8_t code[WUMBYRA_CODE_BYTES(2)], spelled[2];
+    expect("lazy star: load", wumbyra_load(text, len), WUMBYRA_OK, 3);
+    expect("lazy star: parse", wumbyra_parse(text, len, letters, 1, words, WUMBYRA_WORDS(1), code, 1), WUMBYRA_OK, 4);
+    if (code[0] != 0x50) /* 0101 */
+        failed = 1;
+    expect("lazy star: flatten", wumbyra_flatten(text, len, code, 1, 4, spelled, 1), WUMBYRA_OK, 1);
+    if (spelled[0] != 'a')
+        failed = 1;
+    expect("lazy star: canonicalize",
+           wumbyra_canonicalize(text, len, one_round, 1, 5, spelled, 2, words, WUMBYRA_WORDS(2), code, sizeof code), WUMBYRA_OK, 7);
+    if (code[0] != 0x4a || memcmp(spelled, letters, 2) != 0) /* 0100101 */
+        failed = 1;
+    expect("small z", wumbyra_load((const uint8_t *)"0\tE\t-\n1\tz\t-\t0\n", 14), WUMBYRA_LINE_FORM, 1);
+}
+
 int main(void)
 {
     enum { letters = 3 };
@@ -68,6 +92,7 @@ int main(void)
     expect("span", answer, WUMBYRA_OK, 1 << 16 | 2);
     printf("span\t%u\t%u\n", wumbyra_span_start(answer), wumbyra_span_length(answer));
     expect("span of no node", wumbyra_span(text, len, read, letters, code, 3, bits, 6, 0), WUMBYRA_NO_SUCH_VISIT, 0);
+    try_lazy_star();
     expect("count past the bytes", wumbyra_total(text, len, code, 3, 25, 1), WUMBYRA_NOT_A_CODE, 0);
     return failed;
 }

@@ -56,6 +56,19 @@ class Services(Case):
         self.assertEqual(Pattern(P1).canonicalize(*code("011")), code("1"))
         self.assertEqual(Pattern(P1).canonicalize(*code("01001")), code("001"))
 
+    def test_a_lazy_star(self):
+        # It prefers to stop, and must take a letter first: no round of the star above it is empty.
+        pattern = Pattern(b"0\tL\t-\ta\n1\tZ\t-\t0\n2\tK\t-\t1\n")
+        self.assertEqual(pattern.lines, 3)
+        found, bits, _ = pattern.parse(b"a")
+        self.assertEqual((found, bits), (b"\x50", 4))
+        self.assertEqual(pattern.flatten(found, bits), b"a")
+        self.assertEqual(pattern.canonicalize(found, bits), code("0101"))
+        # Two letters in one round, and an empty round.
+        self.assertEqual(pattern.canonicalize(*code("01101")), code("0100101"))
+        self.assertEqual(pattern.canonicalize(*code("001")), code("1"))
+        self.refused(1, 1, Pattern, b"0\tE\t-\n1\tz\t-\t0\n")
+
     def test_a_whole_listing(self):
         pattern = Pattern(LISTING)
         self.assertEqual(pattern.lines, 6)

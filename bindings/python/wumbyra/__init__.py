@@ -23,7 +23,7 @@ from typing import TYPE_CHECKING, List, NamedTuple, Union
 from ._library import LIBRARY
 from ._refused import CAUSES, Refused
 
-__version__ = "1.0.0"
+__version__ = "1.1.0"
 __all__ = ["ACCOUNTS", "CAUSES", "MAX_CODE_BYTES", "MAX_LETTERS", "Code", "Parsed", "Pattern", "Refused", "Span", "version"]
 
 MAX_LETTERS = 3600
@@ -115,7 +115,7 @@ class Pattern:
         return f"Pattern({self.text!r})"
 
     def parse(self, tape: BytesLike) -> Parsed:
-        """Reads a tape: the code of its greedy parse, and the state sets. Refused with 3, 4 or 5."""
+        """Reads a tape: the code of its preferred parse, and the state sets. Refused with 3, 4 or 5."""
         tape = _bytes(tape)
         letters = min(len(tape), MAX_LETTERS)  # a longer tape is refused before a buffer is looked at
         words = _cells("Q", 2 * (letters + 1))

@@ -56,7 +56,7 @@ pub struct Code {
 #[derive(Clone, Debug, PartialEq, Eq)]
 #[non_exhaustive]
 pub struct Parsed {
-    /// The code of the greedy parse.
+    /// The code of the preferred parse.
     pub code: Code,
     /// The state sets, two words for each position: bit l of `words[2 * i + b]` says that the letters from position i on can be read
     /// from node l on with flag b.
@@ -90,7 +90,7 @@ impl Pattern {
         &self.text
     }
 
-    /// Reads a tape: the code of its greedy parse, and the state sets. Refused with 3, 4 or 5.
+    /// Reads a tape: the code of its preferred parse, and the state sets. Refused with 3, 4 or 5.
     pub fn parse(&self, tape: &[u8]) -> Result<Parsed, Refusal> {
         // A longer tape is refused before a buffer is looked at.
         let letters = tape.len().min(MAX_LETTERS);

@@ -53,6 +53,24 @@ fn tapes_to_try() {
     assert_eq!(pattern(P1).canonicalize(&code("01001")), Ok(code("001")));
 }
 
+/// A star over a lazy star: the lazy star prefers to stop, and must take a letter first, since no round of the star is empty.
+#[test]
+fn a_lazy_star() {
+    let lazy = pattern(b"0\tL\t-\ta\n1\tZ\t-\t0\n2\tK\t-\t1\n");
+    assert_eq!(lazy.lines(), 3);
+    let parsed = lazy.parse(b"a").expect("it is read");
+    assert_eq!((&parsed.code.bytes[..], parsed.code.bits), (&[0x50][..], 4));
+    assert_eq!(lazy.flatten(&parsed.code).as_deref(), Ok(&b"a"[..]));
+    assert_eq!(lazy.canonicalize(&parsed.code), Ok(code("0101")));
+    // Two letters in one round, and an empty round.
+    assert_eq!(lazy.canonicalize(&code("01101")), Ok(code("0100101")));
+    assert_eq!(lazy.canonicalize(&code("001")), Ok(code("1")));
+    assert_eq!(
+        Pattern::load(b"0\tE\t-\n1\tz\t-\t0\n"),
+        Err(Refusal::LineForm { line: 1 })
+    );
+}
+
 #[test]
 fn a_whole_listing() {
     let listing = pattern(LISTING);
