@@ -9,7 +9,6 @@ ghost use mathlib.Core.Bool.{true};
 ghost use Prim.Native.Nat.{_+_, _*_, _≤_, _<_};
 ghost use lib.ListN.{length, set};
 ghost use Rattle.syntax.specs.Letter.{letter-limit};
-ghost use Rattle.syntax.specs.Table.{leaf-good};
 ghost use Rattle.bits.specs.Bits.{byte-limit};
 ghost use Rattle.semantics.specs.Accounts.{handed-down};
 ghost use Rattle.table.specs.Cells.{Good, tree-in};
@@ -23,6 +22,7 @@ use bits::handed_good;
 use syntax::Leaf;
 use syntax::Node;
 use syntax::Pattern;
+use syntax::in_range;
 use table::account_at;
 use table::node_at;
 use walks::side_at;
@@ -123,7 +123,6 @@ fn put_range(
     accounts: &mut [u8],
     n: usize,
 ) -> Entered
-    requires { ⌜ leaf-good (range-node low high) ≡ true ⌝ }
     requires { ⌜ Ready (now code) (now letters) (now accounts) at n ⌝ }
     ensures { λ r.
         ⌜ Enters (now (code .entry)) (leaf-tree (range-node low high)) account at n
@@ -133,10 +132,7 @@ fn put_range(
         return failed();
     }
     let c = byte_at(code, at);
-    if c < low {
-        return failed();
-    }
-    if high < c {
+    if !in_range(low, high, c) {
         return failed();
     }
     put_entry(letters, accounts, n, c, account, at + 8)
@@ -152,7 +148,6 @@ fn put_leaf(
     accounts: &mut [u8],
     n: usize,
 ) -> Entered
-    requires { ⌜ leaf-good leaf ≡ true ⌝ }
     requires { ⌜ Ready (now code) (now letters) (now accounts) at n ⌝ }
     ensures { λ r.
         ⌜ Enters (now (code .entry)) (leaf-tree leaf) account at n

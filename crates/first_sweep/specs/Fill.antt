@@ -17,7 +17,7 @@ use Rattle.masks.specs.Leaves.{letter-cells, letter-cell}
 use Rattle.masks.specs.Masks.{Masks-of}
 use Rattle.first_sweep.specs.SweepWords.{All-letters, sweep-words}
 
--- a tested table, "at most 3,600 letters, all from 33 to 126", and 2 × (n + 1) words
+-- a tested table, "at most 3,600 letters, all from 33 to 126" (02, Job 3: or from 161 to 254), and 2 × (n + 1) words
 pub record Fillable (p : Pattern) (tape words : List ℕ) : Type 0 where
   pub rules : Rules p
   pub few : length tape ≤ letter-limit

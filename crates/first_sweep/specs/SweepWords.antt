@@ -58,9 +58,9 @@ module _ (p : Pattern) (r : Rules p) (zs os ts ks : List ℕ) (e : ℕ) (held : 
       ap (λ k. step-of zs os ts k (state-set p true w) (at-end true w)) (good .letters c h)
       ∙ ap₂ (λ x y. record { zero = x; one = y })
       (union-chosen 64 chosen (entry zs) (leaf-mask (root p) (p .count) false)
-      (λ x l f. good .zeros x (live-inside c (state-set p true w) (at-end true w) x f))
+      (λ x l f. good .leaves .zeros x (live-inside c (state-set p true w) (at-end true w) x f))
       ∙ sym (state-step p r ts held c w false))
-      (union-chosen 64 chosen (entry os) (leaf-mask (root p) (p .count) true) (λ x l f. good .ones x (live-inside c (state-set p true w) (at-end true w) x f))
+      (union-chosen 64 chosen (entry os) (leaf-mask (root p) (p .count) true) (λ x l f. good .leaves .ones x (live-inside c (state-set p true w) (at-end true w) x f))
       ∙ sym (state-step p r ts held c w true))
     where
       chosen : ℕ → Bool
@@ -68,7 +68,7 @@ module _ (p : Pattern) (r : Rules p) (zs os ts ks : List ℕ) (e : ℕ) (held : 
 
   -- THE FILL over the masks of a pattern is the words of the definition
   pub sweep-words : (w : List ℕ) → All-letters w → sweep-of zs os ts ks e w ≡ words p w
-  sweep-words [] h = ap₂ (λ x y. x ∷ y ∷ []) (sym (state-end p r false)) (good .ends ∙ sym (state-end p r true))
+  sweep-words [] h = ap₂ (λ x y. x ∷ y ∷ []) (sym (state-end p r false)) (good .leaves .ends ∙ sym (state-end p r true))
   sweep-words (c ∷ w) h =
       ap (λ ws. put (step-of zs os ts (entry ks c) (first-one ws) (at-end true w)) ws) (sweep-words w (h .1))
       ∙ ap (λ k. put (step-of zs os ts (entry ks c) k (at-end true w)) (words p w)) (first-word p w)

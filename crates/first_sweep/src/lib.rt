@@ -7,6 +7,7 @@ ghost use Rattle.first_sweep.specs.Sweep.{Sweepable, sweep-of};
 ghost use Rattle.first_sweep.specs.Fill.{Fillable};
 use masks::LETTER_CELLS;
 use masks::put_masks;
+use masks::scatter::put_takers;
 use steps::recall;
 use syntax::Pattern;
 
@@ -51,7 +52,8 @@ pub fn fill(p: Pattern, table: &[u64; 64], tape: &[u8], words: &mut [u64])
 {
     let mut zero = [0u64; 64];
     let mut one = [0u64; 64];
+    let end = put_masks(table, p.count, &mut zero, &mut one);
     let mut takers = [0u64; LETTER_CELLS];
-    let end = put_masks(table, p.count, &mut zero, &mut one, &mut takers);
+    put_takers(table, p.count, &mut takers);
     sweep(&zero, &one, table, &takers, end, tape, words);
 }

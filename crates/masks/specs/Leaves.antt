@@ -26,7 +26,7 @@ takers root n c = node-word root n (λ t s. takes t c)
 
 -- the number of cells that hold takers, a letter a cell; in code `LETTER_CELLS`
 abbrev pub letter-cells : ℕ
-letter-cells = 128
+letter-cells = 256
 
 -- every letter has its cell
 pub letter-cell : (c : ℕ) → is-letter c ≡ true → c < letter-cells

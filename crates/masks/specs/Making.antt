@@ -1,5 +1,5 @@
 -- The masks that are made of first, nullable and follow are those of the tree.
-use mathlib.Core.Path.{_≡_, sym, subst, _∙_}
+use mathlib.Core.Path.{_≡_, sym, ap, subst, _∙_}
 use mathlib.Core.Bool.{Bool, true, false}
 use mathlib.Core.List.{List}
 use Prim.Native.Nat.{ℕ, _-_}
@@ -13,10 +13,10 @@ use Rattle.table.specs.CellLaws.{holds-tree, holds-good}
 use Rattle.table.specs.HandDown.{Rooted, rules-rooted}
 use Rattle.masks.specs.Nodes.{Planted}
 use Rattle.masks.specs.Planting.{root-planted}
-use Rattle.masks.specs.Leaves.{letter-cells, letter-cell}
+use Rattle.masks.specs.Leaves.{takers, letter-cells, letter-cell}
 use Rattle.masks.specs.Firsts.{Firsts}
 use Rattle.masks.specs.Follows.{Down}
-use Rattle.masks.specs.Masks.{Filled, row, comes-to-end, column, column-says, row-ends, line-takers, line-takers-are, Masks-of}
+use Rattle.masks.specs.Masks.{Filled, row, comes-to-end, column, column-says, row-ends, line-takers, line-takers-are, Leaf-masks, Masks-of}
 
 -- a good table whose lines below the count are a tree, in which each stands once
 pub record Maskable (table : List ℕ) (count : ℕ) : Type 0 where
@@ -25,25 +25,23 @@ pub record Maskable (table : List ℕ) (count : ℕ) : Type 0 where
   pub once : Planted (tree-of (line-in table) (count - 1)) count
 
 -- arrays in which nothing is marked
-pub record Blank (zs os ks : List ℕ) : Type 0 where
+pub record Blank (zs os : List ℕ) : Type 0 where
   pub zeros : Filled 0 (λ x. 0) 64 64 zs
   pub ones : Filled 0 (λ x. 0) 64 64 os
-  pub takers : Filled 0 (λ x. 0) letter-cells letter-cells ks
 
 pub none-marked : (n : ℕ) → Filled {A = ℕ} 0 (λ x. 0) n n (replicate n 0)
 none-marked n = record { long = length-replicate n 0; cells = λ x h. getD-replicate n x 0 0 h }
 
 -- the masks that are made of first, nullable and follow
 pub masks-made :
-    (table : List ℕ) (n : ℕ) → Maskable table n → (xs : List ℕ) (ns : List Bool) (bs : List ℕ) (es : List Bool) (cs ds ks : List ℕ) (e : ℕ)
+    (table : List ℕ) (n : ℕ) → Maskable table n → (xs : List ℕ) (ns : List Bool) (bs : List ℕ) (es : List Bool) (cs ds : List ℕ) (e : ℕ)
     → Firsts (line-in table) n xs ns → Down (line-in table) n 0 bs es
     → Filled 0 (column n (row xs ns bs 0)) 64 n cs → Filled 0 (column n (row xs ns bs 1)) 64 n ds
-    → Filled 0 (λ c. line-takers (line-in table) c n) letter-cells letter-cells ks → e ≡ word-of n (comes-to-end ns es)
-    → Masks-of (tree-of (line-in table) (n - 1)) n cs ds ks e
-masks-made table n m xs ns bs es cs ds ks e u d z o k w = record {
+    → e ≡ word-of n (comes-to-end ns es)
+    → Leaf-masks (tree-of (line-in table) (n - 1)) n cs ds e
+masks-made table n m xs ns bs es cs ds e u d z o w = record {
   zeros = λ x h. z .cells x h ∙ column-says (m .whole) (m .once) xs ns bs es u d false x;
   ones = λ x h. o .cells x h ∙ column-says (m .whole) (m .once) xs ns bs es u d true x;
-  letters = λ c h. k .cells c (letter-cell c h) ∙ line-takers-are (m .whole) (m .once) xs ns bs es u d c;
   ends = w ∙ row-ends (m .whole) (m .once) xs ns bs es u d;
 }
 
@@ -61,5 +59,10 @@ module _ (p : Pattern) (r : Rules p) (table : List ℕ) (h : Holds p table) wher
   }
 
   pub masks-of-pattern :
-      (zs os ks : List ℕ) (e : ℕ) → Masks-of (tree-of (line-in table) (p .count - 1)) (p .count) zs os ks e → Masks-of (root p) (p .count) zs os ks e
-  masks-of-pattern zs os ks e m = subst (λ t. Masks-of t (p .count) zs os ks e) tree-is m
+      (zs os ks : List ℕ) (e : ℕ) → Leaf-masks (tree-of (line-in table) (p .count - 1)) (p .count) zs os e
+      → Filled 0 (λ c. line-takers (line-in table) c (p .count)) letter-cells letter-cells ks → Masks-of (root p) (p .count) zs os ks e
+  masks-of-pattern zs os ks e m k = record {
+    leaves = subst (λ t. Leaf-masks t (p .count) zs os e) tree-is m;
+    letters = λ c h.
+        k .cells c (letter-cell c h) ∙ line-takers-are (holds-maskable .whole) (holds-maskable .once) c ∙ ap (λ t. takers t (p .count) c) tree-is;
+  }

@@ -22,7 +22,7 @@ use Rattle.table.specs.HandDown.{Rooted, label-of, line-made, made-has-index, G
 use Rattle.masks.specs.Nodes.{Predicate, node-word, Planted, index-lt, word-is}
 use Rattle.masks.specs.Closure.{passes, reaches, nowhere, leaf-mask, end-mask}
 use Rattle.bits.specs.Unions.{pick}
-use Rattle.masks.specs.Planting.{same-node}
+use Rattle.masks.specs.Planting.{same-node, line-place}
 use Rattle.masks.specs.Leaves.{takes, takers, entry}
 use Rattle.masks.specs.Firsts.{first-at, Firsts, behind-bit, nowhere-through}
 use Rattle.masks.specs.Follows.{follow-at, Follow-of, Down, follow-given}
@@ -59,13 +59,8 @@ node-takes (Star again a) c = false
 abbrev pub line-takers : (f : ℕ → Line) → (letter : ℕ) → (n : ℕ) → ℕ
 line-takers f c n = word-of n (λ l. node-takes (f l .node) c)
 
--- lines that are a tree in which each stands once: what the masks are made of
-module _ {f : ℕ → Line} {n : ℕ} (whole : Rooted f n) (good : Planted (tree-of f (n - 1)) n) (xs : List ℕ) (ns : List Bool) (ks : List ℕ) (es : List Bool)
-    (firsts : Firsts f n xs ns) (down : Down f n 0 ks es) where
-  -- what follows a line
-  after : (l : ℕ) → l < n → Given f n (Follow-of (tree-of f (n - 1))) (tree-of f l) (follow-at ks es l)
-  after = follow-given whole down
-
+-- lines that are a tree in which each stands once
+module _ {f : ℕ → Line} {n : ℕ} (whole : Rooted f n) (good : Planted (tree-of f (n - 1)) n) where
   -- a word by the lines is the word of a predicate, if line by line they say the same
   word-by-lines :
       (g : Predicate (tree-of f (n - 1))) (h : ℕ → Bool) → ((l : ℕ) (k : l < n) (s : Location (tree-of f (n - 1)) (tree-of f l)) → h l ≡ g (tree-of f l) s)
@@ -75,7 +70,7 @@ module _ {f : ℕ → Line} {n : ℕ} (whole : Rooted f n) (good : Planted (tree
     where
       at : (t : Tree) (s : Location (tree-of f (n - 1)) t) → index t < n → h (index t) ≡ g t s
       at t s k =
-          let q = after (index t) k .place in
+          let q = line-place whole (index t) k in
           e (index t) k q ∙ same-node good g (tree-of f (index t)) t q s (made-has-index whole (index t) k)
 
   pub line-takers-are : (c : ℕ) → line-takers f c n ≡ takers (tree-of f (n - 1)) n c
@@ -91,6 +86,13 @@ module _ {f : ℕ → Line} {n : ℕ} (whole : Rooted f n) (good : Planted (tree
       go m u (Sequence a b) = refl
       go m u (Alternative a b) = refl
       go m u (Star again a) = refl
+
+-- what the masks of leaves are made of
+module _ {f : ℕ → Line} {n : ℕ} (whole : Rooted f n) (good : Planted (tree-of f (n - 1)) n) (xs : List ℕ) (ns : List Bool) (ks : List ℕ) (es : List Bool)
+    (firsts : Firsts f n xs ns) (down : Down f n 0 ks es) where
+  -- what follows a line
+  after : (l : ℕ) → l < n → Given f n (Follow-of (tree-of f (n - 1))) (tree-of f l) (follow-at ks es l)
+  after = follow-given whole down
 
   -- what a node comes to, at the place where what follows it was found; so wherever it stands, since it stands once
   row-reaches :
@@ -108,19 +110,23 @@ module _ {f : ℕ → Line} {n : ℕ} (whole : Rooted f n) (good : Planted (tree
   pub column-says : (b : Bool) (x : ℕ) → column n (row xs ns ks (bit b)) x ≡ leaf-mask (tree-of f (n - 1)) n b x
   unfolding leaf-mask
   column-says b x =
-      word-by-lines (reaches b (eqb x) false) (λ l. test-bit (row xs ns ks (bit b) l) x)
+      word-by-lines whole good (reaches b (eqb x) false) (λ l. test-bit (row xs ns ks (bit b) l) x)
       (λ l h s. row-reaches b l x (entry ks (2 * l + bit b)) h (behind-says b l x h) s)
 
   pub row-ends : word-of n (comes-to-end ns es) ≡ end-mask (tree-of f (n - 1)) n true
   unfolding end-mask
-  row-ends = word-by-lines (reaches true nowhere true) (comes-to-end ns es) (λ l h s.
+  row-ends = word-by-lines whole good (reaches true nowhere true) (comes-to-end ns es) (λ l h s.
       ap₂ (λ x z. x && z) (firsts .right l h .nullable) (after l h .right .ends)
       ∙ sym (nowhere-through (tree-of f l) (passes true nowhere true (after l h .place)))
       ∙ same-node good (reaches true nowhere true) (tree-of f l) (tree-of f l) (after l h .place) s refl)
 
--- ---- the masks of a tree of n nodes, stored
-pub record Masks-of (root : Tree) (n : ℕ) (zs os ks : List ℕ) (e : ℕ) : Type 0 where
+-- ---- the masks of a tree of n nodes, stored: those of its leaves and of the end,
+pub record Leaf-masks (root : Tree) (n : ℕ) (zs os : List ℕ) (e : ℕ) : Type 0 where
   pub zeros : (x : ℕ) → x < n → entry zs x ≡ leaf-mask root n false x
   pub ones : (x : ℕ) → x < n → entry os x ≡ leaf-mask root n true x
-  pub letters : (c : ℕ) → is-letter c ≡ true → entry ks c ≡ takers root n c
   pub ends : e ≡ end-mask root n true
+
+-- and those of letters
+pub record Masks-of (root : Tree) (n : ℕ) (zs os ks : List ℕ) (e : ℕ) : Type 0 where
+  pub leaves : Leaf-masks root n zs os e
+  pub letters : (c : ℕ) → is-letter c ≡ true → entry ks c ≡ takers root n c

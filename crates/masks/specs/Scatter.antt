@@ -2,7 +2,7 @@
 use mathlib.Core.Path.{_≡_, refl, sym, ap, ap₂, _∙_}
 use mathlib.Core.Bool.{Bool, true, false, _&&_, _||_, not, or-false, and-true}
 use mathlib.Core.List.{List}
-use Prim.Native.Nat.{ℕ, _+_, _-_, _*_, _^_, _≤_, _<_}
+use Prim.Native.Nat.{ℕ, _+_, _-_, _*_, _^_, _≤_, _<_, min, max}
 use native.Mathlib.Omega.{arith}
 use native.Mathlib.Decide.{decLt}
 use lib.Dec.{eqb, leb, ltb}
@@ -11,13 +11,13 @@ use lib.Count.{trailingZeros}
 use lib.Pow.{pow-pos}
 use lib.ListN.{length, getD, set, length-set}
 use lib.Seq.{getD-set-same, getD-set-other}
-use borrow.Author.Tests.{lt-ltb, le-ltb, leb-true, le-leb, lt-leb, ne-eqb}
+use borrow.Author.Tests.{lt-ltb, le-ltb, le-leb, lt-leb, ne-eqb}
 use Rattle.syntax.specs.declared.Leaf.{Leaf}
 use Rattle.syntax.specs.declared.Leaf.the-variants.{Nothing, Letter, Range}
 use Rattle.syntax.specs.declared.Node.{Node}
 use Rattle.syntax.specs.declared.Node.the-variants.{Leaf as Leaf-node}
 use Rattle.syntax.specs.declared.Line.{Line}
-use Rattle.syntax.specs.LetterLaws.{between-letters}
+use Rattle.syntax.specs.LetterLaws.{letter-above, letter-below, from-first, in-gap, upto-last, range-low, range-high, range-between}
 use Rattle.syntax.specs.Letter.{is-letter, in-range}
 use Rattle.syntax.specs.Table.{leaf-good, node-good}
 use Rattle.bits.specs.Bits.{bit, test-bit, word-of}
@@ -211,7 +211,7 @@ module _ (low high i mark : ℕ) (before : List ℕ) (m : mark ≡ bit true * 2 
   pub range-end : (c : ℕ) (now : List ℕ) → high < c → Range-left c now → Marked (between low high) i before now
   range-end c now h r = marking-end (between low high) i before (between c high) now (λ x l. between-none c high x h) r
 
--- a leaf takes the letters from its first to its last
+-- a leaf of a letter takes that
 pub letter-between : (a c : ℕ) → between a a c ≡ leaf-takes (Letter a) c
 letter-between a c = go (decLt c a) (equal a c)
   where
@@ -221,25 +221,57 @@ letter-between a c = go (decLt c a) (equal a c)
     go (no u) (yes v) = ap₂ (λ x y. x && y) (le-leb a c (omega arith)) (le-leb c a (omega arith)) ∙ sym (ap (eqb a) (sym v) ∙ eqb-self a)
     go (no u) (no v) = rw (le-leb a c (omega arith), lt-leb c a (omega arith), ne-eqb a c v) refl
 
-pub range-between : (a b c : ℕ) → leaf-good (Range a b) ≡ true → between a b c ≡ leaf-takes (Range a b) c
-unfolding in-range
-range-between a b c g = go (leb a c) refl (leb c b) refl
+-- the letters of a range are those up to the gap and those behind it
+pub split-range :
+    (low high cold hot : ℕ) → is-letter low ≡ true → is-letter high ≡ true → cold ≡ min high 126 → hot ≡ max low 161 → (c : ℕ)
+    → (between low cold c || between hot high c) ≡ in-range low high c
+split-range low high cold hot gl gh ec eh c = go (letter-above low gl) (letter-below high gh) (decLt c low) (decLt high c) (decLt 126 c) (decLt c 161)
   where
-    ends : (is-letter a && is-letter b) ≡ true
-    ends = and-fst (is-letter a && is-letter b) (leb a b) g
+    gone : (a b : Bool) → ((a && false) || (b && false)) ≡ false
+    gone true true = refl
+    gone true false = refl
+    gone false true = refl
+    gone false false = refl
 
-    inside : leb a c ≡ true → leb c b ≡ true → is-letter c ≡ true
-    inside e f =
-        between-letters a b c (and-fst (is-letter a) (is-letter b) ends) (and-snd (is-letter a) (is-letter b) ends) (leb-true a c e) (leb-true c b f)
+    go : 33 ≤ low → high < 255 → Dec (c < low) → Dec (high < c) → Dec (126 < c) → Dec (c < 161)
+        → ((leb low c && leb c cold) || (leb hot c && leb c high)) ≡ in-range low high c
+    go u v (yes a) q s t = rw (lt-leb low c a, lt-leb hot c (omega arith)) (range-low low high c a)
+    go u v (no a) (yes b) s t =
+        rw (lt-leb c cold (omega arith), lt-leb c high b) (gone (leb low c) (leb hot c) ∙ range-high low high c (omega arith) b)
+    go u v (no a) (no b) (no s) t =
+        rw (le-leb low c (omega arith), le-leb c cold (omega arith))
+        (sym (le-leb 33 c (omega arith)) ∙ from-first c (omega arith) ∙ range-between low high c (omega arith) (omega arith))
+    go u v (no a) (no b) (yes s) (yes t) =
+        rw (le-leb low c (omega arith), lt-leb c cold (omega arith), lt-leb hot c (omega arith))
+        (in-gap c s t ∙ range-between low high c (omega arith) (omega arith))
+    go u v (no a) (no b) (yes s) (no t) =
+        rw (le-leb low c (omega arith), lt-leb c cold (omega arith), le-leb hot c (omega arith), le-leb c high (omega arith))
+        (sym (le-leb c 254 (omega arith)) ∙ upto-last c (omega arith) ∙ range-between low high c (omega arith) (omega arith))
 
-    none : (v : Bool) → false ≡ (v && false)
-    none true = refl
-    none false = refl
+-- marked in two goes
+pub marked-both :
+    (f g : ℕ → Bool) (i : ℕ) (before mid now : List ℕ) → Marked f i before mid → Marked g i mid now → Marked (λ x. f x || g x) i before now
+marked-both f g i before mid now m n = record {
+  long = n .long ∙ m .long;
+  bits = λ x h l.
+      n .bits x (omega (arith, m .long)) l ∙ ap (λ z. z || (g x && eqb i l)) (m .bits x h l)
+      ∙ join (test-bit (entry before x) l) (f x) (g x) (eqb i l);
+}
+  where
+    join : (a u v e : Bool) → ((a || (u && e)) || (v && e)) ≡ (a || ((u || v) && e))
+    join true u v e = refl
+    join false false v e = refl
+    join false true v true = refl
+    join false true true false = refl
+    join false true false false = refl
 
-    go : (x : Bool) → leb a c ≡ x → (y : Bool) → leb c b ≡ y → (x && y) ≡ (is-letter c && (x && y))
-    go true e true f = sym (ap (λ v. v && true) (inside e f))
-    go true e false f = none (is-letter c)
-    go false e y f = none (is-letter c)
+-- so a range is marked by both calls; `end` is where the second one ends
+pub range-marked :
+    (low high cold hot end i : ℕ) (before mid now : List ℕ) → is-letter low ≡ true → is-letter high ≡ true → cold ≡ min high 126 → hot ≡ max low 161
+    → Marked (between low cold) i before mid → Marked (between hot end) i mid now → end ≡ high → Marked (in-range low high) i before now
+range-marked low high cold hot end i before mid now gl gh ec eh m n e =
+    marked-same (λ c. between low cold c || between hot high c) (in-range low high) i before now (split-range low high cold hot gl gh ec eh)
+    (marked-both (between low cold) (between hot high) i before mid now m (rw e at n))
 
 pub leaf-nothing : (leaf : Leaf) (i : ℕ) (cells : List ℕ) → leaf ≡ Nothing → Marked (leaf-takes leaf) i cells cells
 leaf-nothing leaf i cells e = rw e (marked-none i cells)
@@ -249,16 +281,18 @@ pub leaf-letter :
 leaf-letter leaf i before now a e m = rw e (marked-same (between a a) (leaf-takes (Letter a)) i before now (letter-between a) m)
 
 pub leaf-range :
-    (leaf : Leaf) (i : ℕ) (before now : List ℕ) (a b : ℕ) → leaf-good leaf ≡ true → leaf ≡ Range a b → Marked (between a b) i before now
-    → Marked (leaf-takes leaf) i before now
-leaf-range leaf i before now a b g e m = rw e (marked-same (between a b) (leaf-takes (Range a b)) i before now (λ c. range-between a b c (rw e at g)) m)
+    (leaf : Leaf) (i : ℕ) (before now : List ℕ) (a b : ℕ) → leaf ≡ Range a b → Marked (in-range a b) i before now → Marked (leaf-takes leaf) i before now
+leaf-range leaf i before now a b e m = rw e (marked-same (in-range a b) (leaf-takes (Range a b)) i before now (λ c. refl) m)
 
 -- the letters of a good leaf have their cells
 pub leaf-cell : (leaf : Leaf) (a : ℕ) → leaf-good leaf ≡ true → leaf ≡ Letter a → a < letter-cells
 leaf-cell leaf a g e = letter-cell a (rw e at g)
 
-pub range-cell : (leaf : Leaf) (a b : ℕ) → leaf-good leaf ≡ true → leaf ≡ Range a b → b < letter-cells
-range-cell leaf a b g e = letter-cell b (and-snd (is-letter a) (is-letter b) (and-fst (is-letter a && is-letter b) (leb a b) (rw e at g)))
+-- and a range's ends are letters
+pub range-ends : (leaf : Leaf) (a b : ℕ) → leaf-good leaf ≡ true → leaf ≡ Range a b → (is-letter a ≡ true) × (is-letter b ≡ true)
+range-ends leaf a b g e =
+    let h = and-fst (is-letter a && is-letter b) (leb a b) (rw e at g) in
+    (and-fst (is-letter a) (is-letter b) h, and-snd (is-letter a) (is-letter b) h)
 
 pub node-leaf :
     (node : Node) (i : ℕ) (before now : List ℕ) (x : Leaf) → node ≡ Leaf-node x → Marked (leaf-takes x) i before now

@@ -7,34 +7,26 @@
 ghost use Prim.Native.Nat.{_-_};
 ghost use Rattle.syntax.specs.Trees.{tree-of};
 ghost use Rattle.table.specs.Cells.{line-in};
-ghost use Rattle.masks.specs.Masks.{Masks-of};
+ghost use Rattle.masks.specs.Masks.{Leaf-masks};
 ghost use Rattle.masks.specs.Making.{Maskable, Blank};
 
 mod firsts; // firsts.rt: first and nullable, what each node comes to inside itself
 mod follows; // follows.rt: follow, what each node comes to behind itself
-mod scatter; // scatter.rt: each line's bit, to the leaves and letters it belongs to
+pub mod scatter; // scatter.rt: each line's bit, to the leaves and letters it belongs to
 mod word; // word.rt: bits of words
 
 use firsts::put_firsts;
 use follows::put_follows;
 use scatter::ends_of;
 use scatter::put_columns;
-use scatter::put_takers;
 
 // A cell for each letter: letters are below this.
-pub const LETTER_CELLS: usize = 128;
+pub const LETTER_CELLS: usize = 256;
 
-// Makes the sets of the lines below count, into lent arrays of zeros. Gives the flag 1 state set of the tape's end.
-pub fn put_masks(
-    table: &[u64; 64],
-    count: usize,
-    zero: &mut [u64; 64],
-    one: &mut [u64; 64],
-    takers: &mut [u64; LETTER_CELLS],
-) -> u64
-    requires { ⌜ Maskable (now table) count × Blank (now zero) (now one) (now takers) ⌝ }
-    ensures { λ r.
-        ⌜ Masks-of (tree-of (line-in (now (table .entry))) (count - 1)) count (now (zero .exit)) (now (one .exit)) (now (takers .exit)) r ⌝ }
+// Makes the sets of the leaves among the lines below count, into lent arrays of zeros. Gives the flag 1 state set of the tape's end.
+pub fn put_masks(table: &[u64; 64], count: usize, zero: &mut [u64; 64], one: &mut [u64; 64]) -> u64
+    requires { ⌜ Maskable (now table) count × Blank (now zero) (now one) ⌝ }
+    ensures { λ r. ⌜ Leaf-masks (tree-of (line-in (now (table .entry))) (count - 1)) count (now (zero .exit)) (now (one .exit)) r ⌝ }
 {
     let mut firsts = [0u64; 64];
     let mut nullable = [false; 64];
@@ -44,6 +36,5 @@ pub fn put_masks(
     put_follows(table, count, &firsts, &nullable, &mut behind, &mut ends);
     put_columns(count, &firsts, &nullable, &behind, 0, zero);
     put_columns(count, &firsts, &nullable, &behind, 1, one);
-    put_takers(table, count, takers);
     ends_of(count, &nullable, &ends)
 }

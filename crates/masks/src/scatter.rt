@@ -3,6 +3,7 @@ ghost use mathlib.Core.Path.{_≡_};
 ghost use mathlib.Core.Bool.{true};
 ghost use Prim.Native.Nat.{_<_, _≤_};
 ghost use lib.ListN.{length};
+ghost use Rattle.syntax.specs.Letter.{is-letter, in-range};
 ghost use Rattle.syntax.specs.Table.{leaf-good, node-good};
 ghost use Rattle.bits.specs.Bits.{test-bit, word-of};
 ghost use Rattle.table.specs.Cells.{line-in, Good};
@@ -12,9 +13,12 @@ ghost use Rattle.masks.specs.Scatter.{Marked, between};
 use super::LETTER_CELLS;
 use super::word::both;
 use super::word::join;
+use super::word::least;
+use super::word::most;
 use super::word::single;
 use syntax::Leaf;
 use syntax::Node;
+use syntax::Pattern;
 use table::node_at;
 
 // Joins the bit of line i to the cells of a row: those whose bits are set in it.
@@ -68,8 +72,8 @@ pub(crate) fn ends_of(count: usize, nullable: &[bool; 64], ends: &[bool; 64]) ->
     word
 }
 
-// Joins the bit of line i to the cells of the letters from low to high.
-fn put_range(cells: &mut [u64; LETTER_CELLS], low: u8, high: u8, i: usize)
+// Joins the bit of line i to the cells from low to high, to none where high is below low.
+fn put_between(cells: &mut [u64; LETTER_CELLS], low: u8, high: u8, i: usize)
     requires { ⌜ (i < 64) × (high < letter-cells) × (length (now cells) ≡ letter-cells) ⌝ }
     ensures { λ _. ⌜ Marked (between low high) i (now (cells .entry)) (now (cells .exit)) ⌝ }
 {
@@ -82,13 +86,24 @@ fn put_range(cells: &mut [u64; LETTER_CELLS], low: u8, high: u8, i: usize)
     }
 }
 
+// Joins the bit of line i to the cells of the letters from low to high: those up to the gap, then those behind it.
+fn put_range(cells: &mut [u64; LETTER_CELLS], low: u8, high: u8, i: usize)
+    requires { ⌜ (i < 64) × (length (now cells) ≡ letter-cells) × (is-letter low ≡ true) × (is-letter high ≡ true) ⌝ }
+    ensures { λ _. ⌜ Marked (in-range low high) i (now (cells .entry)) (now (cells .exit)) ⌝ }
+{
+    let cold = least(high, Pattern::LAST_LETTER);
+    let hot = most(low, Pattern::FIRST_HOT_LETTER);
+    put_between(cells, low, cold, i);
+    put_between(cells, hot, high, i);
+}
+
 fn put_leaf(cells: &mut [u64; LETTER_CELLS], leaf: Leaf, i: usize)
     requires { ⌜ (i < 64) × (length (now cells) ≡ letter-cells) × (leaf-good leaf ≡ true) ⌝ }
     ensures { λ _. ⌜ Marked (leaf-takes leaf) i (now (cells .entry)) (now (cells .exit)) ⌝ }
 {
     match leaf {
         Leaf::Nothing => {}
-        Leaf::Letter(c) => put_range(cells, c, c, i),
+        Leaf::Letter(c) => put_between(cells, c, c, i),
         Leaf::Range(low, high) => put_range(cells, low, high, i),
     }
 }
@@ -106,8 +121,9 @@ fn put_node(cells: &mut [u64; LETTER_CELLS], node: Node, i: usize)
     }
 }
 
-// For each letter the leaves that take it.
-pub(crate) fn put_takers(table: &[u64; 64], count: usize, takers: &mut [u64; LETTER_CELLS])
+// For each letter the leaves that take it, into a lent array of zeros. It is not part of `put_masks`, so that its cells can lie where the arrays
+// lay that the other masks are made from.
+pub fn put_takers(table: &[u64; 64], count: usize, takers: &mut [u64; LETTER_CELLS])
     requires { ⌜ (count ≤ 64) × Good (now table) × Filled 0 (λ x. 0) letter-cells letter-cells (now takers) ⌝ }
     ensures { λ _. ⌜ Filled 0 (λ c. line-takers (line-in (now (table .entry))) c count) letter-cells letter-cells (now (takers .exit)) ⌝ }
 {

@@ -1,7 +1,7 @@
 // Small functions on words and truth values.
 ghost use mathlib.Core.Path.{_≡_};
 ghost use mathlib.Core.Bool.{_&&_, _||_};
-ghost use Prim.Native.Nat.{_*_, _^_, _<_};
+ghost use Prim.Native.Nat.{_*_, _^_, _<_, min, max};
 ghost use lib.Bits.{bitOr};
 ghost use Rattle.bits.specs.Bits.{bit};
 ghost use Rattle.bits.specs.Unions.{pick};
@@ -23,6 +23,18 @@ pub(crate) fn either(x: bool, y: bool) -> bool
     ensures { λ r. ⌜ r ≡ (x || y) ⌝ }
 {
     if x { true } else { y }
+}
+
+pub(crate) fn least(a: u8, b: u8) -> u8
+    ensures { λ r. ⌜ r ≡ min a b ⌝ }
+{
+    if a < b { a } else { b }
+}
+
+pub(crate) fn most(a: u8, b: u8) -> u8
+    ensures { λ r. ⌜ r ≡ max a b ⌝ }
+{
+    if a < b { b } else { a }
 }
 
 // The word with bit l only, or with none.

@@ -2,7 +2,7 @@
 // Everything else speaks of patterns, and this crate needs nothing. A table can be made by hand, so every service asks `obeys_rules`; its
 // promise is one truth value for the code, and law `obeys-iff` gives proofs the rules as facts.
 ghost use mathlib.Core.Path.{_≡_};
-ghost use Rattle.syntax.specs.Letter.{is-letter, first-bad};
+ghost use Rattle.syntax.specs.Letter.{is-letter, in-range, first-bad};
 ghost use Rattle.syntax.specs.Table.{no-lines, obeys};
 
 pub mod naming; // naming.rt: which nodes are named as parts
@@ -56,6 +56,11 @@ impl Pattern {
 
     pub const LAST_LETTER: u8 = 126;
 
+    // Letters of the hot side lie above a gap of bytes that are no letters.
+    pub const FIRST_HOT_LETTER: u8 = 161;
+
+    pub const LAST_HOT_LETTER: u8 = 254;
+
     // A table of no lines, which obeys no pattern rules: what a refused load gives.
     pub fn new() -> Pattern
         ensures { λ r. ⌜ r ≡ no-lines ⌝ }
@@ -73,10 +78,26 @@ impl Pattern {
 pub fn is_letter(c: u8) -> bool
     ensures { λ r. ⌜ r ≡ is-letter c ⌝ }
 {
-    if c < Pattern::FIRST_LETTER {
+    if c <= Pattern::LAST_LETTER {
+        return Pattern::FIRST_LETTER <= c;
+    }
+    if c < Pattern::FIRST_HOT_LETTER {
         return false;
     }
-    c <= Pattern::LAST_LETTER
+    c <= Pattern::LAST_HOT_LETTER
+}
+
+// Whether a byte is a letter of a range. A range may run across the gap, so that what lies between its ends is not always a letter.
+pub fn in_range(low: u8, high: u8, c: u8) -> bool
+    ensures { λ r. ⌜ r ≡ in-range low high c ⌝ }
+{
+    if c < low {
+        return false;
+    }
+    if high < c {
+        return false;
+    }
+    is_letter(c)
 }
 
 // The position of the first byte that is no letter, the tape's length where there is none.

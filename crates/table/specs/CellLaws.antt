@@ -307,8 +307,5 @@ module _ {table : List ℕ} (good : Good table) (l : ℕ) (h : l < 64) where
     pub line-lower : Below l n
     line-lower = rw e (good .lower l h)
 
-    pub line-formed : node-good n ≡ true
-    line-formed = ap node-good e ∙ good .formed l h
-
   pub line-index : index (tree-in table l) ≡ l
   line-index = ap index (line-tree (node-in table l) refl) ∙ made-index (record { index = l; account = account-in table l }) (tree-in table) (node-in table l)

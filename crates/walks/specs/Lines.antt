@@ -1,26 +1,20 @@
 -- What is spelled at a line of the columns, in terms of its parts' lines: one equation for each way of a walk.
 use mathlib.Core.Path.{_≡_, refl, sym, ap, subst, _∙_}
-use mathlib.Core.Bool.{Bool, true, false, cond, _&&_}
+use mathlib.Core.Bool.{Bool, true, false, cond}
 use mathlib.Core.Option.{none}
 use mathlib.Core.List.{List}
 use Prim.Native.Nat.{ℕ, _+_, _*_, _≤_, _<_}
-use lib.Dec.{leb}
-use borrow.Author.Tests.{le-leb, lt-leb}
 use lib.ListN.{length}
 use Rattle.syntax.specs.declared.Leaf.{Leaf}
 use Rattle.syntax.specs.declared.Leaf.the-variants.{Range}
 use Rattle.syntax.specs.declared.Node.{Node}
 use Rattle.syntax.specs.declared.Node.the-variants.{Leaf as Leaf-node, Sequence, Alternative, Star}
-use Rattle.syntax.specs.Bools.{and-fst, and-snd}
-use Rattle.syntax.specs.Letter.{is-letter, in-range}
-use Rattle.syntax.specs.LetterLaws.{between-letters}
-use Rattle.syntax.specs.Table.{leaf-good, node-good}
 use Rattle.syntax.specs.Tree.{Label, Tree, star}
 use Rattle.syntax.specs.Trees.{made}
 use Rattle.syntax.specs.TreeLaws.{Below}
 use Rattle.bits.specs.Bits.{bit-at}
 use Rattle.table.specs.Cells.{node-in, account-in, tree-in, Good}
-use Rattle.table.specs.CellLaws.{line-tree, line-lower, line-formed}
+use Rattle.table.specs.CellLaws.{line-tree, line-lower}
 use Rattle.walks.specs.Words.{word-at, word-then, word-seq, word-alt-none, word-side}
 
 -- names for the clauses of the source, where `Leaf` and `Range` cannot be imported beside the types
@@ -30,37 +24,8 @@ leaf-node x = Leaf-node x
 abbrev pub range-node : (low high : ℕ) → Leaf
 range-node a b = Range a b
 
--- ── a byte in a range of letters ──
-module _ (low high c : ℕ) (g : leaf-good (Range low high) ≡ true) where
-  -- both ends are letters, so what is between them is one
-  pub in-range-yes : low ≤ c → c ≤ high → in-range low high c ≡ true
-  unfolding in-range
-  in-range-yes a b =
-      let ends = and-fst (is-letter low && is-letter high) (leb low high) g in
-      let l = between-letters low high c (and-fst (is-letter low) (is-letter high) ends) (and-snd (is-letter low) (is-letter high) ends) a b in
-      rw (l, le-leb low c a, le-leb c high b)
-
-  pub in-range-low : c < low → in-range low high c ≡ false
-  unfolding in-range
-  in-range-low a = rw (lt-leb low c a) (and-no (is-letter c))
-    where
-      and-no : (b : Bool) → (b && false) ≡ false
-      and-no true = refl
-      and-no false = refl
-
-  pub in-range-high : low ≤ c → high < c → in-range low high c ≡ false
-  unfolding in-range
-  in-range-high a b = rw (le-leb low c a, lt-leb c high b) (and-no (is-letter c))
-    where
-      and-no : (b : Bool) → (b && false) ≡ false
-      and-no true = refl
-      and-no false = refl
-
--- ── what a walk may take from a line: its letters are letters, its parts stand below it ──
+-- ── what a walk may take from a line: its parts stand below it ──
 module _ {table : List ℕ} (good : Good table) (l : ℕ) (s : l < 64) (n : Node) (en : n ≡ node-in table l) where
-  pub leaf-formed : (x : Leaf) → n ≡ Leaf-node x → leaf-good x ≡ true
-  leaf-formed x e = ap node-good (sym e) ∙ line-formed good l s n en
-
   lower : (k : Node) → n ≡ k → Below l k
   lower k e = subst (Below l) e (line-lower good l s n en)
 

@@ -2,11 +2,10 @@
 // What a whole code is (specs/Whole) is said here for every service on codes. Letters are counted up to 3,601: a letter takes no bit, so that
 // their number has no bound that is linear in the code. A walk that fails answers one value, which its caller hands on.
 ghost use mathlib.Core.Path.{_≡_};
-ghost use mathlib.Core.Bool.{true, cond};
+ghost use mathlib.Core.Bool.{cond};
 ghost use Prim.Native.Nat.{ℕ, _+_, _*_, _≤_, _<_};
 ghost use lib.ListN.{length};
 ghost use Rattle.syntax.specs.Letter.{letter-limit};
-ghost use Rattle.syntax.specs.Table.{leaf-good};
 ghost use Rattle.syntax.specs.Tree.{Label, Tree};
 ghost use Rattle.syntax.specs.Trees.{made};
 ghost use Rattle.bits.specs.Bits.{bit-at};
@@ -20,6 +19,7 @@ use bits::byte_at;
 use syntax::Leaf;
 use syntax::Node;
 use syntax::Pattern;
+use syntax::in_range;
 use table::node_at;
 
 // Where the bits of a node stop, and how many letters they spell, or that they are not all there.
@@ -91,7 +91,6 @@ pub fn stops_at(code: &[u8], at: u32, again: bool) -> bool
 
 // A range takes eight bits, and only a letter of the range is a reading.
 fn walk_range(low: u8, high: u8, code: &[u8], count: u32, at: u32) -> Walked
-    requires { ⌜ leaf-good (range-node low high) ≡ true ⌝ }
     requires { ⌜ (at ≤ count) × (count ≤ 8 * length (now code)) × (count ≤ code-limit) ⌝ }
     ensures { λ r. ⌜ ((m : Label) (f : ℕ → Tree) → r ≡ walked (now (code .entry)) count (made m f (leaf-node (range-node low high))) at) ⌝ }
 {
@@ -99,17 +98,13 @@ fn walk_range(low: u8, high: u8, code: &[u8], count: u32, at: u32) -> Walked
         return failed(count);
     }
     let c = byte_at(code, at);
-    if c < low {
-        return failed(count);
-    }
-    if high < c {
+    if !in_range(low, high, c) {
         return failed(count);
     }
     went(at + 8, 1)
 }
 
 fn walk_leaf(leaf: Leaf, code: &[u8], count: u32, at: u32) -> Walked
-    requires { ⌜ leaf-good leaf ≡ true ⌝ }
     requires { ⌜ (at ≤ count) × (count ≤ 8 * length (now code)) × (count ≤ code-limit) ⌝ }
     ensures { λ r. ⌜ ((m : Label) (f : ℕ → Tree) → r ≡ walked (now (code .entry)) count (made m f (leaf-node leaf)) at) ⌝ }
 {

@@ -2,7 +2,6 @@
 use Rattle.bits.specs.Bits.{bit-at}
 use Rattle.semantics.specs.Code.{code-limit}
 use Rattle.table.specs.Cells.{tree-in}
-use Rattle.walks.specs.Lines.{leaf-formed}
 use Rattle.entries.specs.Entering.{At-line, line-known, first-below, second-below, side-below, star-below}
 use Rattle.entries.specs.Entering.{leaf-is, seq-is, side-is, stop-is, round-is, alt-none-is, star-none-is}
 use Rattle.entries.specs.Entering.{ready-at, enters-stays, enters-ready, not-entered, none-entered, first-failed, both-entered, same-entered}
@@ -113,9 +112,8 @@ put-leaf-requires : (t : ℕ) → lts.Need-put-leaf-requires (given t) (called t
 put-leaf-requires t c κs =
     let at-leaf = c .before .before .before in
     let d = at-leaf .before .before in
-    let known = line t d in
     let begin = start t d in
-    (leaf-formed (known .good) _ (known .below) _ (known .node) _ (at-leaf .leaf .given .1), begin .pre .1 .1)
+    begin .pre .1 .1
 
 enum-known-p : (t : ℕ) → lts.Need-enum-known-p (given t) (called t) reads.Post Inv μ-loop
 enum-known-p t c = search needs

@@ -1,6 +1,4 @@
 -- `entries::put_leaf` meets its contract.
-use mathlib.Core.Path.{sym, ap, _∙_}
-use Rattle.syntax.specs.Table.{leaf-good}
 use Rattle.entries.specs.Entries.{entries-nothing, entries-letter}
 use Rattle.entries.specs.Entering.{none-entered, one-entered}
 use borrow.Author.Needs.{needs}
@@ -16,7 +14,7 @@ enum-known-leaf c = search needs
 put-entry-requires : tie.Need-put-entry-requires
 put-entry-requires c κs =
     let begin = c .before .before .before .before .before .before .before .before in
-    begin .pre .1 .few
+    begin .pre .few
 
 enum-known-leaf-2 : tie.Need-enum-known-leaf-2
 enum-known-leaf-2 c = search needs
@@ -25,12 +23,12 @@ put-range-requires : tie.Need-put-range-requires
 put-range-requires c κs =
     let at-leaf2 = c .before .before .before in
     let begin = at-leaf2 .before .before .before .before .before in
-    (ap leaf-good (sym (at-leaf2 .leaf2 .given .1)) ∙ begin .pre .0, begin .pre .1)
+    begin .pre
 
 returns : tie.Need-returns
 returns c =
     let begin = c .before .before .before .before .before in
-    none-entered _ _ (begin .pre .1 .few) (entries-nothing _ _ _ _ (c .enum-told .given .1) (begin .pre .1 .within))
+    none-entered _ _ (begin .pre .few) (entries-nothing _ _ _ _ (c .enum-told .given .1) (begin .pre .within))
 
 same-length : tie.Need-same-length
 same-length c = search needs
@@ -43,7 +41,7 @@ returns-2 c =
     let at-put-entry = c .before .before .before .before in
     let at-leaf = at-put-entry .before .before .before .before in
     let begin = at-leaf .before .before .before .before .before in
-    one-entered (entries-letter _ _ _ _ _ (at-leaf .leaf .given .1) (begin .pre .1 .within))
+    one-entered (entries-letter _ _ _ _ _ (at-leaf .leaf .given .1) (begin .pre .within))
     (at-put-entry .put-entry .ensures .0) (at-put-entry .put-entry .ensures .1) (at-put-entry .put-entry .ensures .2)
 
 same-length-3 : tie.Need-same-length-3

@@ -1,7 +1,7 @@
 -- `entries::put_range` meets its contract.
-use mathlib.Core.Path.{refl}
+use mathlib.Core.Path.{refl, sym, _∙_}
 use native.Mathlib.Omega.{arith}
-use Rattle.walks.specs.Lines.{in-range-yes, in-range-low, in-range-high}
+use borrow.Author.Tests.{not-true, not-false}
 use Rattle.entries.specs.Entries.{entries-short, entries-range, entries-outside}
 use Rattle.entries.specs.Entering.{not-entered, one-entered}
 use borrow.Author.Needs.{needs}
@@ -9,12 +9,12 @@ use Rattle.entries.proofs.put_range.Statement.{statement}
 use Rattle.entries.proofs.put_range.Tie as tie
 
 bits-in-requires : tie.Need-bits-in-requires
-bits-in-requires c κs = c .before .before .before .pre .1 .short
+bits-in-requires c κs = c .before .before .before .pre .short
 
 add-if1 : tie.Need-add-if1
 add-if1 c =
     let begin = c .before .before .before .before in
-    omega (arith, begin .pre .1 .within, begin .pre .1 .short)
+    omega (arith, begin .pre .within, begin .pre .short)
 
 failed-requires : tie.Need-failed-requires
 failed-requires c κs = search needs
@@ -27,44 +27,32 @@ returns c =
 byte-at-requires : tie.Need-byte-at-requires
 byte-at-requires c κs = omega (arith, c .if1 .left, c .before .bits-in .ensures)
 
+in-range-requires : tie.Need-in-range-requires
+in-range-requires c κs = search needs
+
 failed-requires-2 : tie.Need-failed-requires-2
 failed-requires-2 c κs = search needs
 
 returns-2 : tie.Need-returns-2
 returns-2 c =
     let at-then2 = c .before in
-    let at-byte-at = at-then2 .before in
+    let at-in-range = at-then2 .before in
+    let at-byte-at = at-in-range .before in
     let at-else1 = at-byte-at .before in
     let at-bits-in = at-else1 .before in
-    let begin = at-bits-in .before .before .before .before in
-    let out = in-range-low _ _ _ (begin .pre .0) (at-then2 .if2 .taken) in
+    let out = sym (at-in-range .in-range .ensures) ∙ not-true _ (at-then2 .if2 .taken) in
     not-entered refl refl (c .failed2 .ensures)
-    (entries-outside _ _ _ _ _ _ (omega (arith, at-else1 .if1 .left, at-bits-in .bits-in .ensures)) (at-byte-at .byte-at .ensures) out)
-
-failed-requires-3 : tie.Need-failed-requires-3
-failed-requires-3 c κs = search needs
-
-returns-3 : tie.Need-returns-3
-returns-3 c =
-    let at-then3 = c .before in
-    let at-else2 = at-then3 .before in
-    let at-byte-at = at-else2 .before in
-    let at-else1 = at-byte-at .before in
-    let at-bits-in = at-else1 .before in
-    let begin = at-bits-in .before .before .before .before in
-    let out = in-range-high _ _ _ (begin .pre .0) (at-else2 .if2 .left) (at-then3 .if3 .taken) in
-    not-entered refl refl (c .failed3 .ensures)
     (entries-outside _ _ _ _ _ _ (omega (arith, at-else1 .if1 .left, at-bits-in .bits-in .ensures)) (at-byte-at .byte-at .ensures) out)
 
 add-put-entry : tie.Need-add-put-entry
 add-put-entry c =
     let begin = c .before .before .before .before .before .before .before .before .before .before in
-    omega (arith, begin .pre .1 .within, begin .pre .1 .short)
+    omega (arith, begin .pre .within, begin .pre .short)
 
 put-entry-requires : tie.Need-put-entry-requires
 put-entry-requires c κs =
     let begin = c .before .before .before .before .before .before .before .before .before .before in
-    begin .pre .1 .few
+    begin .pre .few
 
 same-length : tie.Need-same-length
 same-length c = search needs
@@ -72,16 +60,15 @@ same-length c = search needs
 same-length-2 : tie.Need-same-length-2
 same-length-2 c = search needs
 
-returns-4 : tie.Need-returns-4
-returns-4 c =
+returns-3 : tie.Need-returns-3
+returns-3 c =
     let at-put-entry = c .before .before .before .before in
-    let at-else3 = at-put-entry .before .before .before in
-    let at-else2 = at-else3 .before in
-    let at-byte-at = at-else2 .before in
+    let at-else2 = at-put-entry .before .before .before in
+    let at-in-range = at-else2 .before in
+    let at-byte-at = at-in-range .before in
     let at-else1 = at-byte-at .before in
     let at-bits-in = at-else1 .before in
-    let begin = at-bits-in .before .before .before .before in
-    let inside = in-range-yes _ _ _ (begin .pre .0) (at-else2 .if2 .left) (at-else3 .if3 .left) in
+    let inside = sym (at-in-range .in-range .ensures) ∙ not-false _ (at-else2 .if2 .left) in
     one-entered (entries-range _ _ _ _ _ _ (omega (arith, at-else1 .if1 .left, at-bits-in .bits-in .ensures)) (at-byte-at .byte-at .ensures) inside)
     (at-put-entry .put-entry .ensures .0) (at-put-entry .put-entry .ensures .1) (at-put-entry .put-entry .ensures .2)
 
@@ -94,12 +81,11 @@ put-range-spec =
     failed-requires
     returns
     byte-at-requires
+    in-range-requires
     failed-requires-2
     returns-2
-    failed-requires-3
-    returns-3
     add-put-entry
     put-entry-requires
     same-length
     same-length-2
-    returns-4)
+    returns-3)

@@ -25,27 +25,20 @@ put-columns-requires-2 c κs =
     let s = c .before .before .before .before .before .before .before .before .before .before .before .before .before .before .before .before .before in
     (s .pre .0 .whole .few, omega arith, s .pre .1 .ones)
 
-put-takers-requires : tie.Need-put-takers-requires
-put-takers-requires c κs =
-    let zeros = c .before .before .before .before .before .before in
-    let s = zeros .before .before .before .before .before .before .before .before .before .before .before .before .before in
-    (s .pre .0 .whole .few, s .pre .0 .good, s .pre .1 .takers)
-
 ends-of-requires : tie.Need-ends-of-requires
 ends-of-requires c κs =
-    let zeros = c .before .before .before .before .before .before .before .before .before in
+    let zeros = c .before .before .before .before .before .before .before in
     zeros .before .before .before .before .before .before .before .before .before .before .before .before .before .pre .0 .whole .few
 
 returns : tie.Need-returns
 returns c =
-    let takers = c .before .before .before in
-    let ones = takers .before .before in
+    let ones = c .before .before .before in
     let zeros = ones .before .before .before .before .before in
     let follows = zeros .before .before .before .before .before in
     let firsts = follows .before .before .before .before .before in
-    masks-made _ _ (firsts .before .before .before .pre .0) _ _ _ _ _ _ _ _ (firsts .put-firsts .ensures) (follows .put-follows .ensures)
-    (zeros .put-columns .ensures) (ones .put-columns2 .ensures) (takers .put-takers .ensures) (c .ends-of .ensures)
+    masks-made _ _ (firsts .before .before .before .pre .0) _ _ _ _ _ _ _ (firsts .put-firsts .ensures) (follows .put-follows .ensures)
+    (zeros .put-columns .ensures) (ones .put-columns2 .ensures) (c .ends-of .ensures)
 
 pub put-masks-spec : {M : Type 1} → statement M
 put-masks-spec =
-    tie.close (tie.spec put-firsts-requires put-follows-requires put-columns-requires put-columns-requires-2 put-takers-requires ends-of-requires returns)
+    tie.close (tie.spec put-firsts-requires put-follows-requires put-columns-requires put-columns-requires-2 ends-of-requires returns)

@@ -3,7 +3,7 @@ use Rattle.bits.specs.Bits.{bit-at}
 use Rattle.walks.specs.Walks.{walked, walk-stays, walk-is, walk-same, first-no, second, Rounds, rounds-start, rounds-stop, rounds-none}
 use Rattle.walks.specs.Walks.{rounds-no, rounds-more}
 use Rattle.walks.specs.Words.{star-none-is, stop-is, round-is}
-use Rattle.walks.specs.Lines.{line-as, seq-is, alt-none-is, side-is, side-lower, star-as, leaf-formed, first-lower, second-lower, star-lower}
+use Rattle.walks.specs.Lines.{line-as, seq-is, alt-none-is, side-is, side-lower, star-as, first-lower, second-lower, star-lower}
 use Rattle.table.specs.Cells.{tree-in}
 use borrow.Author.Tests.{not-true, not-false}
 use mathlib.Core.Path.{sym, ap, _∙_}
@@ -71,11 +71,7 @@ walk-enum-known-node : (t : ℕ) → walk-lts.Need-enum-known-node (given t) (wa
 walk-enum-known-node t c = search needs
 
 walk-walk-leaf-requires : (t : ℕ) → walk-lts.Need-walk-leaf-requires (given t) (walk-at t) walk.Post walk-Inv-loop walk-μ-loop
-walk-walk-leaf-requires t c κs = (
-  leaf-formed (c .before .before .before .before .before .pre .1 .0) _ (omega arith) _ (c .before .before .before .node-at .ensures) _
-      (c .before .node .given .1),
-  omega arith,
-)
+walk-walk-leaf-requires t c κs = omega arith
 
 walk-enum-known-node-2 : (t : ℕ) → walk-lts.Need-enum-known-node-2 (given t) (walk-at t) walk.Post walk-Inv-loop walk-μ-loop
 walk-enum-known-node-2 t c = search needs

@@ -1,8 +1,7 @@
 -- `walks::walk_leaf` meets its contract.
 use Rattle.walks.specs.Walks.{walk-is}
 use Rattle.walks.specs.Words.{word-nothing, word-letter}
-use Rattle.syntax.specs.Table.{leaf-good}
-use mathlib.Core.Path.{sym, ap, _∙_}
+use mathlib.Core.Path.{_∙_}
 use native.Mathlib.Omega.{arith}
 use borrow.Author.Needs.{needs}
 use Rattle.walks.proofs.walk_leaf.Statement.{statement}
@@ -24,11 +23,7 @@ enum-known-leaf : tie.Need-enum-known-leaf
 enum-known-leaf c = search needs
 
 walk-range-requires : tie.Need-walk-range-requires
-walk-range-requires c κs = (
-  ap leaf-good (sym (c .before .leaf .given .1))
-      ∙ c .before .before .before .before .pre .0,
-  c .before .before .before .before .pre .1,
-)
+walk-range-requires c κs = c .before .before .before .before .pre
 
 returns : tie.Need-returns
 returns c m f = rw (c .before .enum-told .given .1) (c .went .ensures ∙ walk-is _ _ _ _ _ (word-nothing _ _ (omega arith) m _ (omega arith)))

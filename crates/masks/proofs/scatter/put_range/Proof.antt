@@ -1,56 +1,35 @@
 -- `masks::scatter::put_range` meets its contract.
+use mathlib.Core.Path.{refl, _∙_}
 use native.Mathlib.Omega.{arith}
-use Prim.Native.Nat.{_+_, _-_}
-use mathlib.Core.Path.{refl}
-use Rattle.masks.specs.Scatter.{Marking, between, marking-start, range-next, range-end}
+use Rattle.masks.specs.Leaves.{letter-cell}
+use Rattle.masks.specs.Scatter.{range-marked}
 use borrow.Author.Needs.{needs}
 use Rattle.masks.proofs.scatter.put_range.Statement.{statement}
 use Rattle.masks.proofs.scatter.put_range.Tie as tie
 
-abbrev Inv-loop : tie.InvT-loop
-Inv-loop cells₀ low high i mark end c₀ cells c = Marking (between low high) i cells₀ (between c high) cells
+least-requires : tie.Need-least-requires
+least-requires c κs = search needs
 
-abbrev μ-loop : tie.MeasureT-loop
-μ-loop cells₀ low high i mark end c₀ cells c = end + 1 - c
+most-requires : tie.Need-most-requires
+most-requires c κs = search needs
 
-single-requires : tie.Need-single-requires Inv-loop μ-loop
-single-requires c κs = search needs
-
-loop-holds : tie.Need-loop-holds Inv-loop μ-loop
-loop-holds c = marking-start _ _ _
-
-mul-cells : tie.Need-mul-cells Inv-loop μ-loop
-mul-cells c = search needs
-
-element-copy-out-cells : tie.Need-element-copy-out-cells Inv-loop μ-loop
-element-copy-out-cells c = search needs
-
-mul-cells-2 : tie.Need-mul-cells-2 Inv-loop μ-loop
-mul-cells-2 c = search needs
-
-element-write-cells : tie.Need-element-write-cells Inv-loop μ-loop
-element-write-cells c = search needs
-
-add-c : tie.Need-add-c Inv-loop μ-loop
-add-c c = search needs
-
-loop-less : tie.Need-loop-less Inv-loop μ-loop
-loop-less c = search needs
-
-loop-again : tie.Need-loop-again Inv-loop μ-loop
-loop-again c =
-    let s = c .before .before .before .before in
-    range-next (s .args .low) (s .args .high) _ _ _ (c .before .before .before .single .ensures) _ _ _ (omega (arith, s .pre .1, s .pre .2))
-    (omega (arith, c .before .loop-test .taken)) refl (c .before .before .loop .inv)
-
-returns : tie.Need-returns Inv-loop μ-loop
-returns c =
+put-between-requires : tie.Need-put-between-requires
+put-between-requires c κs =
     let s = c .before .before .before in
-    range-end (s .args .low) (s .args .high) _ _ _ (c .before .before .single .ensures) _ _ (omega (arith, c .loop-test .left)) (c .before .loop .inv)
+    (s .pre .0, omega (arith, c .before .before .least .ensures), s .pre .1)
+
+put-between-requires-2 : tie.Need-put-between-requires-2
+put-between-requires-2 c κs =
+    let s = c .before .before .before .before .before in
+    let least = c .before .before .before .before .least .ensures in
+    (s .pre .0, omega (arith, letter-cell (s .args .high) (s .pre .3), least), c .before .put-between .ensures .long ∙ s .pre .1)
+
+returns : tie.Need-returns
+returns c =
+    let first = c .before .before in
+    let s = first .before .before .before .before in
+    range-marked (s .args .low) (s .args .high) _ _ _ _ _ _ _ (s .pre .2) (s .pre .3) (first .before .before .before .least .ensures)
+    (first .before .before .most .ensures) (first .put-between .ensures) (c .put-between2 .ensures) refl
 
 pub put-range-spec : {M : Type 1} → statement M
-put-range-spec =
-    tie.close
-    (tie.spec
-    Inv-loop μ-loop single-requires loop-holds mul-cells element-copy-out-cells mul-cells-2 element-write-cells
-    add-c loop-less loop-again returns)
+put-range-spec = tie.close (tie.spec least-requires most-requires put-between-requires put-between-requires-2 returns)
