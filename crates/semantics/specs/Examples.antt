@@ -1,11 +1,13 @@
--- C1 to C11 of document 01, its whole listing, and rows for kind `Z` of document 02, as one table; and one theorem that proves the definitions
--- on every row.
-use mathlib.Core.Path.{_≡_, refl, subst}
+-- C1 to C11 of document 01, its whole listing, and rows for kind `Z` and the letters of the hot side of document 02, as one table; and one theorem
+-- that proves the definitions on every row.
+use mathlib.Core.Path.{_≡_, refl, ap, subst}
 use mathlib.Core.Bool.{Bool, cond, false, true}
+use mathlib.Core.Logic.{_⊎_, inl, inr}
 use mathlib.Core.Option.{Option, none, some}
 use mathlib.Core.List.{_∷_, List, [], head-eq-of-cons-eq, map, tail-eq-of-cons-eq}
 use Prim.Native.Nat.{ℕ}
 use Rattle.syntax.specs.Letter.{is-letter, in-range}
+use Rattle.syntax.specs.LetterLaws.{across-gap}
 use Rattle.syntax.specs.Tree.{Label, Tree, nothing, letter, range, seq, alt, star}
 use Rattle.bits.specs.Bits.{bits-of}
 use Rattle.semantics.specs.Value.{Value, flat}
@@ -100,6 +102,10 @@ mark i a = record { index = i; account = a }
 abbrev pub Listing : Tree
 Listing = star (mark 5 0) false (alt (mark 4 0) (seq (mark 2 9) (letter (mark 1 0) 87) (range (mark 0 0) 48 57)) (range (mark 3 1) 48 57))
 
+-- 02, Job 3: "A range may run across the gap." This one has the last letter below the gap and the first above it
+abbrev across : Tree
+across = range plain 126 161
+
 abbrev O : Bool
 O = false
 
@@ -153,6 +159,14 @@ table =
     ∷ (lazy (rounds (either a e)), tape (97 ∷ []), some (I ∷ O ∷ O ∷ I ∷ O ∷ []))
     -- 02: `Z` follows the rules for `K` on "flags". P3 with both kinds, as C5: the round's flag goes from the `Z` that stops to the `K` behind it
     ∷ (lazy (pair (lazy a) (rounds b)), tape (98 ∷ 97 ∷ []), some (I ∷ O ∷ O ∷ I ∷ I ∷ I ∷ O ∷ I ∷ O ∷ []))
+    -- 02, Job 3: letters of both sides, each in its 8 bits
+    ∷ (across, tape (126 ∷ []), some (O ∷ I ∷ I ∷ I ∷ I ∷ I ∷ I ∷ O ∷ []))
+    ∷ (across, tape (161 ∷ []), some (I ∷ O ∷ I ∷ O ∷ O ∷ O ∷ O ∷ I ∷ []))
+    -- 02, Job 3: "bytes 127 to 160 are still no letters, so a code naming one is no code": 127, then 160
+    ∷ (across, tape (127 ∷ []), none)
+    ∷ (across, settle (O ∷ I ∷ I ∷ I ∷ I ∷ I ∷ I ∷ I ∷ []), none)
+    ∷ (across, settle (I ∷ O ∷ I ∷ O ∷ O ∷ O ∷ O ∷ O ∷ []), none)
+    ∷ (across, settle (I ∷ O ∷ I ∷ O ∷ O ∷ O ∷ O ∷ I ∷ []), some (I ∷ O ∷ I ∷ O ∷ O ∷ O ∷ O ∷ I ∷ []))
     ∷ []
 
 -- ── the theorem ──
@@ -168,6 +182,14 @@ rows-compute = refl
 -- every row holds: a row's code is that of the greedy value of its tape, or no value spells it
 pub rows-hold : All (λ r. Says (r .0) (r .1) (r .2)) table
 rows-hold = rows-say table rows-compute
+
+-- the values of the range across the gap are those two letters, and no other
+pub across-values : (v : Value across) → (flat across v ≡ 126 ∷ []) ⊎ (flat across v ≡ 161 ∷ [])
+across-values v = go (across-gap (v .0) (v .1))
+  where
+    go : (v .0 ≡ 126) ⊎ (v .0 ≡ 161) → (flat across v ≡ 126 ∷ []) ⊎ (flat across v ≡ 161 ∷ [])
+    go (inl h) = inl (ap (λ c. c ∷ []) h)
+    go (inr h) = inr (ap (λ c. c ∷ []) h)
 
 -- ── the listing's accounts: 3 litres to account 1, 2 to account 9; and visit 1 of node 4, which covers `W2` ──
 abbrev totals-of : Option (Value Listing) → List ℕ

@@ -17,6 +17,7 @@ use Rattle.bits.specs.Paper03.{is-bits, bools, mark-bit, Packs-back}
 use Rattle.semantics.specs.Decode.{is-code as is-code-of, spelled as spelled-of, hollow as hollow-of}
 use Rattle.steps.specs.StateSets.{words}
 use Rattle.parser.specs.ChoiceLaws.{is-choice}
+use Rattle.theorems.specs.Paper03Pattern.{letter-byte}
 use Rattle.theorems.specs.Paper03Codes.{before}
 
 -- ── 03's words, by the definitions of this repository ──
@@ -54,10 +55,10 @@ pub record Greedy (p : Pattern) (tape bits : List ℕ) : Type 0 where
   pub first :
       (cs : List ℕ) → is-code p cs ≡ true → spelled p cs ≡ tape → hollow p cs ≡ false → (cs ≡ bits → ⊥) → before bits cs ≡ true
 
--- 03, as they stand
+-- 03, as they stand. 02, Job 3: a letter of either side, where 03 has 33 to 126
 unfoldable pub letters-good : List ℕ → Bool
 letters-good [] = true
-letters-good (c ∷ cs) = (leb 33 c && leb c 126) && letters-good cs
+letters-good (c ∷ cs) = letter-byte c && letters-good cs
 
 unfoldable pub tape-good : List ℕ → Bool
 tape-good cs = leb (length cs) 3600 && letters-good cs

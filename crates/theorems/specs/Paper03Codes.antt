@@ -1,6 +1,6 @@
--- Document 03's specs/Codes.antt, word for word but for kind `Z` of 02, Job 2: what a code spells, empty rounds, the order of codes, and the
--- greedy reading of a tape by its code. Its bytes are in crate bits (Paper03). Above each line that is not 03's a comment names the job;
--- Paper03Plain has 03's own of these. Definitions only.
+-- Document 03's specs/Codes.antt, word for word but for kind `Z` of 02, Job 2, and the letters of 02, Job 3: what a code spells, empty rounds,
+-- the order of codes, and the greedy reading of a tape by its code. Its bytes are in crate bits (Paper03). Above each line that is not 03's a
+-- comment names the job; Paper03Plain has 03's own of these. Definitions only.
 use mathlib.Core.Path.{_≡_}
 use mathlib.Core.Bool.{Bool, true, false, _&&_, _||_, cond}
 use mathlib.Core.List.{List, [], _∷_, _++_}
@@ -8,7 +8,7 @@ use Prim.Native.Nat.{ℕ, zero, suc, _+_, _*_}
 use lib.Dec.{ltb, leb, eqb}
 use lib.ListN.{length, take, drop}
 use Rattle.bits.specs.Paper03.{is-bits}
-use Rattle.theorems.specs.Paper03Pattern.{Node, node, root}
+use Rattle.theorems.specs.Paper03Pattern.{Node, letter-byte, node, root}
 
 -- reading bits from a node: letters, what is left, whether a round spelled nothing
 pub record Read : Type 0 where
@@ -36,7 +36,8 @@ value-from v (b ∷ bs) = value-from (2 * v + b) bs
 
 unfoldable pub range-read : (low high : ℕ) → List ℕ → Read
 range-read a b bs =
-    let v = value-from 0 (take 8 bs) in cond (leb 8 (length bs) && (leb a v && leb v b)) (read (v ∷ []) (drop 8 bs) false) bad
+    -- 02, Job 3: "A range may run across the gap; bytes 127 to 160 are still no letters, so a code naming one is no code"
+    let v = value-from 0 (take 8 bs) in cond (leb 8 (length bs) && (letter-byte v && (leb a v && leb v b))) (read (v ∷ []) (drop 8 bs) false) bad
 
 -- 0 and a round, again and again, then 1
 -- 02, Job 2: `Z` "writes 0 to stop and 1 before a round", so the bit that stops is handed over; where it is 1 this is 03's

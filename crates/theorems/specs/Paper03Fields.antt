@@ -12,7 +12,7 @@ use Rattle.syntax.specs.Bools.{and-fst, and-snd}
 use Rattle.syntax.specs.Letter.{is-letter}
 use Rattle.fields.specs.Text.{Row, byte-front, row-front, rows, digit, one-digit, two-digits, place, single, account}
 use Rattle.theorems.specs.Paper03Pattern.{Line as Text-line, put-front, closed-empty, lines, put-piece, fields, is-digit, place-value, is-place}
-use Rattle.theorems.specs.Paper03Pattern.{is-letter as is-letter-field, account-value}
+use Rattle.theorems.specs.Paper03Pattern.{letter-byte, is-letter as is-letter-field, account-value}
 
 -- ── lines and their fields ──
 abbrev pub row-of : Text-line → Row
@@ -101,11 +101,11 @@ account-same (a ∷ []) = refl
 account-same (a ∷ b ∷ more) = rw (long more) refl
 
 pub letter-same : (w : List ℕ) → is-letter-field w ≡ true → (is-letter (single w) ≡ true) × (getD w 0 0 ≡ single w)
-unfolding is-letter-field is-letter single
+unfolding is-letter-field letter-byte is-letter single
 letter-same [] h = absurd (false≢true h)
 letter-same (a ∷ []) h = (h, refl)
 letter-same (a ∷ b ∷ more) h =
-    absurd (false≢true (sym (long more) ∙ and-fst (eqb (suc (suc (length more))) 1) (leb 33 a && leb a 126) h))
+    absurd (false≢true (sym (long more) ∙ and-fst (eqb (suc (suc (length more))) 1) (letter-byte a) h))
 
 -- ── and the other way ──
 pub place-back : (w : List ℕ) → place w < 64 → place-value w ≡ place w
@@ -155,7 +155,7 @@ unfolding is-place
 is-place-back w h = ap (λ k. ltb k 64) (place-back w (ltb-true (place w) 64 h)) ∙ h
 
 pub letter-back : (w : List ℕ) → is-letter (single w) ≡ true → (is-letter-field w ≡ true) × (getD w 0 0 ≡ single w)
-unfolding is-letter-field is-letter single
+unfolding is-letter-field letter-byte is-letter single
 letter-back [] h = absurd (false≢true h)
 letter-back (a ∷ []) h = (h, refl)
 letter-back (a ∷ b ∷ more) h = absurd (false≢true h)

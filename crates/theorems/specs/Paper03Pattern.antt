@@ -1,4 +1,5 @@
--- Document 03's specs/Pattern.antt, word for word but for kind `Z` of 02, Job 2: pattern texts, nodes, and refusals 1 and 2 with their lines.
+-- Document 03's specs/Pattern.antt, word for word but for kind `Z` of 02, Job 2, and the letters of 02, Job 3: pattern texts, nodes, and
+-- refusals 1 and 2 with their lines.
 -- Above each line that is not 03's a comment names the job; Paper03Plain has 03's own of these. Definitions only.
 use mathlib.Core.Bool.{Bool, true, false, _&&_, _||_, not, cond}
 use mathlib.Core.List.{List, [], _∷_, _++_}
@@ -58,8 +59,13 @@ place-value (a ∷ b ∷ c ∷ more) = 64
 unfoldable pub is-place : List ℕ → Bool
 is-place w = ltb (place-value w) 64
 
+-- 02, Job 3: "bytes 161 to 254. These become letters of tapes and patterns beside 33 to 126"
+unfoldable pub letter-byte : ℕ → Bool
+letter-byte c = (leb 33 c && leb c 126) || (leb 161 c && leb c 254)
+
 unfoldable pub is-letter : List ℕ → Bool
-is-letter w = eqb (length w) 1 && (leb 33 (getD w 0 0) && leb (getD w 0 0) 126)
+-- 02, Job 3: a letter of either side, where 03 has 33 to 126
+is-letter w = eqb (length w) 1 && letter-byte (getD w 0 0)
 
 unfoldable pub account-value : List ℕ → ℕ
 account-value w = cond (eqb (length w) 1) (cond (eqb (getD w 0 0) 45) 0 (cond (leb 49 (getD w 0 0) && leb (getD w 0 0) 57) (getD w 0 0 - 48) 10)) 10

@@ -1,13 +1,14 @@
--- Document 03's own definitions, word for word, where kind `Z` of 02, Job 2, changes them or what they rest on: kinds 0 to 5, and 6 for none.
--- Paper03PlainLaws says that nothing has changed where no line is of kind `Z`. Definitions only.
-use mathlib.Core.Bool.{Bool, false, _&&_, _||_, not, cond}
+-- Document 03's own definitions, word for word, where kind `Z` of 02, Job 2, or the letters of 02, Job 3, change them or what they rest on:
+-- kinds 0 to 5, and 6 for none; letters 33 to 126. Paper03PlainLaws says that nothing has changed where no line is of kind `Z` and none names a
+-- letter of the hot side. Definitions only.
+use mathlib.Core.Bool.{Bool, true, false, _&&_, _||_, not, cond}
 use mathlib.Core.List.{List, [], _∷_, _++_}
 use Prim.Native.Nat.{ℕ, zero, suc, _+_, _-_}
 use lib.Dec.{ltb, leb, eqb}
-use lib.ListN.{length, getD}
-use Rattle.theorems.specs.Paper03Pattern.{Node, Line, lines, fields, place-value, is-place, is-letter, account-value, field, Refusal, refusal}
+use lib.ListN.{length, getD, take, drop}
+use Rattle.theorems.specs.Paper03Pattern.{Node, Line, lines, fields, place-value, is-place, account-value, field, Refusal, refusal}
 use Rattle.theorems.specs.Paper03Pattern.{part-bad, unnamed-from, or-else, root}
-use Rattle.theorems.specs.Paper03Codes.{Read, read, bad, joined, with-hollow, range-read, side-read}
+use Rattle.theorems.specs.Paper03Codes.{Read, read, bad, joined, with-hollow, value-from, side-read}
 
 -- ── specs/Pattern.antt ──
 abbrev pub no-node : Node
@@ -15,6 +16,9 @@ no-node = record { kind = 6; account = 0; a = 0; b = 0 }
 
 unfoldable pub node : List Node → (l : ℕ) → Node
 node t l = getD t l no-node
+
+unfoldable pub is-letter : List ℕ → Bool
+is-letter w = eqb (length w) 1 && (leb 33 (getD w 0 0) && leb (getD w 0 0) 126)
 
 unfoldable pub kind-value : List ℕ → ℕ
 kind-value w =
@@ -81,6 +85,9 @@ unfoldable pub loaded : (text : List ℕ) → List Node
 loaded bs = nodes-in (lines bs)
 
 -- ── specs/Codes.antt ──
+unfoldable pub range-read : (low high : ℕ) → List ℕ → Read
+range-read a b bs =
+    let v = value-from 0 (take 8 bs) in cond (leb 8 (length bs) && (leb a v && leb v b)) (read (v ∷ []) (drop 8 bs) false) bad
 
 -- 0 and a round, again and again, then 1
 unfoldable pub rounds-read : (fuel : ℕ) → (one : List ℕ → Read) → List ℕ → Read
@@ -108,6 +115,12 @@ unfoldable pub read-code : List Node → (bits : List ℕ) → Read
 read-code t bs = read-node 64 t (root t) bs
 
 -- ── specs/Promise.antt ──
+unfoldable pub letters-good : List ℕ → Bool
+letters-good [] = true
+letters-good (c ∷ cs) = (leb 33 c && leb c 126) && letters-good cs
+
+unfoldable pub tape-good : List ℕ → Bool
+tape-good cs = leb (length cs) 3600 && letters-good cs
 
 -- bit bounds: a nodes of either and rounds, n letters
 unfoldable pub choices : List Node → ℕ

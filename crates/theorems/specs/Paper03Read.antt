@@ -4,11 +4,11 @@ use mathlib.Core.Bool.{Bool, true, false, _&&_, _||_, not, cond}
 use mathlib.Core.Logic.{_⊎_, inl, inr}
 use mathlib.Core.Option.{Option, none, some, bind}
 use mathlib.Core.List.{List, [], _∷_, _++_}
-use Prim.Native.Nat.{ℕ, zero, suc, _+_, _*_, _-_, _^_, _≤_, _<_}
+use Prim.Native.Nat.{ℕ, zero, suc, _+_, _*_, _^_, _≤_, _<_}
 use native.Mathlib.Nat.{mul-assoc, add-mul, pow-suc}
 use native.Mathlib.Omega.{arith}
 use native.Mathlib.Decide.{decLe}
-use borrow.Author.Tests.{leb-true, le-leb, lt-leb, eq-eqb, ne-eqb}
+use borrow.Author.Tests.{le-leb, lt-leb, eq-eqb, ne-eqb}
 use lib.Dec.{leb, eqb}
 use lib.ListN.{length, take, drop, length-append}
 use Rattle.syntax.specs.declared.Leaf.the-variants.{Nothing, Letter, Range}
@@ -16,10 +16,8 @@ use Rattle.syntax.specs.declared.Node.{Node as Own-node}
 use Rattle.syntax.specs.declared.Node.the-variants.{Leaf as Leaf-node, Sequence, Alternative, Star}
 use Rattle.syntax.specs.declared.Line.{Line}
 use Rattle.syntax.specs.declared.Pattern.{Pattern}
-use Rattle.syntax.specs.Bools.{and-fst, and-snd}
 use Rattle.syntax.specs.Letter.{is-letter, in-range}
-use Rattle.syntax.specs.LetterLaws.{between-letters}
-use Rattle.syntax.specs.Table.{line-at, node-at, node-good, line-good}
+use Rattle.syntax.specs.Table.{line-at, node-at}
 use Rattle.syntax.specs.Tree.{Label, Tree, nothing, letter, range, seq, alt, star}
 use Rattle.syntax.specs.Trees.{made, tree-of}
 use Rattle.syntax.specs.TreeLaws.{Rules, Below, tree-line}
@@ -30,7 +28,7 @@ use Rattle.semantics.specs.Code.{code}
 use Rattle.semantics.specs.Decode.{get-bits, checked, read as decoded}
 use Rattle.semantics.specs.DecodeLaws.{read-sound, read-seq, read-left, read-right, read-stop, read-round}
 use Rattle.theorems.specs.Numbers.{length-numbers, drop-numbers}
-use Rattle.theorems.specs.Paper03Pattern.{Node, node}
+use Rattle.theorems.specs.Paper03Pattern.{Node, letter-byte, node}
 use Rattle.theorems.specs.Paper03Codes.{Read, read, bad, joined, with-hollow, value-from, range-read, rounds-read, side-read, read-node}
 
 -- what 03 reads is what is decoded: nothing good where no value stands in front, else its letters, the bits behind it and its empty rounds
@@ -77,22 +75,11 @@ value-cell (suc n) v [] h = absurd (omega arith)
 value-cell (suc n) v (b ∷ bs) h =
     value-cell n (2 * v + bit b) bs (omega arith) ∙ omega (arith, twice v n, add-mul (2 * v) (bit b) (2 ^ n))
 
-module _ (m : Label) (low high : ℕ) (gl : is-letter low ≡ true) (gh : is-letter high ≡ true) where
-  -- between two letters lie letters only
-  in-between : (c : ℕ) → (leb low c && leb c high) ≡ in-range low high c
-  unfolding in-range
-  in-between c = go (leb low c && leb c high) refl
-    where
-      go : (b : Bool) → (leb low c && leb c high) ≡ b → b ≡ (is-letter c && b)
-      go true e =
-          let a = leb-true low c (and-fst (leb low c) (leb c high) e) in
-          let z = leb-true c high (and-snd (leb low c) (leb c high) e) in
-          rw (between-letters low high c gl gh a z) refl
-      go false e = at (is-letter c)
-        where
-          at : (b : Bool) → false ≡ (b && false)
-          at true = refl
-          at false = refl
+module _ (m : Label) (low high : ℕ) where
+  -- a letter of the range
+  in-between : (c : ℕ) → (letter-byte c && (leb low c && leb c high)) ≡ in-range low high c
+  unfolding letter-byte is-letter in-range
+  in-between c = refl
 
   -- what a range makes of the number that eight bits write
   abbrev here : ℕ → List Bool → Option (Value (range m low high) × List Bool)
@@ -261,30 +248,24 @@ abbrev pub line-as : Line → Node
 line-as x = node-as (x .account) (x .node)
 
 module _ (p : Pattern) (r : Rules p) (ns : List Node) (same : (l : ℕ) → l < p .count → node ns l ≡ line-as (line-at p l)) where
-  by-node : (n l : ℕ) (x : Own-node) (c : ℕ) → node ns l ≡ node-as c x → node-good x ≡ true → Below l x
+  by-node : (n l : ℕ) (x : Own-node) (c : ℕ) → node ns l ≡ node-as c x → Below l x
       → ((q : ℕ) → q < l → Reads-as (read-node n ns q) (tree-of (line-at p) q)) → (m : Label)
       → Reads-as (read-node (suc n) ns l) (made m (tree-of (line-at p)) x)
   unfolding read-node
-  by-node n l (Leaf-node Nothing) c e g b ih m bs = rw e (reads-nothing m bs)
-  by-node n l (Leaf-node (Letter x)) c e g b ih m bs = rw e (reads-letter m x bs)
-  by-node n l (Leaf-node (Range x y)) c e g b ih m bs =
-      let h = and-fst (is-letter x && is-letter y) (leb x y) g in
-      rw e (reads-range m x y (and-fst (is-letter x) (is-letter y) h) (and-snd (is-letter x) (is-letter y) h) bs)
-  by-node n l (Sequence x y) c e g b ih m bs =
+  by-node n l (Leaf-node Nothing) c e b ih m bs = rw e (reads-nothing m bs)
+  by-node n l (Leaf-node (Letter x)) c e b ih m bs = rw e (reads-letter m x bs)
+  by-node n l (Leaf-node (Range x y)) c e b ih m bs = rw e (reads-range m x y bs)
+  by-node n l (Sequence x y) c e b ih m bs =
       rw e (reads-seq m (tree-of (line-at p) x) (tree-of (line-at p) y) (read-node n ns x) (read-node n ns y) (ih x (b .0)) (ih y (b .1)) bs)
-  by-node n l (Alternative x y) c e g b ih m bs =
+  by-node n l (Alternative x y) c e b ih m bs =
       rw e (reads-alt m (tree-of (line-at p) x) (tree-of (line-at p) y) (read-node n ns x) (read-node n ns y) (ih x (b .0)) (ih y (b .1)) bs)
-  by-node n l (Star false x) c e g b ih m bs = rw e (reads-star m false (tree-of (line-at p) x) (read-node n ns x) (ih x b) bs)
-  by-node n l (Star true x) c e g b ih m bs = rw e (reads-star m true (tree-of (line-at p) x) (read-node n ns x) (ih x b) bs)
-
-  good-node : (l : ℕ) → l < p .count → node-good (node-at p l) ≡ true
-  unfolding line-good
-  good-node l k = and-snd (leb (line-at p l .account) 9) (node-good (node-at p l)) (r .formed l k)
+  by-node n l (Star false x) c e b ih m bs = rw e (reads-star m false (tree-of (line-at p) x) (read-node n ns x) (ih x b) bs)
+  by-node n l (Star true x) c e b ih m bs = rw e (reads-star m true (tree-of (line-at p) x) (read-node n ns x) (ih x b) bs)
 
   -- with fuel above the node's index 03 reads a node as its tree is decoded
   pub reads-node : (n l : ℕ) → l < n → l < p .count → Reads-as (read-node n ns l) (tree-of (line-at p) l)
   reads-node zero l h k = absurd (omega arith)
   reads-node (suc n) l h k =
       subst (Reads-as (read-node (suc n) ns l)) (sym (tree-line (line-at p) l (r .lower l k)))
-      (by-node n l (node-at p l) (line-at p l .account) (same l k) (good-node l k) (r .lower l k) (λ q g. reads-node n q (omega arith) (omega arith))
+      (by-node n l (node-at p l) (line-at p l .account) (same l k) (r .lower l k) (λ q g. reads-node n q (omega arith) (omega arith))
       (record { index = l; account = line-at p l .account }))

@@ -1,5 +1,5 @@
--- C1 to C11 of document 01, and rows for kind `Z` of document 02, as a caller meets them: the pattern's text, the tape's or code's bytes, the
--- number and value answered, the code's bytes. Definitions only.
+-- C1 to C11 of document 01, and rows for kind `Z` and the letters of the hot side of document 02, as a caller meets them: the pattern's text, the
+-- tape's or code's bytes, the number and value answered, the code's bytes. Definitions only.
 use mathlib.Core.Path.{_≡_}
 use mathlib.Core.List.{List, [], _∷_}
 use Prim.Native.Nat.{ℕ, _+_, _*_, _≤_}
@@ -12,7 +12,7 @@ use Rattle.parser.specs.declared.Parsed.{Parsed}
 use Rattle.parser.specs.Parse.{parsed-answer, Parses}
 use Rattle.canonical.specs.declared.Canonicalized.{Canonicalized}
 use Rattle.canonical.specs.Canonicalize.{canonicalized-answer, Canonicalizes}
-use Rattle.worked_examples.specs.Texts.{P1, P2, P3, P4, P5, Listing, Z1, Z2, Z3, Z4, Z5, Z6, Z7, d, a, b, W}
+use Rattle.worked_examples.specs.Texts.{P1, P2, P3, P4, P5, Listing, Z1, Z2, Z3, Z4, Z5, Z6, Z7, H1, d, a, b, W}
 
 -- what is asked: to read the tape, or to settle a code, given by its bytes and bit count
 pub data Asked : Type 0 where
@@ -106,4 +106,7 @@ rows =
     -- `K` over `Z` over (a|e), a: `01001`. `Z` over `K` over (a|e), a: `10010`
     ∷ reads Z6 5 (a ∷ []) 0 5 (72 ∷ [])
     ∷ reads Z7 5 (a ∷ []) 0 5 (144 ∷ [])
+    -- 02, Job 3: "A range may run across the gap." `K` over `~` to 161, tape `~` and 161: `0`, 126 in 8 bits, `0`, 161 in 8 bits, `1`
+    ∷ reads H1 2 (126 ∷ 161 ∷ []) 0 19 (63 ∷ 40 ∷ 96 ∷ [])
+    ∷ settles H1 2 (63 ∷ 40 ∷ 96 ∷ []) 19 (126 ∷ 161 ∷ []) 0 19 (63 ∷ 40 ∷ 96 ∷ [])
     ∷ []

@@ -1,5 +1,5 @@
 -- The texts write the patterns that 01 writes short: what is loaded is the tree of crate semantics' table, but for places and accounts. The
--- texts with kind `Z` of 02, Job 2, write the trees that stand here.
+-- texts with kind `Z` of 02, Job 2, and with letters of the hot side, 02, Job 3, write the trees that stand here.
 use mathlib.Core.Path.{_≡_, refl}
 use mathlib.Core.Bool.{false, true}
 use mathlib.Core.List.{[], _∷_, map}
@@ -11,7 +11,7 @@ use Rattle.fields.specs.Text.{rows, digit, one-digit, two-digits, place, single
 use Rattle.fields.specs.Text.{node-of-none, node-of-one, range-of, parts-of, node-of-two, node-of, line-of, row-line, forms}
 use Rattle.loading.specs.Load.{table, load-answer, load-table}
 use Rattle.semantics.specs.Examples as short
-use Rattle.worked_examples.specs.Texts.{P1, P2, P3, P4, P5, Z1, Z2, Z3, Z4, Z5, Z6, Z7}
+use Rattle.worked_examples.specs.Texts.{P1, P2, P3, P4, P5, Z1, Z2, Z3, Z4, Z5, Z6, Z7, H1}
 
 -- a tree whose nodes all have place 0 and no account
 abbrev plain : Label
@@ -38,8 +38,9 @@ rounds t = star plain false t
 abbrev lazy : Tree → Tree
 lazy t = star plain true t
 
--- "P1: (a|e)*. P2: (e|a)*. P3: (a*b*)*. P4: (a|ab)(b|e). P5: a*a."; then the patterns with `Z`
-pub texts-write : map (λ text. bare (root (load-table text))) (P1 ∷ P2 ∷ P3 ∷ P4 ∷ P5 ∷ Z1 ∷ Z2 ∷ Z3 ∷ Z4 ∷ Z5 ∷ Z6 ∷ Z7 ∷ [])
+-- "P1: (a|e)*. P2: (e|a)*. P3: (a*b*)*. P4: (a|ab)(b|e). P5: a*a."; then the patterns with `Z`, and that across
+-- the gap
+pub texts-write : map (λ text. bare (root (load-table text))) (P1 ∷ P2 ∷ P3 ∷ P4 ∷ P5 ∷ Z1 ∷ Z2 ∷ Z3 ∷ Z4 ∷ Z5 ∷ Z6 ∷ Z7 ∷ H1 ∷ [])
     ≡ short.P1
     ∷ short.P2
     ∷ short.P3
@@ -52,7 +53,8 @@ pub texts-write : map (λ text. bare (root (load-table text))) (P1 ∷ P2 ∷ P3
     ∷ rounds (lazy one)
     ∷ rounds (lazy (one-or (nothing plain)))
     ∷ lazy (rounds (one-or (nothing plain)))
+    ∷ rounds (range plain 126 161)
     ∷ []
-unfolding P1 P2 P3 P4 P5 Z1 Z2 Z3 Z4 Z5 Z6 Z7 rows digit one-digit two-digits place single account node-of-none node-of-one range-of parts-of
+unfolding P1 P2 P3 P4 P5 Z1 Z2 Z3 Z4 Z5 Z6 Z7 H1 rows digit one-digit two-digits place single account node-of-none node-of-one range-of parts-of
     node-of-two node-of line-of row-line forms table load-answer load-table is-letter wrongly-names unnamed tree-fault root tree-of
 texts-write = refl

@@ -1,4 +1,5 @@
--- 01, "Tapes to try": the patterns P1 to P5, and that of "A whole listing", as texts; and patterns with kind `Z` of 02, Job 2. Definitions only.
+-- 01, "Tapes to try": the patterns P1 to P5, and that of "A whole listing", as texts; patterns with kind `Z` of 02, Job 2;
+-- and one with letters of the hot side, 02, Job 3. Definitions only.
 use mathlib.Core.List.{List, [], _∷_, _++_}
 use Prim.Native.Nat.{ℕ, _+_}
 
@@ -196,4 +197,14 @@ Z7 =
     ∷ (d 2 ∷ A ∷ dash ∷ d 0 ∷ d 1 ∷ [])
     ∷ (d 3 ∷ K ∷ dash ∷ d 2 ∷ [])
     ∷ (d 4 ∷ Z ∷ dash ∷ d 3 ∷ [])
+    ∷ [])
+
+-- ── 02, Job 3: letters of the hot side ──
+
+-- `K` over the range from `~`, the last letter below the gap, to byte 161, the first above it
+unfoldable pub H1 : List ℕ
+H1 =
+    lines
+    ((d 0 ∷ R ∷ dash ∷ 126 ∷ 161 ∷ [])
+    ∷ (d 1 ∷ K ∷ dash ∷ d 0 ∷ [])
     ∷ [])
