@@ -123,8 +123,8 @@ static void same(const char *what, int equal) {
   exit(1);
 }
 
-// Takes the table over, with a random tape of so many letters that it reads, and that tape with a first letter that no leaf takes: all
-// words of it are filled, and no code is written.
+// Takes the table over, with a random tape of so many letters that it reads, and that tape with a first letter that no leaf takes, `~`
+// where that is one: all words of it are filled, and no code is written.
 static void take(size_t letters, unsigned lefts) {
   n = letters;
   size = write_text(&table, (char *)text);
@@ -133,7 +133,8 @@ static void take(size_t letters, unsigned lefts) {
     exit(1);
   }
   memcpy(unread, tape, n);
-  unread[0] = '~';
+  c_masks();
+  for (unread[0] = '~'; masks.takers[unread[0]];) unread[0]--;
 }
 
 static void compare(void) {
@@ -357,6 +358,21 @@ static void pattern(int k) {
   compare();
 }
 
+// Letters of the hot side, and a range across the gap: compared, not timed. A code that names byte 127 or 160 is none, though they lie
+// between the ends of the range.
+static void hot_letters(void) {
+  static const uint8_t named[][2] = {{0x6f, 0xf0}, {0x74, 0x10}};  // 0 11 01111111 1 and 0 11 10100000 1
+  hot_pattern(&table);
+  take(LETTERS, 8);
+  compare();
+  for (int k = 0; k < 2; k++) {
+    same("a byte of the gap", wumbyra_flatten(text, size, named[k], 2, 12, spelled[0], LETTERS) == 8ull << 32);
+    same("C's byte of the gap", flatten(&table, named[k], 2, 12, spelled[1], LETTERS) == 8ull << 32);
+  }
+  tape[0] = 160;
+  same("byte 160 of a tape", parse_of(tape, n, CELLS) == 4ull << 32);
+}
+
 // A tape that the meter's pattern does not read: a restart, and stale litres to the end.
 static void never_closed(void) {
   pattern(0);
@@ -410,6 +426,7 @@ int main(int argc, char **argv) {
   growth("meter tape", meter_pattern);
   growth("hostile", hostile_pattern);
   print_stacks();
+  hot_letters();  // at the end, so that the tapes that are timed are drawn as ever
   printf("\nBounds not met: %d.\n", wanting);
   return 0;
 }

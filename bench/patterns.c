@@ -141,6 +141,16 @@ void stars_pattern(Table *t, char kind) {
   checked(t, 64);
 }
 
+void hot_pattern(Table *t) {
+  made = t;
+  t->count = 0;
+  int cold = charged(digit(), 1), hot = letter('\xa1');
+  hot = then(hot, charged(digit(), 2));
+  int other = charged(range('a', '\xfe'), 3);
+  star(either(cold, either(hot, other)));
+  checked(t, 8);
+}
+
 void chain_pattern(Table *t, int left) {
   made = t;
   t->count = 0;
@@ -223,6 +233,14 @@ static unsigned draw(unsigned below) {
   return (state >> 16) % below;
 }
 
+// A letter of a range. What is no letter is drawn again, and that is drawn only where the range goes across the gap.
+static unsigned draw_between(unsigned low, unsigned high) {
+  unsigned c;
+  do c = low + draw(high - low + 1);
+  while (!is_letter(c));
+  return c;
+}
+
 typedef struct {
   const Table *t;
   const Masks *m;
@@ -247,7 +265,7 @@ static void draw_node(Drawing *w, int l) {
   switch (d.kind) {
     case 'L':
     case 'R':
-      w->tape[w->at++] = d.kind == 'L' ? d.first : d.first + draw(d.second - d.first + 1);
+      w->tape[w->at++] = d.kind == 'L' ? d.first : draw_between(d.first, d.second);
       w->flag = 1;
       break;
     case 'S':
@@ -277,7 +295,7 @@ int random_tape(const Table *t, size_t n, unsigned lefts, uint8_t *tape) {
   Masks m;
   make_masks(t, &m);
   uint64_t leaves = 0;
-  for (int c = 33; c < 127; c++) leaves |= m.takers[c];
+  for (int c = 0; c < 256; c++) leaves |= m.takers[c];
   m.takers[0] = leaves;  // the letter 0 stands for any
   memset(tape, 0, n);
   fill_words(&m, tape, n, words);

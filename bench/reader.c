@@ -67,6 +67,13 @@ static uint64_t reached(Making *g, int l, int flag) {
   return g->leaves[flag][l] = s;
 }
 
+// Marks a range's letters for its leaf. Bytes of the gap, 127 to 160, are none of them.
+static void mark_range(Masks *m, Node d, uint64_t bit) {
+  int cold = d.second < 126 ? d.second : 126, hot = d.first > 161 ? d.first : 161;
+  for (int c = d.first; c <= cold; c++) m->takers[c] |= bit;
+  for (int c = hot; c <= d.second; c++) m->takers[c] |= bit;
+}
+
 void make_masks(const Table *t, Masks *m) {
   Making g;
   g.t = t;
@@ -82,8 +89,7 @@ void make_masks(const Table *t, Masks *m) {
     if (g.ends[1][l]) m->end |= bit;
     if (m->follower[l] < 64) m->leaf[l].behind = 1ull << m->follower[l];
     if (d->kind == 'L') m->takers[d->first] |= bit;
-    if (d->kind == 'R')
-      for (int c = d->first; c <= d->second; c++) m->takers[c] |= bit;
+    if (d->kind == 'R') mark_range(m, *d, bit);
   }
 }
 
@@ -227,7 +233,7 @@ static uint32_t check_node(Checking *w, int l, uint32_t at) {
       case 'R': {
         if (w->count - at < 8) return BAD;
         int c = byte_at(w->code, at);
-        if (c < d.first || c > d.second) return BAD;
+        if (c < d.first || c > d.second || !is_letter(c)) return BAD;
         w->letters++;
         return at + 8;
       }
@@ -337,8 +343,6 @@ void charge(const Table *t, const uint8_t *code, uint32_t litres[10]) {
   Charging w = {t->node, code, litres};
   charge_node(&w, t->count - 1, 0, 0);
 }
-
-static int is_letter(int c) { return c >= 33 && c <= 126; }
 
 // Notes a part of line l: it has to be below l and not noted before.
 static int name(uint64_t *named, int l, int part) {

@@ -4,6 +4,9 @@
 #include <stddef.h>
 #include <stdint.h>
 
+// Letters are the bytes 33 to 126, and those with the highest bit set as well, 161 to 254.
+static inline int is_letter(int c) { return (c & 127) >= 33 && (c & 127) <= 126; }
+
 // first and second: the parts, or a range's limits, or a letter
 typedef struct {
   uint8_t kind, first, second, account;  // kind: E L R S A K Z; account: 0 for none
@@ -21,7 +24,7 @@ typedef struct {
 
 typedef struct {
   LeafMasks leaf[64];
-  uint64_t takers[127];  // by letter: the leaves that take it
+  uint64_t takers[256];  // by byte: the leaves that take it; none where it is no letter
   uint64_t end;          // the nodes that reach the tape's end with flag 1
   uint8_t follower[64];  // the node behind a node; 64 for the tape's end
   uint8_t in_star[64];   // whether that follower is a star that the node is in

@@ -209,7 +209,7 @@ struct answer call_flatten(struct caller *c, size_t cells)
     const size_t used = answer.number == WUMBYRA_OK ? answer.value : 0;
     unchanged(c, &c->letters, c->filling, used, "flatten leaves tape");
     for (size_t i = 0; i < used; i++)
-        expect(c, tape[i] >= WUMBYRA_FIRST_LETTER && tape[i] <= WUMBYRA_LAST_LETTER, "flatten writes letters");
+        expect(c, is_letter(tape[i]), "flatten writes letters");
     return answer;
 }
 

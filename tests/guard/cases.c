@@ -18,15 +18,43 @@ bool chance(struct source *source, uint32_t of)
     return draw(source, of) == 0;
 }
 
+/* ---- letters */
+
+bool is_letter(uint32_t byte)
+{
+    return (byte >= WUMBYRA_FIRST_LETTER && byte <= WUMBYRA_LAST_LETTER) ||
+           (byte >= WUMBYRA_FIRST_HOT_LETTER && byte <= WUMBYRA_LAST_HOT_LETTER);
+}
+
+/* Any letter from `low` to `high`, which are letters. Between them the gap may lie. */
+static uint8_t draw_between(struct source *source, uint8_t low, uint8_t high)
+{
+    uint32_t drawn;
+    do
+        drawn = low + draw(source, (uint32_t)(high - low) + 1);
+    while (!is_letter(drawn));
+    return (uint8_t)drawn;
+}
+
+uint8_t draw_no_letter(struct source *source)
+{
+    if (chance(source, 16))
+        return WUMBYRA_LAST_HOT_LETTER + 1;
+    if (chance(source, 8))
+        return (uint8_t)draw(source, WUMBYRA_FIRST_LETTER);
+    return (uint8_t)(WUMBYRA_LAST_LETTER + 1 + draw(source, WUMBYRA_FIRST_HOT_LETTER - WUMBYRA_LAST_LETTER - 1));
+}
+
 /* ---- patterns */
 
-/* Few letters, so that leaves of a pattern share them and a tape has several parses. */
+/* Few letters, so that leaves of a pattern share them and a tape has several parses. Of the hot side they are the first, the last, and
+ * the one that is a 9 with the highest bit set, which is no litre; each of them makes a range that begins with a digit go across the gap. */
 static uint8_t draw_letter(struct source *source)
 {
-    static const char usual[] = "0123456789ab";
+    static const uint8_t usual[] = {'0', '1', '2', '3', '4', '5', '6', '7', '8', '9', 'a', 'b', 161, 185, 254};
     if (chance(source, 12))
-        return (uint8_t)(WUMBYRA_FIRST_LETTER + draw(source, WUMBYRA_LAST_LETTER - WUMBYRA_FIRST_LETTER + 1));
-    return (uint8_t)usual[chance(source, 2) ? draw(source, 12) : 9 + draw(source, 3)];
+        return draw_between(source, WUMBYRA_FIRST_LETTER, WUMBYRA_LAST_HOT_LETTER);
+    return usual[chance(source, 2) ? draw(source, sizeof usual) : 9 + draw(source, 3)];
 }
 
 /* Whether a line of this kind may stand here, with `trees` trees before it that none names and `left` lines behind it: those must
@@ -55,6 +83,7 @@ static uint32_t take(struct source *source, uint32_t *tree, uint32_t *trees)
 static void write_text(struct pattern *pattern)
 {
     char *end = (char *)pattern->text;
+    pattern->lettered = WUMBYRA_MAX_LINES;
     for (uint32_t i = 0; i < pattern->count; i++) {
         const struct node *node = &pattern->node[i];
         end += sprintf(end, "%u\t%c\t%c", i, node->kind, node->account == 0 ? '-' : (int)('0' + node->account));
@@ -66,6 +95,10 @@ static void write_text(struct pattern *pattern)
         case 'S':
         case 'A': end += sprintf(end, "\t%u\t%u", node->first, node->second); break;
         default: break;
+        }
+        if (node->kind == 'L' || node->kind == 'R') {
+            pattern->lettered = i;
+            pattern->letter_at = (size_t)(end - (char *)pattern->text) - 1;
         }
         *end++ = '\n';
     }
@@ -120,6 +153,14 @@ void put_bits(struct parse *parse, uint32_t bits, uint32_t count)
     }
 }
 
+void put_byte_at(uint8_t *code, uint32_t at, uint8_t byte)
+{
+    for (uint32_t i = 0; i < 8; i++, at++) {
+        const uint8_t bit = (uint8_t)(0x80 >> at % 8);
+        code[at / 8] = (uint8_t)(byte >> (7 - i) & 1 ? code[at / 8] | bit : code[at / 8] & ~bit);
+    }
+}
+
 static void put_letter(struct parse *parse, uint8_t letter, uint32_t account)
 {
     parse->letters[parse->count++] = letter;
@@ -156,7 +197,9 @@ static void visit_kind(struct walk *walk, const struct node *node, uint32_t acco
     switch (node->kind) {
     case 'L': put_letter(walk->parse, node->low, account); break;
     case 'R':
-        drawn = node->low + draw(walk->source, (uint32_t)(node->high - node->low) + 1);
+        drawn = draw_between(walk->source, node->low, node->high);
+        if (node->low <= WUMBYRA_LAST_LETTER && node->high >= WUMBYRA_FIRST_HOT_LETTER)
+            walk->parse->across = walk->parse->bits;
         put_bits(walk->parse, drawn, 8);
         put_letter(walk->parse, (uint8_t)drawn, account);
         break;
@@ -195,6 +238,7 @@ void draw_parse(struct source *source, const struct pattern *pattern, struct par
     struct walk walk = {source, pattern, parse, rounds, on};
     parse->bits = parse->count = parse->visits = 0;
     parse->empty_round = false;
+    parse->across = BIT_ROOM;
     memset(parse->litres, 0, sizeof parse->litres);
     parse->watched = draw(source, pattern->count);
     visit(&walk, pattern->count - 1, 0);
@@ -204,7 +248,8 @@ void draw_parse(struct source *source, const struct pattern *pattern, struct par
 
 static uint8_t draw_byte(struct source *source)
 {
-    static const uint8_t telling[] = {0, 9, 10, 13, 32, 33, 126, 127, 255, '-', '0', '1', 'E', 'K', 'Z', 'z'};
+    static const uint8_t telling[] = {0,   9,   10,  13,  32,  33,  126, 127, 128, 160,
+                                      161, 254, 255, '-', '0', '1', 'E', 'K', 'Z', 'z'};
     return chance(source, 2) ? telling[draw(source, sizeof telling)] : (uint8_t)draw(source, 256);
 }
 

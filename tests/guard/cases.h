@@ -21,6 +21,10 @@ struct source {
 uint32_t draw(struct source *source, uint32_t below);
 bool chance(struct source *source, uint32_t of);
 
+/* Whether a byte is a letter, of the one side of the gap or of the other; and a byte that is none, mostly one of the gap. */
+bool is_letter(uint32_t byte);
+uint8_t draw_no_letter(struct source *source);
+
 struct node {
     char kind; /* of E L R S A K Z */
     uint32_t account; /* 0: none */
@@ -33,6 +37,8 @@ struct pattern {
     struct node node[WUMBYRA_MAX_LINES];
     uint8_t text[TEXT_ROOM];
     size_t size;
+    uint32_t lettered; /* the last line with a letter, or WUMBYRA_MAX_LINES */
+    size_t letter_at; /* of it, in the text: the only one, or the second of a range */
 };
 
 /* A parse of a pattern: its code, its letters, its litres, and the visits of one node, which is watched. */
@@ -43,6 +49,7 @@ struct parse {
     uint32_t count; /* of letters */
     uint32_t litres[WUMBYRA_ACCOUNTS];
     bool empty_round;
+    uint32_t across; /* where the bits of the last letter begin whose range goes across the gap; BIT_ROOM if there is none */
     uint32_t watched, visits;
     uint16_t start[BIT_ROOM], length[BIT_ROOM];
 };
@@ -55,6 +62,9 @@ void draw_parse(struct source *source, const struct pattern *pattern, struct par
 
 /* Adds the last `count` of these bits to the code of a parse. */
 void put_bits(struct parse *parse, uint32_t bits, uint32_t count);
+
+/* Writes a byte over the eight bits of a code from `at` on. */
+void put_byte_at(uint8_t *code, uint32_t at, uint8_t byte);
 
 /* Bytes after some damage: changed, lost, added, cut, doubled. There is room for `room` of them; the answer is how many there are. */
 size_t damage(struct source *source, uint8_t *bytes, size_t size, size_t room);

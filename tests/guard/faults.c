@@ -1,6 +1,6 @@
 /* Stand-ins for the library's calls, each with one fault, to show that the guard test finds it. FAULT in the environment has its number;
  * 0 is none. The linker puts them before the calls (--wrap); a fault is in what they do beside the proved call. */
-#include "wumbyra.h"
+#include "cases.h"
 
 #include <stdlib.h>
 #include <string.h>
@@ -39,6 +39,33 @@ static int fault(void)
 static volatile uint8_t seen; /* so that what is read too much is read */
 static uint8_t kept[WUMBYRA_MAX_LETTERS]; /* state between calls */
 
+static bool in_gap(uint8_t byte)
+{
+    return byte > WUMBYRA_LAST_LETTER && byte < WUMBYRA_FIRST_HOT_LETTER;
+}
+
+/* How many of these bytes are from `low` to `high`. */
+static uint32_t counted(const uint8_t *bytes, size_t size, uint8_t low, uint8_t high)
+{
+    uint32_t count = 0;
+    for (size_t i = 0; i < size; i++)
+        if (bytes[i] >= low && bytes[i] <= high)
+            count++;
+    return count;
+}
+
+/* Loading with other letters: those of the one side only, or those of the gap, too. */
+static uint64_t load_letters(const uint8_t *text, size_t text_len)
+{
+    uint64_t answer = __real_wumbyra_load(text, text_len);
+    const uint32_t number = wumbyra_number(answer);
+    if (fault() == 20 && number == 0 && counted(text, text_len, WUMBYRA_FIRST_HOT_LETTER, WUMBYRA_LAST_HOT_LETTER) > 0)
+        return (uint64_t)1 << 32;
+    if (fault() == 21 && number == 1 && counted(text, text_len, WUMBYRA_LAST_LETTER + 1, WUMBYRA_FIRST_HOT_LETTER - 1) > 0)
+        return counted(text, text_len, '\n', '\n');
+    return answer;
+}
+
 uint64_t __wrap_wumbyra_load(const uint8_t *text, size_t text_len)
 {
     switch (fault()) {
@@ -50,7 +77,7 @@ uint64_t __wrap_wumbyra_load(const uint8_t *text, size_t text_len)
         break;
     default: break;
     }
-    return __real_wumbyra_load(text, text_len);
+    return load_letters(text, text_len);
 }
 
 uint64_t __wrap_wumbyra_parse(const uint8_t *text, size_t text_len, const uint8_t *tape, size_t tape_len, uint64_t *words,
@@ -74,9 +101,38 @@ uint64_t __wrap_wumbyra_parse(const uint8_t *text, size_t text_len, const uint8_
             code[(value - 1) / 8] ^= (uint8_t)(1 << (7 - (value - 1) % 8)); /* another last bit */
         break;
     case 9: return number == 5 ? (uint64_t)6 << 32 : answer;
+    case 22: return number == 0 && tape_len > 0 && tape[0] > WUMBYRA_LAST_LETTER ? (uint64_t)4 << 32 : answer;
+    case 23: return number == 4 && in_gap(tape[value]) ? (uint64_t)5 << 32 : answer;
     default: break;
     }
     return answer;
+}
+
+static uint8_t byte_at(const uint8_t *code, uint32_t at)
+{
+    const uint32_t shift = at % 8;
+    return (uint8_t)(shift == 0 ? code[at / 8] : code[at / 8] << shift | code[at / 8 + 1] >> (8 - shift));
+}
+
+/* A code that would be one if a byte of the gap were a letter: with the first hot letter in its place, which is in every range that
+ * goes across the gap, it is one. */
+static uint64_t flatten_gap(const uint8_t *text, size_t text_len, const uint8_t *code, size_t code_len, uint32_t count, uint8_t *tape,
+                            size_t tape_len)
+{
+    uint8_t other[1024];
+    if (code_len > sizeof other || code_len != WUMBYRA_BYTES_OF_BITS(count))
+        return (uint64_t)8 << 32;
+    for (uint32_t at = 0; at + 8 <= count; at++) {
+        uint64_t answer;
+        if (!in_gap(byte_at(code, at)))
+            continue;
+        memcpy(other, code, code_len);
+        put_byte_at(other, at, WUMBYRA_FIRST_HOT_LETTER);
+        answer = __real_wumbyra_flatten(text, text_len, other, code_len, count, tape, tape_len);
+        if (wumbyra_number(answer) == 0)
+            return answer;
+    }
+    return (uint64_t)8 << 32;
 }
 
 uint64_t __wrap_wumbyra_flatten(const uint8_t *text, size_t text_len, const uint8_t *code, size_t code_len, uint32_t count,
@@ -92,6 +148,8 @@ uint64_t __wrap_wumbyra_flatten(const uint8_t *text, size_t text_len, const uint
     answer = __real_wumbyra_flatten(text, text_len, code, code_len, count, tape, tape_len);
     if (fault() == 11 && wumbyra_number(answer) == 9 && tape_len > 0)
         tape[0] ^= 1;
+    if (fault() == 24 && wumbyra_number(answer) == 8)
+        return flatten_gap(text, text_len, code, code_len, count, tape, tape_len);
     return fault() == 12 && wumbyra_number(answer) == 8 ? (uint64_t)3 << 32 : answer;
 }
 
@@ -133,5 +191,10 @@ uint64_t __wrap_wumbyra_totals(const uint8_t *text, size_t text_len, const uint8
         litres[WUMBYRA_ACCOUNTS] ^= 1;
     if (fault() == 19 && wumbyra_number(answer) != 0 && litres_len > 0)
         litres[0] = 1;
+    if (fault() == 25 && wumbyra_number(answer) == 0 && litres_len > 0) { /* litres of a 9 with the highest bit set */
+        uint8_t tape[WUMBYRA_MAX_LETTERS];
+        uint64_t letters = __real_wumbyra_flatten(text, text_len, code, code_len, count, tape, sizeof tape);
+        litres[0] += 9 * counted(tape, wumbyra_value(letters), 128 + '9', 128 + '9');
+    }
     return answer;
 }

@@ -16,6 +16,7 @@ struct scene {
     struct pattern pattern;
     struct parse parse;
     bool whole_text, whole_code; /* as drawn, without damage */
+    bool gap_code; /* as drawn, but for a byte that is no letter in the place of one */
     bool loads;
     uint32_t refusal; /* what the code is refused with, or 0 */
     uint8_t code[CODE_ROOM], tape[LETTER_ROOM];
@@ -32,10 +33,24 @@ static size_t smaller(struct source *source, size_t than)
 
 /* ---- pattern and code */
 
+/* Puts a byte that is no letter into a letter's field: that line has not the form of a line, and no other line is at fault. */
+static void try_spoiled_letter(struct scene *s)
+{
+    struct caller *c = &s->caller;
+    uint8_t *letter = &s->pattern.text[s->pattern.letter_at];
+    const uint8_t before = *letter;
+    *letter = draw_no_letter(&c->source);
+    hand(c, &c->text, s->pattern.text, s->pattern.size);
+    expect_answer(c, call_load(c), WUMBYRA_LINE_FORM, s->pattern.lettered, "load: a field that is no letter");
+    *letter = before;
+}
+
 static void try_text(struct scene *s)
 {
     struct caller *c = &s->caller;
     struct answer answer;
+    if (s->pattern.lettered < WUMBYRA_MAX_LINES && chance(&c->source, 8))
+        try_spoiled_letter(s);
     s->whole_text = !chance(&c->source, 8);
     while (!s->whole_text && s->pattern.size < TEXT_ROOM) {
         s->pattern.size = damage(&c->source, s->pattern.text, s->pattern.size, TEXT_ROOM);
@@ -66,8 +81,11 @@ static void draw_code(struct scene *s, bool endless)
     size = WUMBYRA_BYTES_OF_BITS(s->parse.bits);
     memcpy(s->code, s->parse.code, size);
     c->count = s->parse.bits;
-    s->whole_code = !chance(&c->source, 4);
-    if (!s->whole_code && chance(&c->source, 2))
+    s->gap_code = s->parse.across < BIT_ROOM && chance(&c->source, 3);
+    s->whole_code = !s->gap_code && !chance(&c->source, 4);
+    if (s->gap_code)
+        put_byte_at(s->code, s->parse.across, draw_no_letter(&c->source));
+    else if (!s->whole_code && chance(&c->source, 2))
         size = damage(&c->source, s->code, size, CODE_ROOM);
     else if (!s->whole_code)
         c->count = chance(&c->source, 4) ? draw(&c->source, UINT32_MAX) : c->count + draw(&c->source, 17) - 8;
@@ -81,6 +99,8 @@ static void expect_refusal(const struct scene *s, const char *what)
     if (!s->loads)
         due = WUMBYRA_TREE;
     else if (s->caller.code.size > WUMBYRA_MAX_CODE_BYTES || s->caller.code.size != WUMBYRA_BYTES_OF_BITS(s->caller.count))
+        due = WUMBYRA_NOT_A_CODE;
+    else if (s->whole_text && s->gap_code)
         due = WUMBYRA_NOT_A_CODE;
     else if (s->whole_text && s->whole_code)
         due = s->parse.count > WUMBYRA_MAX_LETTERS ? WUMBYRA_TAPE_TOO_LONG : WUMBYRA_OK;
@@ -140,7 +160,7 @@ static struct answer tape_fault(const struct scene *s)
     if (tape->size > WUMBYRA_MAX_LETTERS)
         return (struct answer){WUMBYRA_TAPE_TOO_LONG, 0};
     for (uint32_t i = 0; i < tape->size; i++)
-        if (tape->at[i] < WUMBYRA_FIRST_LETTER || tape->at[i] > WUMBYRA_LAST_LETTER)
+        if (!is_letter(tape->at[i]))
             return (struct answer){WUMBYRA_TAPE_BYTE, i};
     return (struct answer){WUMBYRA_OK, 0};
 }

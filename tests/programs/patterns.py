@@ -1,12 +1,13 @@
-"""Pattern texts for the cases of tapelist, as bytes."""
+"""Pattern texts for the cases of tapelist, as bytes. In a row a character stands for the byte of its number."""
 
 LIMIT = 64
 
 
 def text(*rows):
     """A text of lines, each with its number in front: `text("E -")` is the pattern of nothing."""
-    lines = ["\t".join([str(place), *row.split()]) for place, row in enumerate(rows)]
-    return "".join(line + "\n" for line in lines).encode("ascii")
+    # By the space alone: to Python some bytes of the gap between the letters are spaces, too.
+    lines = ["\t".join([str(place), *row.split(" ")]) for place, row in enumerate(rows)]
+    return "".join(line + "\n" for line in lines).encode("latin-1")
 
 
 # The pattern of 01's section "A whole listing".
@@ -14,10 +15,18 @@ WORKED = text("R - 0 9", "L - W", "S 9 1 0", "R 1 0 9", "A - 2 3", "K - 4")
 
 NOTHING = text("E -")
 
-# Any letters, litres on account 7.
+# Any letters but those of the hot side, litres on account 7.
 ANY = text("R 7 ! ~", "K - 0")
 
-# Any letters, no account.
+# Any letters, by a range across the gap; those of the hot side alone; and the two that the gap lies between.
+EVERY = text("R 7 ! \xfe", "K - 0")
+HOT = text("R 7 \xa1 \xfe", "K - 0")
+TWO = text("R 7 ~ \xa1", "K - 0")
+
+# A combined meter: a digit is cold water, and byte 200 before a digit makes it hot water.
+COMBINED = text("R 1 0 9", "L - \xc8", "R 2 0 9", "S - 1 2", "A - 0 3", "K - 4")
+
+# Any letters but those of the hot side, no account.
 UNBILLED = text("R - ! ~", "K - 0")
 
 # Digit d on account d where d is above 0, and 0 on none.

@@ -65,7 +65,7 @@ def closing_bytes():
 def bytes_of_tapes():
     return [
         worked("a CR inside", b"3\rW2\n", refused(4, 1)),
-        worked("a byte order mark before the tape", b"\xef\xbb\xbf3W2\n", refused(4, 0)),
+        worked("a byte order mark before the tape", b"\xef\xbb\xbf3W2\n", refused(5, 0)),
         worked("a byte 0 inside", b"3\0W2\n", refused(4, 1)),
         worked("a byte 0 alone", b"\0", refused(4, 0)),
         worked("a byte 255", b"3W2\xff", refused(4, 3)),
@@ -74,6 +74,59 @@ def bytes_of_tapes():
         plain("byte 127", patterns.ANY, b"!\x7f~\n", refused(4, 1)),
         worked("no parse spells the tape", b"3WW\n", refused(5, 0)),
         plain("a letter where the pattern has none", patterns.NOTHING, b"a", refused(5, 0)),
+    ]
+
+
+def hot_letters():
+    every = lambda name, tape, says=None: plain(name, patterns.EVERY, tape, says)
+    inside = lambda byte: every(f"byte {byte} inside the range", bytes([33, byte, 254, 10]), refused(4, 1))
+    umlaut = "ä".encode()  # two bytes, 195 and 164
+    two = lambda code, litres="": f"tape\t2\t19\t{code}\n{litres}open\t0\t2\nopen\t1\t2\nopen\t2\t1\n"
+    hot = "tape\t3\t21\t0cd358\naccount\t1\t3\naccount\t2\t5\nopen\t0\t4\nopen\t1\t4\nopen\t2\t4\nopen\t3\t1\n"
+    return [
+        every("bytes 161 and 254", b"\xa1\xfe\n", two("50bfa0")),
+        *(inside(byte) for byte in (127, 128, 159, 160)),
+        every("byte 255 above the range", b"\xa1\xff\xfe\n", refused(4, 1)),
+        every("a closing byte 138", b"\xa1\x8a", refused(4, 1)),
+        every("byte 160 before byte 127", b"~\xa0\x7f\n", refused(4, 1)),
+        every("a UTF-8 letter on the tape", umlaut + b"\n", two("61a920")),
+        every("a byte order mark that a pattern takes", b"\xef\xbb\xbf3W2\n"),
+        every("a digit with the highest bit set is no litre", b"5\xb5\n", two("1aad60", "account\t7\t5\n")),
+        every("all letters", bytes([*range(33, 127), *range(161, 255), 10])),
+        every("3,600 hot letters", b"\xfe" * 3600 + b"\n"),
+        every("3,601 hot letters", b"\xfe" * 3601 + b"\n", refused(3, 0)),
+        every("3,600 letters, the last byte 160", b"\xa1" * 3599 + b"\xa0\n", refused(4, 3599)),
+        plain("a combined meter", patterns.COMBINED, b"3\xc85\n", hot),
+        plain("the two letters beside the gap", patterns.TWO, b"~\xa1\n", two("3f2860")),
+        plain("a letter above those beside the gap", patterns.TWO, b"~\xa2\n", refused(5, 0)),
+        plain("hot letters alone", patterns.HOT, b"\xa1\xfe" * 30 + b"\n"),
+        plain("a letter of the other side", patterns.HOT, b"!\n", refused(5, 0)),
+        plain("a hot letter that no line takes", patterns.ANY, b"\xa1\n", refused(5, 0)),
+        Case("hot letters by pipes, a byte at a time", Pipe(patterns.COMBINED), Pipe(b"3\xc85\n"), hot),
+    ]
+
+
+def hot_texts():
+    line = lambda name, row, says: text(name, patterns.text(row), says)
+    umlaut = "ä".encode().decode("latin-1")  # its two bytes, as patterns.text takes them
+    named = patterns.WORKED
+    return [
+        line("a letter field of byte 161", "L - \xa1", refused(5, 0)),
+        line("a letter field of byte 254", "L - \xfe", refused(5, 0)),
+        *(line(f"a letter field of byte {byte}", f"L - {chr(byte)}", refused(1, 0)) for byte in (127, 128, 160, 255)),
+        line("a UTF-8 letter in a letter field", f"L - {umlaut}", refused(1, 0)),
+        line("a UTF-8 letter for an end of a range", f"R - ! {umlaut}", refused(1, 0)),
+        line("a range from byte 126 to byte 161", "R - ~ \xa1", refused(5, 0)),
+        line("a range that ends in the gap", "R - ! \x80", refused(1, 0)),
+        line("a range that begins in the gap", "R - \xa0 \xa1", refused(1, 0)),
+        line("a range inside the gap", "R - \x80 \x90", refused(1, 0)),
+        line("a range up to byte 255", "R - \xa1 \xff", refused(1, 0)),
+        line("a range across the gap the wrong way", "R - \xa1 ~", refused(1, 0)),
+        line("a kind with the highest bit set", "\xc5 -", refused(1, 0)),
+        line("an account with the highest bit set", "E \xb1", refused(1, 0)),
+        text("a place with the highest bit set", b"\xb0" + patterns.NOTHING[1:], refused(1, 0)),
+        text("tabs with the highest bit set", named.replace(b"\t", b"\x89"), refused(1, 0)),
+        text("a line end with the highest bit set", named[:-1] + b"\x8a", refused(1, 5)),
     ]
 
 
@@ -214,6 +267,8 @@ def files_of_other_kinds():
 CASES = [
     *closing_bytes(),
     *bytes_of_tapes(),
+    *hot_letters(),
+    *hot_texts(),
     *lengths_of_tapes(),
     *litres_and_codes(),
     *lazy_stars(),

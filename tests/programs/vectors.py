@@ -60,6 +60,7 @@ def faults(program, stored):
         ("a kind that is none", b"x" + good[1:] + good, NO_CASE + right, None),
         ("half a byte", good[:-2] + b"\n" + good, NO_CASE + right, None),
         ("a digit that is none", good[:-2] + b"g\n" + good, NO_CASE + right, None),
+        ("a digit with the highest bit set", good[:-2] + b"\xb1\n" + good, NO_CASE + right, None),
     ]
     return [(name, fault(program, given, expected, size)) for name, given, expected, size in told]
 

@@ -1,10 +1,11 @@
 //! Random cases: a pattern text, a tape, a code and the buffers lent.
 
-use wumbyra_reference::cases::mutated::{change, LIKELY_MIXED_BYTES};
+use wumbyra_reference::cases::mutated::{change, LIKELY_HOT_BYTES, LIKELY_MIXED_BYTES};
 use wumbyra_reference::code::{encode, pack};
-use wumbyra_reference::codes::damaged::damage;
+use wumbyra_reference::codes::damaged::{damage, damage_letter, other_byte};
 use wumbyra_reference::codes::random::{put_in, sample};
 use wumbyra_reference::codes::Code;
+use wumbyra_reference::hot;
 use wumbyra_reference::lazy;
 use wumbyra_reference::load::load;
 use wumbyra_reference::memo::preferred_reading;
@@ -12,7 +13,7 @@ use wumbyra_reference::patterns::{random, text_of, LISTING, P1, P2, P3, P4, P5};
 use wumbyra_reference::prng::Prng;
 use wumbyra_reference::services::spelling::letters_of;
 use wumbyra_reference::table::{Kind, Node, Star, Table};
-use wumbyra_reference::tapes::random::{MIXED, WITHOUT_Z};
+use wumbyra_reference::tapes::random::{HOT, MIXED, WITHOUT_Z};
 use wumbyra_reference::value::{spell, Value};
 
 #[derive(Clone, Debug, PartialEq, Eq)]
@@ -57,7 +58,8 @@ pub fn random_case(rng: &mut Prng) -> Case {
     let mut text = text_of(&table);
     if rng.below(6) == 0 {
         for _ in 0..1 + rng.below(3) {
-            text = change(rng, text, LIKELY_MIXED_BYTES);
+            let likely = *rng.pick(&[LIKELY_MIXED_BYTES, LIKELY_HOT_BYTES]);
+            text = change(rng, text, likely);
         }
     }
     finished(rng, text, tape, code)
@@ -70,16 +72,17 @@ fn sampled(rng: &mut Prng, pattern: fn(&mut Prng) -> Table) -> (Table, Value) {
 }
 
 fn by_hand(rng: &mut Prng) -> Table {
-    let text = match rng.below(2) {
-        0 => *rng.pick(&[LISTING, P1, P2, P3, P4, P5, STAR]),
-        _ => rng.pick(&lazy::ALL).1,
+    let text = match rng.below(3) {
+        0 => rng.pick(&[LISTING, P1, P2, P3, P4, P5, STAR]).as_bytes(),
+        1 => rng.pick(&lazy::ALL).1.as_bytes(),
+        _ => rng.pick(&hot::ALL).1,
     };
-    load(text.as_bytes()).expect("a good pattern")
+    load(text).expect("a good pattern")
 }
 
-/// Three patterns in four may mix both kinds of stars.
+/// Four patterns in five may mix both kinds of stars, two in five have letters on both sides of the gap.
 fn sampled_pattern(rng: &mut Prng) -> Table {
-    let tastes = *rng.pick(&[&WITHOUT_Z, &MIXED, &MIXED, &MIXED]);
+    let tastes = *rng.pick(&[&WITHOUT_Z, &MIXED, &MIXED, &HOT, &HOT]);
     let taste = *rng.pick(tastes);
     let count = match rng.below(40) {
         0 => 64,
@@ -90,13 +93,15 @@ fn sampled_pattern(rng: &mut Prng) -> Table {
 }
 
 /// Stars in stars over parts that may be empty, and repeated optional parts: what a search that goes back takes longest for.
+/// Letters are three digits, or three of which two are on one side of the gap and one is on the other.
 fn nested(rng: &mut Prng) -> Table {
+    let letters = *rng.pick(&[b"012", b"012", b"}~\xa1"]);
     let mut nodes: Vec<Node> = Vec::new();
     let mut add = |kind, x: usize, y: usize| {
         nodes.push(Node::new(kind, (x + y) as u64 % 10, x as u64, y as u64));
         nodes.len() - 1
     };
-    let mut whole = add(Kind::Letter, usize::from(b'0') + rng.below(3), 0);
+    let mut whole = add(Kind::Letter, usize::from(*rng.pick(letters)), 0);
     for _ in 0..1 + rng.below(9) {
         let star = any_star(rng);
         whole = match rng.below(6) {
@@ -110,12 +115,16 @@ fn nested(rng: &mut Prng) -> Table {
                 add(Kind::Either, empty, whole)
             }
             4 => {
-                let other = add(Kind::Range, usize::from(b'0'), usize::from(b'2'));
+                let other = add(
+                    Kind::Range,
+                    usize::from(letters[0]),
+                    usize::from(letters[2]),
+                );
                 let other = add(star, other, 0);
                 add(Kind::Sequence, whole, other)
             }
             _ => {
-                let other = add(Kind::Letter, usize::from(b'0') + rng.below(3), 0);
+                let other = add(Kind::Letter, usize::from(*rng.pick(letters)), 0);
                 let empty = add(Kind::Nothing, 0, 0);
                 let other = add(Kind::Either, other, empty);
                 add(Kind::Sequence, other, whole)
@@ -132,7 +141,8 @@ fn any_star(rng: &mut Prng) -> Kind {
 /// A range under as many stars as lines allow, or nearly: all of one kind, or of both. A random value would hardly get down to a
 /// letter, so this one has letters from the start.
 fn deep(rng: &mut Prng) -> (Table, Value) {
-    let range = Node::new(Kind::Range, 3, u64::from(b'0'), u64::from(b'3'));
+    let (low, high) = *rng.pick(&[(b'0', b'3'), (b'0', b'3'), (125, 162), (33, 254)]);
+    let range = Node::new(Kind::Range, 3, u64::from(low), u64::from(high));
     let mut nodes = vec![range];
     let stars = 63 - rng.below(3) * rng.below(30);
     let same = any_star(rng);
@@ -142,7 +152,7 @@ fn deep(rng: &mut Prng) -> (Table, Value) {
         nodes.push(Node::new(kind, 0, place as u64, 0));
     }
     let letters: Vec<u8> = (0..rng.below(20))
-        .map(|_| b'0' + rng.below(4) as u8)
+        .map(|_| *rng.pick(&range.letters()))
         .collect();
     let value = deep_value(rng, &nodes, stars, &letters);
     let table = Table::of_nodes(&nodes);
@@ -194,21 +204,17 @@ fn sampled_value(rng: &mut Prng, table: &Table) -> Value {
 
 fn tape_of(rng: &mut Prng, table: &Table, value: &Value) -> Vec<u8> {
     let mut tape = spell(value);
-    let letters: &[u8] = if table.lines().iter().any(|node| node.x == u64::from(b'a')) {
-        b"ab"
-    } else {
-        b"0123W"
-    };
+    let letters = likely_letters(table);
     match rng.below(12) {
         0 => tape.clear(),
-        // A byte that is no letter, at either end of the letters.
+        // A byte that is no letter, at either end of the letters and in the gap.
         1 => {
             let at = rng.below(tape.len() + 1);
-            tape.insert(at, *rng.pick(&[0, 9, 10, 32, 127, 128, 255]));
+            tape.insert(at, *rng.pick(&[0, 9, 10, 32, 127, 128, 160, 255]));
         }
         2 => {
             let at = rng.below(tape.len() + 1);
-            tape.insert(at, *rng.pick(&[33, 126]));
+            tape.insert(at, *rng.pick(&[33, 126, 161, 254]));
         }
         3 | 4 => {
             for _ in 0..1 + rng.below(3) {
@@ -224,6 +230,25 @@ fn tape_of(rng: &mut Prng, table: &Table, value: &Value) -> Vec<u8> {
         _ => {}
     }
     tape
+}
+
+/// Letters that the pattern reads, or nearly.
+fn likely_letters(table: &Table) -> &'static [u8] {
+    let has = |asked: fn(u64) -> bool| {
+        table.lines().iter().any(|node| match node.kind {
+            Kind::Letter => asked(node.x),
+            Kind::Range => asked(node.x) || asked(node.y),
+            _ => false,
+        })
+    };
+    if has(|letter| letter >= 161) {
+        // Some of these are others with the highest bit turned.
+        b"a09~\xa1\xb0\xb9\xe1\xe2\xe4\xfe"
+    } else if has(|letter| letter == u64::from(b'a')) {
+        b"ab"
+    } else {
+        b"0123W"
+    }
 }
 
 fn code_of(rng: &mut Prng, table: &Table, value: &Value, tape: &[u8]) -> Code {
@@ -253,6 +278,11 @@ fn code_of(rng: &mut Prng, table: &Table, value: &Value, tape: &[u8]) -> Code {
             Some(reading) => Code::of_bits(&encode(table, &reading)),
             None => Code::of_bits(&bits),
         },
+        // Another byte for a letter of a range: often none, or none of the range.
+        6 => {
+            let byte = other_byte(rng);
+            damage_letter(rng, table, value, byte).unwrap_or_else(|| Code::of_bits(&bits))
+        }
         _ => Code::of_bits(&bits),
     }
 }
@@ -260,19 +290,23 @@ fn code_of(rng: &mut Prng, table: &Table, value: &Value, tape: &[u8]) -> Code {
 /// Tapes and codes about 3,600 letters, and codes about 65,536 bytes.
 fn long_case(rng: &mut Prng) -> Case {
     let (text, round, star, letter) = *rng.pick(&[
-        (STAR, "0", Star::Greedy, b'7'),
-        (P1, "00", Star::Greedy, b'a'),
-        (P2, "01", Star::Greedy, b'a'),
-        (P3, "0001", Star::Greedy, b'b'),
-        (LAZY_STAR, "1", Star::Lazy, b'7'),
-        (lazy::Z2, "10", Star::Lazy, b'a'),
-        (lazy::Z3, "11", Star::Lazy, b'a'),
-        (lazy::Z13, "1100", Star::Lazy, b'a'),
+        (STAR.as_bytes(), "0", Star::Greedy, b'7'),
+        (P1.as_bytes(), "00", Star::Greedy, b'a'),
+        (P2.as_bytes(), "01", Star::Greedy, b'a'),
+        (P3.as_bytes(), "0001", Star::Greedy, b'b'),
+        (LAZY_STAR.as_bytes(), "1", Star::Lazy, b'7'),
+        (lazy::Z2.as_bytes(), "10", Star::Lazy, b'a'),
+        (lazy::Z3.as_bytes(), "11", Star::Lazy, b'a'),
+        (lazy::Z13.as_bytes(), "1100", Star::Lazy, b'a'),
+        (hot::H1, "00", Star::Greedy, 228),
+        (hot::H2, "0101", Star::Greedy, 226),
+        (hot::H5, "010100001", Star::Greedy, 161),
+        (hot::H6, "111111110", Star::Lazy, 254),
     ]);
     let count = *rng.pick(&[3_599, 3_600, 3_601, 3_602]);
     let mut tape = vec![letter; count];
     if rng.below(4) == 0 {
-        tape[rng.below(count)] = 32;
+        tape[rng.below(count)] = *rng.pick(&[32, 127, 160, 255]);
     }
     let rounds = match rng.below(3) {
         0 => *rng.pick(&[27_000, 524_287, 524_288]) / round.len(),
@@ -354,4 +388,44 @@ fn finished(rng: &mut Prng, text: Vec<u8>, tape: Vec<u8>, code: Code) -> Case {
         _ => rng.below(11) as u32,
     };
     case
+}
+
+#[cfg(test)]
+mod tests {
+    use super::*;
+    use wumbyra_reference::table::is_letter;
+
+    /// The letters and bytes that the README names come up, and often enough for a run of 20,000 cases to meet each many times.
+    #[test]
+    fn cases_have_hot_letters_and_bytes_of_the_gap() {
+        let mut rng = Prng::new(17);
+        let (mut across, mut faulty, mut no_codes) = (0, 0, 0);
+        let mut on_tapes = [0; 256];
+        for _ in 0..4_000 {
+            let case = random_case(&mut rng);
+            let mut seen = [false; 256];
+            for &byte in &case.tape {
+                seen[usize::from(byte)] = true;
+            }
+            for byte in 0..256 {
+                on_tapes[byte] += usize::from(seen[byte]);
+            }
+            let Ok(table) = load(&case.text) else {
+                let odd = |&byte: &u8| byte > 126 && !is_letter(u64::from(byte));
+                faulty += usize::from(case.text.iter().any(odd));
+                continue;
+            };
+            let wide = |node: &&Node| node.kind == Kind::Range && node.x < 127 && node.y > 160;
+            let ranges = table.lines().iter().filter(wide).count();
+            across += usize::from(ranges > 0);
+            let whole = letters_of(&table, &case.code, u64::from(case.count)).is_ok();
+            no_codes += usize::from(ranges > 0 && !whole);
+        }
+        for byte in [127, 128, 160, 161, 254, 255] {
+            assert!(on_tapes[byte] >= 20, "{byte}: {}", on_tapes[byte]);
+        }
+        assert!(across >= 400, "{across}");
+        assert!(faulty >= 20, "{faulty}");
+        assert!(no_codes >= 100, "{no_codes}");
+    }
 }

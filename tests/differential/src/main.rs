@@ -4,6 +4,7 @@
 mod calls;
 mod case;
 mod compare;
+mod letters;
 mod shrink;
 
 use case::{random_case, Case};
@@ -108,6 +109,15 @@ fn report(case: &Case, folder: &Path) {
     for (name, bytes) in files {
         let path = folder.join(name);
         std::fs::write(&path, &bytes).expect("a file of the case");
-        println!("-- {}\n{}", path.display(), String::from_utf8_lossy(&bytes));
+        println!("-- {}\n{}", path.display(), shown(&bytes));
     }
+}
+
+/// Bytes as they are below 127, tabs and line ends too; the others as \x and two digits, since a letter is a byte.
+fn shown(bytes: &[u8]) -> String {
+    let shown = |&byte: &u8| match byte {
+        9 | 10 | 32..=126 => char::from(byte).to_string(),
+        _ => format!("\\x{byte:02x}"),
+    };
+    bytes.iter().map(shown).collect()
 }

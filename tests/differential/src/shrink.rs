@@ -1,6 +1,7 @@
 //! Makes a failing case smaller for as long as it still fails.
 
 use crate::case::Case;
+use crate::letters::{cool, narrower};
 use wumbyra_reference::code::{decode, encode, pack, unpack};
 use wumbyra_reference::load::load;
 use wumbyra_reference::patterns::text_of;
@@ -46,6 +47,7 @@ fn candidates(case: &Case) -> Vec<Case> {
             }
         });
     }
+    add(&cool);
     for tape in shorter(&case.tape) {
         add(&|smaller| smaller.tape = tape.clone());
     }
@@ -104,7 +106,7 @@ fn shorter(list: &[u8]) -> Vec<Vec<u8>> {
 }
 
 /// A good pattern with a node replaced by one of its parts or by nothing, and a whole code cut down with it or left as it is;
-/// a code with fewer rounds; a pattern without lazy stars; of a text that does not load, fewer bytes.
+/// a narrower range; a code with fewer rounds; a pattern without lazy stars; of a text that does not load, fewer bytes.
 fn smaller_patterns(case: &Case) -> Vec<(Vec<u8>, Option<Vec<bool>>)> {
     let Ok(table) = load(&case.text) else {
         return shorter(&case.text)
@@ -136,6 +138,11 @@ fn smaller_patterns(case: &Case) -> Vec<(Vec<u8>, Option<Vec<bool>>)> {
             let mut plain = table.clone();
             plain.nodes[place].account = 0;
             found.push((text_of(&plain), None));
+        }
+        for (low, high) in narrower(node) {
+            let mut narrow = table.clone();
+            (narrow.nodes[place].x, narrow.nodes[place].y) = (low, high);
+            found.push((text_of(&narrow), None));
         }
     }
     for round in 0..value.as_ref().map_or(0, rounds).min(MOST_PARTS) {
@@ -274,7 +281,7 @@ mod tests {
     use super::*;
     use crate::case::random_case;
     use wumbyra_reference::prng::Prng;
-    use wumbyra_reference::value::has_empty_round;
+    use wumbyra_reference::value::{has_empty_round, spell};
 
     /// A fault in codes with an empty round comes down to one star and one round.
     #[test]
@@ -319,6 +326,68 @@ mod tests {
                 let small = shrink(&case, &fails);
                 assert_eq!(small.text, b"0\tE\t-\n1\tZ\t-\t0\n");
                 assert_eq!((&small.code[..], small.count), (&[0x80][..], 2));
+            }
+        }
+    }
+
+    /// A fault in ranges across the gap comes down to the two letters next to it.
+    #[test]
+    fn a_range_across_the_gap_is_made_narrow() {
+        let fails = |case: &Case| {
+            let across = |node: &Node| node.kind == Kind::Range && node.x < 127 && node.y > 160;
+            load(&case.text).is_ok_and(|table| table.lines().iter().any(across))
+        };
+        let mut rng = Prng::new(9);
+        let mut seen = 0;
+        while seen < 20 {
+            let case = random_case(&mut rng);
+            if fails(&case) {
+                seen += 1;
+                let small = shrink(&case, &fails);
+                assert_eq!(small.text, b"0\tR\t-\t~\t\xa1\n");
+                assert_eq!((small.tape.len(), small.count), (0, 0));
+            }
+        }
+    }
+
+    /// A fault in codes that read a letter is shown with a cold letter, pattern and code together.
+    #[test]
+    fn a_fault_that_needs_no_hot_letter_is_shown_without_one() {
+        let fails = |case: &Case| {
+            let spelled = load(&case.text).ok().and_then(|table| {
+                let bits = unpack(&case.code, u64::from(case.count))?;
+                decode(&table, &bits).map(|value| spell(&value))
+            });
+            spelled.is_some_and(|letters| !letters.is_empty()) && case.tape.len() == 1
+        };
+        let mut rng = Prng::new(11);
+        let mut seen = 0;
+        while seen < 20 {
+            let mut case = random_case(&mut rng);
+            case.tape.truncate(1);
+            let is_hot = |byte: &u8| *byte >= 161;
+            if case.code.len() < 100 && case.text.iter().any(is_hot) && fails(&case) {
+                seen += 1;
+                let small = shrink(&case, &fails);
+                assert!(!small.text.iter().any(is_hot), "{:?}", small.text);
+                assert!(fails(&small));
+            }
+        }
+    }
+
+    /// One in a tape or in a code that needs a hot letter keeps it.
+    #[test]
+    fn a_hot_letter_is_kept_where_it_is_needed() {
+        let fails = |case: &Case| case.tape.iter().any(|&byte| byte >= 161 && byte < 255);
+        let mut rng = Prng::new(13);
+        let mut seen = 0;
+        while seen < 20 {
+            let case = random_case(&mut rng);
+            if fails(&case) {
+                seen += 1;
+                let small = shrink(&case, &fails);
+                assert_eq!(small.tape.len(), 1);
+                assert!((161..=254).contains(&small.tape[0]));
             }
         }
     }

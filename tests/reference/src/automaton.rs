@@ -2,7 +2,7 @@
 //! position the states from which the letters from there on are accepted.
 //! Everything is a search over the states of a written-out graph.
 
-use crate::table::{Kind, Table};
+use crate::table::{Kind, Node, Table};
 
 /// A node, or the end, with a flag. "Flag 1 means that the present round has
 /// taken a letter."
@@ -17,8 +17,8 @@ pub struct State {
 pub struct Automaton {
     /// Steps that read no letter.
     pub silent: Vec<(State, State)>,
-    /// Steps that read one letter, from the first to the second number.
-    pub reading: Vec<(State, u64, u64, State)>,
+    /// Steps that read one letter of a leaf.
+    pub reading: Vec<(State, Node, State)>,
     count: usize,
 }
 
@@ -96,16 +96,11 @@ impl Automaton {
                 match node.kind {
                     // "A letter leaf steps to its follower with flag 1."
                     Kind::Letter | Kind::Range => {
-                        let high = if node.kind == Kind::Letter {
-                            node.x
-                        } else {
-                            node.y
-                        };
                         let after = State {
                             place: follower.place,
                             flag: true,
                         };
-                        automaton.reading.push((from, node.x, high, after));
+                        automaton.reading.push((from, *node, after));
                     }
                     // "`S` passes its flag to its first part, and `A` to
                     // either side."
@@ -158,9 +153,9 @@ impl Automaton {
             match tape.get(position) {
                 None => here[self.index(Automaton::accepting())] = true,
                 Some(&letter) => {
-                    for &(from, low, high, to) in &self.reading {
+                    for &(from, leaf, to) in &self.reading {
                         let next = found[position + 1][self.index(to)];
-                        if (low..=high).contains(&u64::from(letter)) && next {
+                        if leaf.reads(u64::from(letter)) && next {
                             here[self.index(from)] = true;
                         }
                     }

@@ -28,7 +28,7 @@ pub fn all_values(
         Kind::Letter => found.push(Value::Letter(node.x as u8)),
         Kind::Range => {
             for &letter in alphabet {
-                if (node.x..=node.y).contains(&u64::from(letter)) {
+                if node.reads(u64::from(letter)) {
                     found.push(Value::Letter(letter));
                 }
             }
@@ -140,19 +140,12 @@ fn matches(
     let mut found = Vec::new();
     match node.kind {
         Kind::Nothing => found.push((Value::Nothing, 0)),
-        Kind::Letter | Kind::Range => {
-            let high = if node.kind == Kind::Letter {
-                node.x
-            } else {
-                node.y
-            };
-            match rest.first() {
-                Some(&letter) if (node.x..=high).contains(&u64::from(letter)) => {
-                    found.push((Value::Letter(letter), 1));
-                }
-                _ => {}
+        Kind::Letter | Kind::Range => match rest.first() {
+            Some(&letter) if node.reads(u64::from(letter)) => {
+                found.push((Value::Letter(letter), 1));
             }
-        }
+            _ => {}
+        },
         Kind::Sequence => {
             for (first, length) in of(node.x, rest)? {
                 for (second, more) in of(node.y, &rest[length..])? {

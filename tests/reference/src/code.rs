@@ -72,8 +72,7 @@ fn read<'a>(table: &Table, place: usize, bits: &'a [bool]) -> Option<(Value, &'a
             let letter = eight
                 .iter()
                 .fold(0_u64, |number, &bit| 2 * number + u64::from(bit));
-            (node.x..=node.y)
-                .contains(&letter)
+            node.reads(letter)
                 .then_some((Value::Letter(letter as u8), rest))
         }
         Kind::Sequence => {

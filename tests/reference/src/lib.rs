@@ -8,6 +8,7 @@ pub mod cases;
 pub mod code;
 pub mod codes;
 pub mod hex;
+pub mod hot;
 pub mod lazy;
 pub mod listing;
 pub mod load;

@@ -1,6 +1,6 @@
 //! Loading a pattern text: causes 1 and 2, each with the line at fault.
 
-use crate::table::{tree_fault, Kind, Node, Refusal, Table, MOST_LINES};
+use crate::table::{is_letter, tree_fault, Kind, Node, Refusal, Table, MOST_LINES};
 
 /// "Gives the table of the text: its line count, and each node as its line
 /// says." Every form fault is looked for before the tree is looked at.
@@ -104,10 +104,10 @@ fn account(field: &[u8]) -> Option<u64> {
     }
 }
 
-/// "A letter is one byte, 33 to 126."
+/// "A letter is one byte": a letter that an editor writes in two is none.
 fn letter(field: &[u8]) -> Option<u64> {
     match field {
-        [byte @ 33..=126] => Some(u64::from(*byte)),
+        [byte] if is_letter(u64::from(*byte)) => Some(u64::from(*byte)),
         _ => None,
     }
 }

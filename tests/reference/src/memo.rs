@@ -83,14 +83,8 @@ impl<'a> Ends<'a> {
 
     /// Whether this leaf reads the letter that stands here.
     fn reads(&self, place: usize, start: usize) -> bool {
-        let node = self.table.node(place);
-        let high = if node.kind == Kind::Letter {
-            node.x
-        } else {
-            node.y
-        };
         match self.tape.get(start) {
-            Some(&letter) => (node.x..=high).contains(&u64::from(letter)),
+            Some(&letter) => self.table.node(place).reads(u64::from(letter)),
             None => false,
         }
     }

@@ -2,11 +2,16 @@
 
 /// "There are 1 to 64 lines."
 pub const MOST_LINES: usize = 64;
-/// "A letter is one byte, 33 to 126."
-pub const FIRST_LETTER: u64 = 33;
-pub const LAST_LETTER: u64 = 126;
 /// "Account is `-` or a digit 1 to 9"; `-` is kept as 0.
 pub const MOST_ACCOUNT: u64 = 9;
+
+/// The letters of texts, tables, tapes and codes. 01: "A letter is one byte,
+/// 33 to 126." 02, Job 3: "Combined meters write hot water events as bytes 161
+/// to 254. These become letters of tapes and patterns beside 33 to 126"; "bytes
+/// 127 to 160 are still no letters".
+pub fn is_letter(number: u64) -> bool {
+    matches!(number, 33..=126 | 161..=254)
+}
 
 /// A refusal: the cause's number and what is returned beside it.
 #[derive(Clone, Copy, PartialEq, Eq, Debug)]
@@ -118,6 +123,24 @@ impl Node {
             Kind::Rounds(_) => vec![self.x],
         }
     }
+
+    /// Whether this node is a leaf that reads the byte: `L` its letter, `R`
+    /// "any letter of that range". "A range may run across the gap": what lies
+    /// between the ends and is no letter is not read.
+    pub fn reads(&self, byte: u64) -> bool {
+        match self.kind {
+            Kind::Letter => byte == self.x,
+            Kind::Range => is_letter(byte) && self.x <= byte && byte <= self.y,
+            Kind::Nothing | Kind::Sequence | Kind::Either | Kind::Rounds(_) => false,
+        }
+    }
+
+    /// All that this leaf reads, rising.
+    pub fn letters(&self) -> Vec<u8> {
+        (0..=255)
+            .filter(|&byte| self.reads(u64::from(byte)))
+            .collect()
+    }
 }
 
 /// The table of a text: its line count and 64 cells, of which those below
@@ -181,13 +204,10 @@ pub fn tree_fault(lines: &[Node]) -> Option<usize> {
     (0..lines.len().saturating_sub(1)).find(|&place| !named[place])
 }
 
-fn is_letter(number: u64) -> bool {
-    (FIRST_LETTER..=LAST_LETTER).contains(&number)
-}
-
 fn numbers_are_good(node: &Node) -> bool {
     let kind_is_good = match node.kind {
         Kind::Letter => is_letter(node.x),
+        // Both ends are letters, whatever lies between them.
         Kind::Range => is_letter(node.x) && is_letter(node.y) && node.x <= node.y,
         // Places are judged with the tree.
         Kind::Nothing | Kind::Sequence | Kind::Either | Kind::Rounds(_) => true,

@@ -68,7 +68,9 @@ impl Walk<'_> {
                 for _ in 0..8 {
                     letter = 2 * letter + u64::from(self.bit()?);
                 }
-                if letter < node.x || node.y < letter {
+                // "bytes 127 to 160 are still no letters, so a code naming
+                // one is no code"
+                if !node.reads(letter) {
                     return Err(NotWhole);
                 }
                 (self.each)(Step::Letter(letter as u8));

@@ -16,8 +16,8 @@ fn accepts(automaton: &Automaton, from: State, letters: &[u8]) -> bool {
     let mut here = closed(automaton, vec![from]);
     for &letter in letters {
         let mut next = Vec::new();
-        for &(from, low, high, to) in &automaton.reading {
-            if here.contains(&from) && (low..=high).contains(&u64::from(letter)) {
+        for &(from, leaf, to) in &automaton.reading {
+            if here.contains(&from) && leaf.reads(u64::from(letter)) {
                 next.push(to);
             }
         }

@@ -1,8 +1,8 @@
 //! The cases for loading: those set by hand, each with the answer read from
 //! the documents, then mutated good texts, good texts with
 //! changed trees, and random good patterns; behind them the same with kind
-//! `Z`. Other cases take every so many-th text that is refused, so new cases
-//! come last.
+//! `Z`, then with letters of the hot side. Other cases take every so many-th
+//! text that is refused, so new cases come last.
 
 mod by_hand;
 pub mod mutated;
@@ -24,6 +24,8 @@ pub fn all() -> Vec<Case> {
     cases.extend(mutated::good_patterns());
     cases.extend(by_hand::lazy_cases());
     cases.extend(mutated::mixed());
+    cases.extend(by_hand::hot_cases());
+    cases.extend(mutated::hot());
     cases
 }
 

@@ -1,6 +1,7 @@
 //! Random cases with a fixed seed: good texts with a few bytes or lines
 //! changed, and good patterns of 1 to 64 nodes. First of patterns that have
-//! no `Z`, then of such as mix `K` and `Z`.
+//! no `Z`, then of such as mix `K` and `Z`, and apart from them of such as have
+//! letters of the hot side too.
 
 use super::Case;
 use crate::lazy;
@@ -12,6 +13,11 @@ use crate::table::Kind;
 const LIKELY_BYTES: &[u8] = b"0123456789012345\t\n\t\nELRSAKe-ab +\r~!";
 /// The same where patterns may have `Z`.
 pub const LIKELY_MIXED_BYTES: &[u8] = b"0123456789012345\t\n\t\nELRSAKZZKez-ab +\r~!";
+
+/// The same with bytes next to the gap, some of the hot side, and the two bytes
+/// that an editor may write for one letter.
+pub const LIKELY_HOT_BYTES: &[u8] =
+    b"012345678901234\t\n\t\nELRSAKZ-ab~!\x7f\x80\xa0\xa1\xfe\xff\xa1\xfe\xb0\xb9\xc4\xc3\xa4";
 
 const ANY_PATTERN: Taste = Taste {
     leaves: &[Kind::Nothing, Kind::Letter, Kind::Letter, Kind::Range],
@@ -35,6 +41,11 @@ const ANY_MIXED_PATTERN: Taste = Taste {
     ],
     letters: b"!0123456789AWZabz~",
     ..ANY_PATTERN
+};
+
+const ANY_HOT_PATTERN: Taste = Taste {
+    letters: b"!09AWZaz~\xa1\xa2\xb0\xb9\xc4\xd7\xe4\xfd\xfe",
+    ..ANY_MIXED_PATTERN
 };
 
 pub fn mutations() -> Vec<Case> {
@@ -139,6 +150,32 @@ pub fn mixed() -> Vec<Case> {
         cases.push(Case {
             name: format!("mixed good pattern {index}"),
             text: text_of(&random(&mut rng, count, &ANY_MIXED_PATTERN)),
+            expected: Some((0, count as u64)),
+        });
+    }
+    cases
+}
+
+/// Mutations and good patterns with letters of the hot side.
+pub fn hot() -> Vec<Case> {
+    let mut rng = Prng::new(0x0021_1093);
+    let mut cases = Vec::new();
+    for index in 0..60 {
+        let count = 1 + rng.below(12);
+        let mut text = text_of(&random(&mut rng, count, &ANY_HOT_PATTERN));
+        for _ in 0..1 + rng.below(3) {
+            text = change(&mut rng, text, LIKELY_HOT_BYTES);
+        }
+        cases.push(Case {
+            name: format!("hot mutation {index}"),
+            text,
+            expected: None,
+        });
+    }
+    for (index, count) in [1, 2, 3, 8, 21, 55, 63, 64].into_iter().enumerate() {
+        cases.push(Case {
+            name: format!("hot good pattern {index}"),
+            text: text_of(&random(&mut rng, count, &ANY_HOT_PATTERN)),
             expected: Some((0, count as u64)),
         });
     }

@@ -31,14 +31,14 @@ impl Hand {
     }
 
     /// A case with buffers just long enough.
-    pub fn exact(&mut self, name: &str, text: &str, code: &Code) {
-        let lent = just_enough(&table_of(text.as_bytes()), code);
-        self.add(name, text.as_bytes(), code, lent);
+    pub fn exact(&mut self, name: &str, text: impl AsRef<[u8]>, code: &Code) {
+        let lent = just_enough(&table_of(text.as_ref()), code);
+        self.add(name, text.as_ref(), code, lent);
     }
 
     /// Every buffer just long enough and one cell short, each with each.
-    pub fn short(&mut self, name: &str, text: &str, code: &Code) {
-        let enough = just_enough(&table_of(text.as_bytes()), code);
+    pub fn short(&mut self, name: &str, text: impl AsRef<[u8]>, code: &Code) {
+        let enough = just_enough(&table_of(text.as_ref()), code);
         for short in 0..8 {
             let lent = Lent {
                 letters: enough.letters.saturating_sub(short & 1),
@@ -49,7 +49,7 @@ impl Hand {
                 "{name}, {} cells, {} words, {} bytes",
                 lent.letters, lent.words, lent.bytes
             );
-            self.add(&name, text.as_bytes(), code, lent);
+            self.add(&name, text.as_ref(), code, lent);
             if lent.letters < enough.letters {
                 self.gives(9, enough.letters as u64);
             } else if lent.words < enough.words {

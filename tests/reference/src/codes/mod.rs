@@ -3,6 +3,7 @@
 
 mod by_hand;
 pub mod damaged;
+mod hot;
 mod lazy;
 mod long;
 pub mod random;
@@ -69,6 +70,9 @@ pub fn all() -> Vec<Case> {
     cases.extend(random::cases());
     cases.extend(damaged::cases());
     cases.extend(lazy::cases());
+    cases.extend(hot::cases());
+    cases.extend(random::hot());
+    cases.extend(damaged::hot());
     cases
 }
 

@@ -7,7 +7,7 @@ use crate::code::encode;
 use crate::patterns::{random, text_of};
 use crate::prng::Prng;
 use crate::table::{Kind, Table};
-use crate::tapes::random::{Tastes, MIXED, WITHOUT_Z};
+use crate::tapes::random::{Tastes, HOT, MIXED, WITHOUT_Z};
 use crate::value::{has_empty_round, spell, Value};
 
 /// Rounds of a random value.
@@ -17,6 +17,11 @@ pub fn cases() -> Vec<Case> {
     let mut cases = drawn(Prng::new(47), "", &WITHOUT_Z, [70, 30, 20]);
     cases.extend(drawn(Prng::new(147), "mixed ", &MIXED, [40, 16, 8]));
     cases
+}
+
+/// The same with letters of the hot side.
+pub fn hot() -> Vec<Case> {
+    drawn(Prng::new(247), "hot ", &HOT, [30, 12, 8])
 }
 
 /// So many codes with empty rounds, pairs of one tape and pairs of two tapes.
@@ -136,7 +141,7 @@ pub fn sample(rng: &mut Prng, table: &Table, place: usize, rounds: &mut usize) -
     match node.kind {
         Kind::Nothing => Value::Nothing,
         Kind::Letter => Value::Letter(node.x as u8),
-        Kind::Range => Value::Letter((x + rng.below(y - x + 1)) as u8),
+        Kind::Range => Value::Letter(*rng.pick(&node.letters())),
         Kind::Sequence => {
             let first = sample(rng, table, x, rounds);
             Value::pair(first, sample(rng, table, y, rounds))

@@ -8,9 +8,9 @@ pub mod spelling;
 pub mod totals;
 pub mod visits;
 
-use crate::table::Refusal;
+use crate::table::{is_letter, Refusal};
 
-/// "Tapes hold at most 3,600 letters, all from 33 to 126."
+/// "Tapes hold at most 3,600 letters."
 pub const MOST_LETTERS: usize = 3_600;
 
 /// Cause 3 counts bytes, letters or not.
@@ -21,9 +21,10 @@ fn judge_length(letters: usize) -> Result<(), Refusal> {
     Ok(())
 }
 
-/// Cause 4, with the "first such position" beside it.
+/// Cause 4, read with the letters of 02, Job 3, with the "first such position"
+/// beside it.
 fn judge_bytes(tape: &[u8]) -> Result<(), Refusal> {
-    match tape.iter().position(|byte| !(33..=126).contains(byte)) {
+    match tape.iter().position(|&byte| !is_letter(u64::from(byte))) {
         Some(position) => Err(Refusal::new(4, position as u64)),
         None => Ok(()),
     }

@@ -8,7 +8,7 @@ use crate::patterns::{LISTING, P1, P2, P3, P4, P5};
 use crate::services::spelling::flatten;
 use crate::services::MOST_LETTERS;
 
-/// (R from ! to ~)*: reads every tape of letters.
+/// (R from ! to ~)*: reads every tape of letters below the gap.
 pub const EVERY: &str = "0\tR\t-\t!\t~\n1\tK\t-\t0\n";
 /// One letter, whose code has no bits.
 pub const ONE: &str = "0\tL\t-\ta\n";
@@ -44,9 +44,9 @@ impl Hand {
     }
 
     /// A case with buffers just long enough.
-    pub fn exact(&mut self, name: &str, text: &str, tape: &[u8]) {
-        let bytes = bytes_for(text.as_bytes(), tape);
-        self.add(name, text.as_bytes(), tape, words_for(tape), bytes);
+    pub fn exact(&mut self, name: &str, text: impl AsRef<[u8]>, tape: &[u8]) {
+        let bytes = bytes_for(text.as_ref(), tape);
+        self.add(name, text.as_ref(), tape, words_for(tape), bytes);
     }
 }
 

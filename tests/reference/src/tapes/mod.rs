@@ -2,6 +2,7 @@
 //! with tapes that they read and tapes that they do not.
 
 pub mod by_hand;
+mod hot;
 mod lazy;
 mod long;
 pub mod random;
@@ -42,6 +43,8 @@ pub fn all() -> Vec<Case> {
     cases.extend(long::cases());
     cases.extend(random::cases());
     cases.extend(lazy::cases());
+    cases.extend(hot::cases());
+    cases.extend(random::hot());
     cases
 }
 

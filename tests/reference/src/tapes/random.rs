@@ -1,6 +1,7 @@
 //! Random patterns full of stars over parts that can spell nothing, and of
 //! ranges, with tapes that they read and tapes that they do not: first those
-//! that have no `Z`, then such as mix `K` and `Z`.
+//! that have no `Z`, then such as mix `K` and `Z`, and apart from them such as
+//! have letters of the hot side too.
 
 use super::{bytes_for, read, words_for, Case};
 use crate::patterns::{random, text_of, Taste};
@@ -53,16 +54,34 @@ pub const MIXED_METER: Taste = Taste {
     ..METER
 };
 
-/// What patterns without `Z` are made of, in turn, and what those that mix
-/// `K` and `Z` are made of.
+/// The two letters next to the gap: a range of both runs across it.
+pub const HOT_NULLABLE: Taste = Taste {
+    letters: &[126, 161],
+    ..MIXED_NULLABLE
+};
+
+/// Letters of both sides. A hot letter is a cold one with its highest bit set:
+/// beside `0`, `9` and `D` there are those that must not be taken for them.
+pub const HOT_METER: Taste = Taste {
+    letters: b"!09DW~\xa1\xb0\xb9\xc4\xd7\xfe",
+    ..MIXED_METER
+};
+
+/// What patterns without `Z` are made of, in turn, what those that mix `K` and
+/// `Z` are made of, and what those with letters of the hot side are made of.
 pub type Tastes = [&'static Taste<'static>; 3];
 pub const WITHOUT_Z: Tastes = [&NULLABLE, &NULLABLE, &METER];
 pub const MIXED: Tastes = [&MIXED_NULLABLE, &MIXED_NULLABLE, &MIXED_METER];
+pub const HOT: Tastes = [&HOT_NULLABLE, &HOT_METER, &HOT_METER];
 
 pub fn cases() -> Vec<Case> {
     let mut cases = drawn(Prng::new(6), "random", &WITHOUT_Z, 300, 20);
     cases.extend(drawn(Prng::new(106), "mixed", &MIXED, 150, 10));
     cases
+}
+
+pub fn hot() -> Vec<Case> {
+    drawn(Prng::new(206), "hot", &HOT, 90, 6)
 }
 
 /// So many cases of patterns of up to 24 lines, and so many of all 64.
@@ -152,7 +171,7 @@ fn sample(rng: &mut Prng, table: &Table, place: usize, letters: &mut Vec<u8>) {
     match node.kind {
         Kind::Nothing => {}
         Kind::Letter => letters.push(node.x as u8),
-        Kind::Range => letters.push((x + rng.below(y - x + 1)) as u8),
+        Kind::Range => letters.push(*rng.pick(&node.letters())),
         Kind::Sequence => {
             sample(rng, table, x, letters);
             sample(rng, table, y, letters);

@@ -48,8 +48,9 @@ impl Hand {
 
     /// Every node of a code, with the first visits, the last one and the one
     /// past it; and nodes outside the table.
-    pub fn every(&mut self, name: &str, text: &str, code: &Code) {
-        let table = table_of(text.as_bytes());
+    pub fn every(&mut self, name: &str, text: impl AsRef<[u8]>, code: &Code) {
+        let text = text.as_ref();
+        let table = table_of(text);
         let (bytes, count) = (&code.bytes, code.count);
         let tape = letters_of(&table, bytes, count).expect("a code");
         for node in 0..table.count {
@@ -58,14 +59,14 @@ impl Hand {
             asked.sort_unstable();
             asked.dedup();
             for visit in asked {
-                self.add(name, text.as_bytes(), &tape, code, node, visit);
+                self.add(name, text, &tape, code, node, visit);
                 if visit >= visits {
                     self.gives(10, 0, 0);
                 }
             }
         }
         for node in [table.count, 64, 4_294_967_295] {
-            self.add(name, text.as_bytes(), &tape, code, node, 0);
+            self.add(name, text, &tape, code, node, 0);
             self.gives(10, 0, 0);
         }
     }

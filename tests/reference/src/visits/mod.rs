@@ -2,6 +2,7 @@
 //! codes with empty rounds, damaged codes and codes of another tape.
 
 mod by_hand;
+mod hot;
 mod lazy;
 mod random;
 
@@ -27,6 +28,8 @@ pub fn all() -> Vec<Case> {
     let mut cases = by_hand::cases();
     cases.extend(random::cases());
     cases.extend(lazy::cases());
+    cases.extend(hot::cases());
+    cases.extend(random::hot());
     cases
 }
 

@@ -11,13 +11,18 @@ use crate::patterns::text_of;
 use crate::prng::Prng;
 use crate::services::visits::count_of_visits;
 use crate::table::Table;
-use crate::tapes::random::{Tastes, MIXED, WITHOUT_Z};
+use crate::tapes::random::{Tastes, HOT, MIXED, WITHOUT_Z};
 use crate::value::spell;
 
 pub fn cases() -> Vec<Case> {
     let mut cases = drawn(Prng::new(83), "", &WITHOUT_Z, [30, 20, 48]);
     cases.extend(drawn(Prng::new(183), "mixed ", &MIXED, [12, 8, 16]));
     cases
+}
+
+/// The same with letters of the hot side.
+pub fn hot() -> Vec<Case> {
+    drawn(Prng::new(283), "hot ", &HOT, [10, 8, 16])
 }
 
 /// So many codes with empty rounds, of another tape and damaged.

@@ -95,7 +95,7 @@ pub fn sample(rng: &mut Prng, table: &Table, place: usize, letters: &mut Vec<u8>
     match node.kind {
         Kind::Nothing => {}
         Kind::Letter => letters.push(node.x as u8),
-        Kind::Range => letters.push((node.x + rng.below(y - x + 1) as u64) as u8),
+        Kind::Range => letters.push(*rng.pick(&node.letters())),
         Kind::Sequence => {
             sample(rng, table, x, letters);
             sample(rng, table, y, letters);

@@ -2,6 +2,7 @@
 //! the answers taken where two careful implementers differ.
 
 mod fields;
+mod hot;
 mod lazy;
 mod lines;
 mod trees;
@@ -53,6 +54,21 @@ pub fn lazy_cases() -> Vec<Case> {
     lazy::trees(&mut hand);
     for case in &mut hand.cases {
         case.name.insert_str(0, "lazy: ");
+    }
+    hand.cases
+}
+
+/// Those about the letters of the hot side.
+pub fn hot_cases() -> Vec<Case> {
+    let mut hand = Hand { cases: Vec::new() };
+    hot::letters(&mut hand);
+    hot::no_letters(&mut hand);
+    hot::ranges(&mut hand);
+    hot::two_bytes(&mut hand);
+    hot::other_fields(&mut hand);
+    hot::trees(&mut hand);
+    for case in &mut hand.cases {
+        case.name.insert_str(0, "hot: ");
     }
     hand.cases
 }
