@@ -24,7 +24,7 @@
  *   WUMBYRA_TREE             2    the lines are no tree; in all calls but wumbyra_load:        line; else 0
  *                                 the text does not load, for whatever reason
  *   WUMBYRA_TAPE_TOO_LONG    3    a tape of over 3,600 letters                                 0
- *   WUMBYRA_TAPE_BYTE        4    a byte of the tape is outside 33 to 126                      first such position
+ *   WUMBYRA_TAPE_BYTE        4    a byte of the tape is outside 33 to 126 and 161 to 254       first such position
  *   WUMBYRA_UNREADABLE       5    no parse of the pattern spells the tape                      0
  *   WUMBYRA_WORDS_TOO_SHORT  6    fewer than 2 * (n + 1) words for n letters                   words needed
  *   WUMBYRA_CODE_TOO_SHORT   7    the code buffer is shorter than this code                    bytes needed
@@ -43,6 +43,12 @@
  *  of it is without a letter, and its choices are made from the tape's start on, each so that the rest can still be read: A takes
  *  its left part wherever it can, K takes another round wherever it can, and Z stops wherever it can. docs/PATTERNS.md shows how
  *  to write a pattern, and docs/REFERENCE.md has every rule.
+ *
+ * Letters
+ *  A letter is one byte, 33 to 126 or, from 1.2.0 on, 161 to 254: combined meters write hot water events as these. No other byte
+ *  is a letter; 127 to 160 are the gap. Pattern texts, tapes and codes have the same letters. Both ends of a range are letters. A
+ *  range may run across the gap, and it takes its letters only: where the 8 bits of a range say a byte of the gap, the code is
+ *  none (8), though that byte lies between the ends. Litres are bytes 48 to 57, the digits of ASCII, and no others.
  *
  * Codes
  *  A code is bytes and a bit count. Bits fill bytes from the highest; the bytes are exactly enough for the count, unused bits
@@ -69,10 +75,10 @@ extern "C" {
 #endif
 
 /* The version of this header. wumbyra_version() tells that of the library that is linked: the two differ only where a program
- * was compiled with another header than its library's. A call or a kind of line that is added raises the minor number; a call
- * that is changed or dropped raises the major number. */
+ * was compiled with another header than its library's. What is added, a call, a kind of line or letters, raises the minor number;
+ * a call that is changed or dropped raises the major number. */
 #define WUMBYRA_VERSION_MAJOR 1
-#define WUMBYRA_VERSION_MINOR 1
+#define WUMBYRA_VERSION_MINOR 2
 #define WUMBYRA_VERSION_PATCH 0
 #define WUMBYRA_VERSION_NUMBER (WUMBYRA_VERSION_MAJOR * 10000 + WUMBYRA_VERSION_MINOR * 100 + WUMBYRA_VERSION_PATCH)
 
@@ -101,11 +107,16 @@ enum {
 #define WUMBYRA_MAX_TEXT_BYTES 745
 #define WUMBYRA_DECISIVE_TEXT_BYTES 1025
 
-/* Letters of a tape: 0 to 3,600, each a byte from 33 to 126. A longer tape is refused for its length, so a caller that reads a
- * file need hold no more than one byte above that. */
+/* Letters of a tape: 0 to 3,600. A longer tape is refused for its length, so a caller that reads a file need hold no more than one
+ * byte above that. */
 #define WUMBYRA_MAX_LETTERS 3600
+
+/* Which bytes are letters: those from the first to the last letter, and, above a gap, those from the first to the last hot letter.
+ * A program that tests bytes itself asks for both stretches. */
 #define WUMBYRA_FIRST_LETTER 33
 #define WUMBYRA_LAST_LETTER 126
+#define WUMBYRA_FIRST_HOT_LETTER 161
+#define WUMBYRA_LAST_HOT_LETTER 254
 
 /* Bytes and bits of any code that is handed in. */
 #define WUMBYRA_MAX_CODE_BYTES 65536
@@ -115,7 +126,7 @@ enum {
 #define WUMBYRA_ACCOUNTS 10
 #define WUMBYRA_MAX_LITRES 32400
 
-/* Stack that suffices for any call, in bytes. The most that was measured is 30 KB, totals of 63 nested stars; tests/guard runs
+/* Stack that suffices for any call, in bytes. The most that was measured is 29 KB, totals of 63 nested stars; tests/guard runs
  * every call on a stack of this size. */
 #define WUMBYRA_STACK_BYTES 32768
 

@@ -40,6 +40,33 @@ static void try_lazy_star(void)
     expect("small z", wumbyra_load((const uint8_t *)"0\tE\t-\n1\tz\t-\t0\n", 14), WUMBYRA_LINE_FORM, 1);
 }
 
+/* Letters of the hot side, and a range across the gap. Its bits may say any letter from `0` to 185, of which 185, a 9 with the highest
+ * bit set, is no litre; bytes 127 to 160 lie between the ends and are no letters. */
+static void try_hot_letters(void)
+{
+    static const char hot[] = "0\tL\t2\t\xa1\n1\tR\t1\t0\t\xb9\n2\tA\t-\t0\t1\n3\tK\t-\t2\n";
+    static const uint8_t letters[] = {WUMBYRA_FIRST_HOT_LETTER, '7', 185}, bad[] = {'7', WUMBYRA_FIRST_HOT_LETTER - 1};
+    static const uint8_t due[] = {0x13, 0x76, 0xe6}, gap[] = {0x5f, 0xe0}; /* 00 01 00110111 01 10111001 1, and 01 01111111 1 */
+    const uint8_t *text = (const uint8_t *)hot;
+    const size_t len = sizeof hot - 1;
+    uint64_t words[2 * (3 + 1)];
+    uint8_t code[WUMBYRA_CODE_BYTES(3)], spelled[3];
+    uint32_t litres[3];
+    expect("hot letters: load", wumbyra_load(text, len), WUMBYRA_OK, 4);
+    expect("hot letters: parse", wumbyra_parse(text, len, letters, 3, words, WUMBYRA_WORDS(3), code, sizeof code), WUMBYRA_OK, 23);
+    expect("hot letters: flatten", wumbyra_flatten(text, len, code, 3, 23, spelled, 3), WUMBYRA_OK, 3);
+    if (memcmp(code, due, 3) != 0 || memcmp(spelled, letters, 3) != 0)
+        failed = 1;
+    expect("hot letters: span", wumbyra_span(text, len, letters, 3, code, 3, 23, 1, 1), WUMBYRA_OK, 2 << 16 | 1);
+    expect("hot letters: totals", wumbyra_totals(text, len, code, 3, 23, litres, 3), WUMBYRA_OK, 0);
+    if (litres[0] != 0 || litres[1] != 7 || litres[2] != 0)
+        failed = 1;
+    expect("byte 160", wumbyra_parse(text, len, bad, 2, words, WUMBYRA_WORDS(2), code, sizeof code), WUMBYRA_TAPE_BYTE, 1);
+    expect("a code that names byte 127", wumbyra_flatten(text, len, gap, 2, 11, spelled, 3), WUMBYRA_NOT_A_CODE, 0);
+    expect("a range of two letters", wumbyra_load((const uint8_t *)"0\tR\t-\t~\t\xa1\n", 10), WUMBYRA_OK, 1);
+    expect("a range that ends in the gap", wumbyra_load((const uint8_t *)"0\tR\t-\t!\t\x80\n", 10), WUMBYRA_LINE_FORM, 0);
+}
+
 int main(void)
 {
     enum { letters = 3 };
@@ -93,6 +120,7 @@ int main(void)
     printf("span\t%u\t%u\n", wumbyra_span_start(answer), wumbyra_span_length(answer));
     expect("span of no node", wumbyra_span(text, len, read, letters, code, 3, bits, 6, 0), WUMBYRA_NO_SUCH_VISIT, 0);
     try_lazy_star();
+    try_hot_letters();
     expect("count past the bytes", wumbyra_total(text, len, code, 3, 25, 1), WUMBYRA_NOT_A_CODE, 0);
     return failed;
 }

@@ -13,6 +13,8 @@ static_assert(WUMBYRA_BYTES_OF_BITS(0) == 0 && WUMBYRA_BYTES_OF_BITS(1) == 1, "b
 static_assert(WUMBYRA_BYTES_OF_BITS(8) == 1 && WUMBYRA_BYTES_OF_BITS(9) == 2, "bytes of a byte's bits");
 static_assert(WUMBYRA_BYTES_OF_BITS(UINT32_MAX) == 536870912, "bytes of as many bits as can be counted");
 static_assert(WUMBYRA_MAX_LITRES == 9 * WUMBYRA_MAX_LETTERS, "nine litres a letter");
+static_assert(WUMBYRA_FIRST_LETTER == 33 && WUMBYRA_LAST_LETTER == 126, "letters");
+static_assert(WUMBYRA_FIRST_HOT_LETTER == 161 && WUMBYRA_LAST_HOT_LETTER == 254, "letters of the hot side");
 static_assert(WUMBYRA_MAX_TEXT_BYTES < WUMBYRA_DECISIVE_TEXT_BYTES, "a text that loads is decided whole");
 
 /* 32 ranges, 31 sequences over them and a star over all: no 64 lines that load are longer. */

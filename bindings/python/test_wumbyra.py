@@ -69,6 +69,27 @@ class Services(Case):
         self.assertEqual(pattern.canonicalize(*code("001")), code("1"))
         self.refused(1, 1, Pattern, b"0\tE\t-\n1\tz\t-\t0\n")
 
+    def test_hot_letters(self):
+        # A letter of the hot side, and a range across the gap. Byte 185, a 9 with the highest bit set, is no litre.
+        pattern = Pattern(b"0\tL\t2\t\xa1\n1\tR\t1\t0\t\xb9\n2\tA\t-\t0\t1\n3\tK\t-\t2\n")
+        tape = b"\xa17\xb9"
+        found, bits, _ = pattern.parse(tape)
+        self.assertEqual((found, bits), code("00010011011101101110011"))
+        self.assertEqual(pattern.flatten(found, bits), tape)
+        self.assertEqual(pattern.canonicalize(found, bits), (found, bits))
+        self.assertEqual(pattern.piece(tape, found, bits, 0, 0), b"\xa1")
+        self.assertEqual(pattern.piece(tape, found, bits, 1, 1), b"\xb9")
+        self.assertEqual(pattern.totals(found, bits), [0, 7, 0, 0, 0, 0, 0, 0, 0, 0])
+        # Bytes 127 to 160 lie between the ends of the range, and are no letters.
+        for byte in [32, 127, 128, 160, 255]:
+            self.refused(4, 1, pattern.parse, bytes([55, byte]))
+            self.refused(8, 0, pattern.flatten, *code(f"01{byte:08b}1"))
+            self.refused(1, 0, Pattern, b"0\tR\t-\t!\t" + bytes([byte]) + b"\n")
+        # In UTF-8 an umlaut is two bytes: two letters of a tape, and none for a field.
+        self.assertEqual(len(Pattern(b"0\tR\t-\t!\t\xfe\n1\tK\t-\t0\n").parse("ä".encode()).words), 6)
+        self.refused(1, 0, Pattern, "0\tL\t-\tä\n".encode())
+        self.assertEqual(Pattern(b"0\tR\t-\t~\t\xa1\n").lines, 1)
+
     def test_a_whole_listing(self):
         pattern = Pattern(LISTING)
         self.assertEqual(pattern.lines, 6)

@@ -23,7 +23,7 @@ from typing import TYPE_CHECKING, List, NamedTuple, Union
 from ._library import LIBRARY
 from ._refused import CAUSES, Refused
 
-__version__ = "1.1.0"
+__version__ = "1.2.0"
 __all__ = ["ACCOUNTS", "CAUSES", "MAX_CODE_BYTES", "MAX_LETTERS", "Code", "Parsed", "Pattern", "Refused", "Span", "version"]
 
 MAX_LETTERS = 3600

@@ -20,7 +20,7 @@ pub enum Refusal {
     },
     /// 3: the tape, or what a code spells, has over 3,600 letters.
     TapeTooLong,
-    /// 4: a byte of the tape is no letter, which is 33 to 126.
+    /// 4: a byte of the tape is no letter, which is 33 to 126 or 161 to 254.
     TapeByte {
         /// The first such position, from 0.
         position: u32,

@@ -71,6 +71,36 @@ fn a_lazy_star() {
     );
 }
 
+/// Letters of the hot side, and a range across the gap, whose bytes 127 to 160 are no letters. Byte 185, a 9 with the highest bit set, is
+/// no litre.
+#[test]
+fn hot_letters() {
+    let hot = pattern(b"0\tL\t2\t\xa1\n1\tR\t1\t0\t\xb9\n2\tA\t-\t0\t1\n3\tK\t-\t2\n");
+    let tape = b"\xa17\xb9";
+    let read = hot.parse(tape).expect("it is read").code;
+    assert_eq!(read, code("00010011011101101110011"));
+    assert_eq!(hot.flatten(&read).as_deref(), Ok(&tape[..]));
+    assert_eq!(hot.canonicalize(&read).as_ref(), Ok(&read));
+    assert_eq!(hot.piece(tape, &read, 0, 0), Ok(&b"\xa1"[..]));
+    assert_eq!(hot.piece(tape, &read, 1, 1), Ok(&b"\xb9"[..]));
+    assert_eq!(hot.totals(&read), Ok([0, 7, 0, 0, 0, 0, 0, 0, 0, 0]));
+    for byte in [32, 127, 128, 160, 255] {
+        let refused = Err(Refusal::TapeByte { position: 1 });
+        assert_eq!(hot.parse(&[b'7', byte]), refused);
+        let named = code(&format!("01{byte:08b}1"));
+        assert_eq!(hot.flatten(&named), Err(Refusal::NotACode));
+        let line = [&b"0\tR\t-\t!\t"[..], &[byte], b"\n"].concat();
+        assert_eq!(Pattern::load(&line), Err(Refusal::LineForm { line: 0 }));
+    }
+    // In UTF-8 an umlaut is two bytes: two letters of a tape, and none for a field.
+    assert!(pattern(b"0\tR\t-\t!\t\xfe\n1\tK\t-\t0\n")
+        .parse("ä".as_bytes())
+        .is_ok());
+    let umlaut = Pattern::load("0\tL\t-\tä\n".as_bytes());
+    assert_eq!(umlaut, Err(Refusal::LineForm { line: 0 }));
+    assert_eq!(pattern(b"0\tR\t-\t~\t\xa1\n").lines(), 1);
+}
+
 #[test]
 fn a_whole_listing() {
     let listing = pattern(LISTING);

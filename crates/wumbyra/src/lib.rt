@@ -28,7 +28,7 @@ use totals::totals;
 // The version of the interface. A change that a caller may notice raises one of these numbers, and the header's with it.
 const VERSION_MAJOR: u32 = 1;
 
-const VERSION_MINOR: u32 = 1;
+const VERSION_MINOR: u32 = 2;
 
 const VERSION_PATCH: u32 = 0;
 
