@@ -6,6 +6,7 @@ ghost use Rattle.refusals.specs.Refusals.{answer, refused};
 ghost use Rattle.loading.specs.Load.{outcome-answer};
 ghost use Rattle.codes.specs.Flatten.{flattened-answer};
 ghost use Rattle.totals.specs.Totals.{totals-outcome};
+ghost use Rattle.terms.specs.Terms.{term-refused, term-outcome};
 ghost use Rattle.parser.specs.Parse.{parsed-answer};
 ghost use Rattle.canonical.specs.Canonicalize.{canonicalized-answer};
 ghost use Rattle.packing.specs.Packing.{unpacked, in-cells};
@@ -16,6 +17,10 @@ use parser::Parsed;
 use refusals::Refusal;
 use refusals::number_of;
 use refusals::value_of;
+use terms::TermOutcome;
+use terms::TermRefusal;
+use terms::term_number_of;
+use terms::term_value_of;
 use totals::TotalsOutcome;
 
 pub fn packed(number: u32, value: u32) -> u64
@@ -72,6 +77,21 @@ pub fn of_totals(outcome: TotalsOutcome) -> u64
     match outcome {
         TotalsOutcome::Added => packed(0, 0),
         TotalsOutcome::Refused(why) => of_refusal(why),
+    }
+}
+
+pub fn of_term_refusal(why: TermRefusal) -> u64
+    ensures { λ r. ⌜ unpacked r ≡ term-refused why ⌝ }
+{
+    packed(term_number_of(why), term_value_of(why))
+}
+
+pub fn of_term_totals(outcome: TermOutcome) -> u64
+    ensures { λ r. ⌜ unpacked r ≡ term-outcome outcome ⌝ }
+{
+    match outcome {
+        TermOutcome::Added => packed(0, 0),
+        TermOutcome::Refused(why) => of_term_refusal(why),
     }
 }
 

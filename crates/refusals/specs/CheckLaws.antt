@@ -1,6 +1,7 @@
 -- Laws of orders of checks. 01: "A number is returned if its cause holds and none before it in the service's order does, and never otherwise."
 use mathlib.Core.Path.{_≡_, refl, sym, ap, subst, _∙_}
 use mathlib.Core.Bool.{Bool, true, false, cond, false≢true, true≢false}
+use mathlib.Core.Logic.{_⊎_, inl, inr}
 use mathlib.Core.List.{List, [], _∷_, _++_}
 use Prim.Native.Nat.{ℕ, _≤_}
 use native.Mathlib.Omega.{arith}
@@ -65,6 +66,16 @@ refused-first (c ∷ cs) s z why e = go (c .0) refl e (λ f. refused-first cs s 
         → First why (c ∷ cs)
     go true q f rest = subst (λ w. First why ((c .0, w) ∷ cs)) (sym (refused-same (c .1) why f)) (here q)
     go false q f rest = past q (rest f)
+
+-- one of the causes of an order is the first that holds, or none holds
+pub which-first : (cs : List Check) → Clear cs ⊎ ((why : Refusal) × First why cs)
+which-first [] = inl tt
+which-first ((b, why) ∷ cs) = go b (which-first cs)
+  where
+    go : (t : Bool) → Clear cs ⊎ ((w : Refusal) × First w cs) → Clear ((t, why) ∷ cs) ⊎ ((w : Refusal) × First w ((t, why) ∷ cs))
+    go true r = inr (why, here refl)
+    go false (inl c) = inl (refl, c)
+    go false (inr (w, f)) = inr (w, past refl f)
 
 -- so no number is answered that is not in the service's line
 abbrev pub among : ℕ → List ℕ → Bool

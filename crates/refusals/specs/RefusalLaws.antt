@@ -48,3 +48,16 @@ number-positive (CodeTooShort n) = omega arith
 number-positive NotACode = omega arith
 number-positive (TapeTooShort n) = omega arith
 number-positive NoSuchVisit = omega arith
+
+-- 01 numbers its causes from 1 to 10, so that a cause added later is another one
+pub number-few : (r : Refusal) → number r ≤ 10
+number-few (LineForm l) = omega arith
+number-few (Tree l) = omega arith
+number-few TapeTooLong = omega arith
+number-few (TapeByte i) = omega arith
+number-few Unreadable = omega arith
+number-few (WordsTooShort n) = omega arith
+number-few (CodeTooShort n) = omega arith
+number-few NotACode = omega arith
+number-few (TapeTooShort n) = omega arith
+number-few NoSuchVisit = omega arith

@@ -34,13 +34,13 @@ pub pairs-entries : (es : Entries) (xs ys : List ℕ) → pairs (length es) (let
 pairs-entries [] xs ys = refl
 pairs-entries (e ∷ es) xs ys = ap (λ fs. (e .0, e .1) ∷ fs) (pairs-entries es xs ys)
 
-pairs-length : (n : ℕ) (xs ys : List ℕ) → length (pairs n xs ys) ≤ n
+pub pairs-length : (n : ℕ) (xs ys : List ℕ) → length (pairs n xs ys) ≤ n
 pairs-length zero xs ys = omega arith
 pairs-length (suc n) [] ys = omega arith
 pairs-length (suc n) (x ∷ xs) [] = omega arith
 pairs-length (suc n) (x ∷ xs) (y ∷ ys) = omega (arith, pairs-length n xs ys)
 
-pairs-next : (n : ℕ) (xs ys : List ℕ) → n < length xs → n < length ys → pairs (suc n) xs ys ≡ pairs n xs ys ++ ((getD xs n 0, getD ys n 0) ∷ [])
+pub pairs-next : (n : ℕ) (xs ys : List ℕ) → n < length xs → n < length ys → pairs (suc n) xs ys ≡ pairs n xs ys ++ ((getD xs n 0, getD ys n 0) ∷ [])
 pairs-next n [] ys h k = absurd (omega arith)
 pairs-next n (x ∷ xs) [] h k = absurd (omega arith)
 pairs-next zero (x ∷ xs) (y ∷ ys) h k = refl
@@ -60,11 +60,11 @@ unfoldable pub charge-one : (sums : List ℕ) → (account c : ℕ) → List ℕ
 charge-one s a c = set s a (getD s a 0 + litres c)
 
 -- entry after entry
-abbrev charge : (sums : List ℕ) → Entries → List ℕ
+abbrev pub charge : (sums : List ℕ) → Entries → List ℕ
 charge s [] = s
 charge s (e ∷ es) = charge (charge-one s (e .1) (e .0)) es
 
-charge-append : (es fs : Entries) (s : List ℕ) → charge s (es ++ fs) ≡ charge (charge s es) fs
+pub charge-append : (es fs : Entries) (s : List ℕ) → charge s (es ++ fs) ≡ charge (charge s es) fs
 charge-append [] fs s = refl
 charge-append (e ∷ es) fs s = charge-append es fs (charge-one s (e .1) (e .0))
 
@@ -72,7 +72,7 @@ one-length : (s : List ℕ) (a c : ℕ) → length (charge-one s a c) ≡ length
 unfolding charge-one
 one-length s a c = length-set s a (getD s a 0 + litres c)
 
-charge-length : (es : Entries) (s : List ℕ) → length (charge s es) ≡ length s
+pub charge-length : (es : Entries) (s : List ℕ) → length (charge s es) ≡ length s
 charge-length [] s = refl
 charge-length (e ∷ es) s = charge-length es (charge-one s (e .1) (e .0)) ∙ one-length s (e .1) (e .0)
 
@@ -109,15 +109,20 @@ getD-zeros zero (suc j) = refl
 getD-zeros (suc n) zero = refl
 getD-zeros (suc n) (suc j) = getD-zeros n j
 
-sum-total : (es : Entries) (a : ℕ) → a < account-limit + 1 → getD (charge no-litres es) a 0 ≡ total a es
+pub sum-total : (es : Entries) (a : ℕ) → a < account-limit + 1 → getD (charge no-litres es) a 0 ≡ total a es
 sum-total es a h = charge-total es no-litres a h ∙ ap (λ x. x + total a es) (getD-zeros (account-limit + 1) a) ∙ zero-add (total a es)
 
-charge-totals : (es : Entries) → charge no-litres es ≡ totals es
+pub charge-totals : (es : Entries) → charge no-litres es ≡ totals es
 unfolding totals
 charge-totals es =
     let n : length (charge no-litres es) ≡ account-limit + 1 = charge-length es no-litres in
     listed (charge no-litres es) (λ a. total a es) 0 (λ j k. sum-total es j (omega arith) ∙ ap (λ a. total a es) (sym (zero-add j)))
     ∙ ap (λ z. map (λ a. total a es) (count-from 0 z)) n
+
+-- no sum passes nine litres a letter
+pub charge-room : (es : Entries) (a c : ℕ) → length es < letter-limit → a ≤ account-limit
+    → getD (charge no-litres es) a 0 + litres c ≤ 9 * letter-limit
+charge-room es a c h o = omega (arith, sum-total es a (omega arith), total-small a es, litres-small c)
 
 -- ── the loop: i entries are added up ──
 pub record Summed (letters accounts sums : List ℕ) (n i : ℕ) : Type 0 where
@@ -134,9 +139,7 @@ module _ (xs ys : List ℕ) (n : ℕ) where
 
     -- no sum passes nine litres a letter
     pub summed-room : i < n → n ≤ letter-limit → (a c : ℕ) → a ≤ account-limit → getD s a 0 + litres c ≤ 9 * letter-limit
-    summed-room h few a c o =
-        let e = ap (λ z. getD z a 0) (k .is) ∙ sum-total (pairs i xs ys) a (omega arith) in
-        omega (arith, total-small a (pairs i xs ys), pairs-length i xs ys, litres-small c)
+    summed-room h few a c o = rw (k .is) (charge-room (pairs i xs ys) a c (omega (arith, pairs-length i xs ys)) o)
 
     pub summed-next : i < n → n ≤ length xs → n ≤ length ys → (s' : List ℕ) → s' ≡ charge-one s (getD ys i 0) (getD xs i 0) → Summed xs ys s' n (i + 1)
     summed-next h long wide s' e =

@@ -20,7 +20,7 @@ fn litres_of(c: u8) -> u32
 }
 
 // Adds a letter's litres to the sum of its account. No sum passes nine litres a letter.
-fn charge_letter(sums: &mut [u32], account: u8, c: u8)
+pub fn charge_letter(sums: &mut [u32], account: u8, c: u8)
     requires { ⌜ (account < length (now sums)) × (getD (now sums) account 0 + litres c ≤ 9 * letter-limit) ⌝ }
     ensures { λ _. ⌜ now (sums .exit) ≡ charge-one (now (sums .entry)) account c ⌝ }
 {

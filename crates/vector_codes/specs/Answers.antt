@@ -1,14 +1,16 @@
--- Parts of a case's line: what a service answers, in numbers, and the piece of a visit.
+-- Parts of a case's line: what a service answers, in numbers, the piece of a visit, and the dates that a case hands over.
 use mathlib.Core.Path.{_≡_, sym, ap, ap₂, subst, _∙_}
 use mathlib.Core.Bool.{cond}
 use mathlib.Core.List.{List, [], _∷_, _++_}
 use Prim.Native.Nat.{ℕ, _+_, _≤_, _<_}
 use lib.Dec.{eqb}
 use Rattle.refusals.specs.Refusals.{Answer}
+use Rattle.calendar.specs.declared.Date.{Date}
+use Rattle.calendar.specs.Dates.{date}
 use lib.ListN.{length, drop, getD}
 use Rattle.text.specs.Text.{Puts, parted, field, pair}
 use Rattle.text.specs.Putting.{drop-next, drop-done}
-use Rattle.vector_text.specs.Cases.{part, bytes-digest, shown-text, left-text}
+use Rattle.vector_text.specs.Cases.{part, bytes-digest, shown-text, left-text, number-of-text, before-byte, behind-byte}
 use Rattle.vector_codes.specs.declared.code_cases.Lent.{Lent}
 
 -- number and value, parted by a tab
@@ -41,6 +43,26 @@ abbrev pub settled-text : Lent → (tape words code : List ℕ) → List ℕ
 settled-text lent tape words code =
     field (bytes-digest 1 (part 0 (lent .letters) tape))
     ++ left-text (bytes-digest 1 (part (lent .letters) (length tape) tape)) words (lent .words) code (lent .bytes)
+
+-- the date that a line's first three fields write, and what stands behind them
+abbrev pub date-read : (line : List ℕ) → Date
+date-read line =
+    date
+    (number-of-text (before-byte 32 line))
+    (number-of-text (before-byte 32 (behind-byte 32 line)))
+    (number-of-text (before-byte 32 (behind-byte 32 (behind-byte 32 line))))
+
+abbrev pub behind-date : (line : List ℕ) → List ℕ
+behind-date line = behind-byte 32 (behind-byte 32 (behind-byte 32 line))
+
+-- a field after the other: what stands from month and day on, and the digits and number of each
+pub date-made : (line : List ℕ) {behind last a b e : List ℕ} {y m d : ℕ} → behind ≡ behind-byte 32 line → last ≡ behind-byte 32 behind
+    → a ≡ before-byte 32 line → y ≡ number-of-text a → b ≡ before-byte 32 behind → m ≡ number-of-text b
+    → e ≡ before-byte 32 last → d ≡ number-of-text e → date y m d ≡ date-read line
+date-made line {d = d} from-month from-day at-year year at-month month at-day day =
+    let m = month ∙ ap number-of-text (at-month ∙ ap (before-byte 32) from-month) in
+    let e = day ∙ ap number-of-text (at-day ∙ ap (before-byte 32) (from-day ∙ ap (behind-byte 32) from-month)) in
+    ap₂ (λ x z. date x z d) (year ∙ ap number-of-text at-year) m ∙ ap (date _ _) e
 
 -- one law for every way of answering
 pub puts-answer : {out after : List ℕ} {r : ℕ} (a b : Answer) → b ≡ a → Puts out 0 (answer-text b) after r → Puts out 0 (answer-text a) after r

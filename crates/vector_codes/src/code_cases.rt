@@ -75,7 +75,7 @@ fn wide(litres: u32) -> u64
     litres as u64
 }
 
-fn put_litres(out: &mut [u8], at: usize, litres: &[u32]) -> usize
+pub(crate) fn put_litres(out: &mut [u8], at: usize, litres: &[u32]) -> usize
     ensures { λ r. ⌜ Puts (now (out .entry)) at (litres-text 0 (now (litres .entry))) (now (out .exit)) r ⌝ }
 {
     let mut end = least(at, out.len());

@@ -1,8 +1,8 @@
 // For tests alone: runs each case of standard input, one a line, and prints what the services answer and leave in the lent
 // buffers. The first field of a line is one letter, the case's kind: `l` loads a text, `p` reads a tape, `c` spells, totals
-// and settles a code, `s` shows a visit's piece. The pattern's text in hexadecimal comes next; the fields behind it stand in
-// the kind's module, here or in crate vector_codes. Fields are parted by spaces. Byte 10 ends each line of the input; what
-// stands after the last one is left out.
+// and settles a code, `s` shows a visit's piece, `t` totals within a billing term. The pattern's text in hexadecimal comes
+// next; the fields behind it stand in the kind's module, here or in crate vector_codes. Fields are parted by spaces. Byte 10
+// ends each line of the input; what stands after the last one is left out.
 // Asked for more cells than its arrays have, the program lends all of them; no such case is stored.
 mod load_cases; // load_cases.rt: loading a text
 mod parse_cases; // parse_cases.rt: reading a tape
@@ -13,6 +13,7 @@ use loading::load;
 use parse_cases::run_parse;
 use vector_codes::run_code;
 use vector_codes::run_span;
+use vector_codes::run_term;
 use vector_text::Input;
 use vector_text::advance;
 use vector_text::decode;
@@ -34,6 +35,7 @@ fn run_kind(kind: u8, loaded: Loaded, line: &[u8]) {
         b'p' => run_parse(p, line),
         b'c' => run_code(p, line),
         b's' => run_span(p, line),
+        b't' => run_term(p, line),
         _ => say_bad(),
     }
 }

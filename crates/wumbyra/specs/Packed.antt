@@ -11,14 +11,16 @@ use Rattle.semantics.specs.Visits.{Visit}
 use Rattle.codes.specs.Flatten.{flatten-answer, flatten-tape}
 use Rattle.totals.specs.Totals.{totals-answer, totals-litres}
 use Rattle.spans.specs.Spans.{span-answer, span-shown}
+use Rattle.calendar.specs.Dates.{date-of}
+use Rattle.terms.specs.Terms.{terms-answer, terms-litres}
 use Rattle.parser.specs.declared.Parsed.{Parsed}
 use Rattle.parser.specs.Parse.{parsed-answer, Parses}
 use Rattle.canonical.specs.declared.Canonicalized.{Canonicalized}
 use Rattle.canonical.specs.Canonicalize.{canonicalized-answer, Canonicalizes}
 
--- the version 1.2.0 as one number: major × 10000 + minor × 100 + patch
+-- the version 1.3.0 as one number: major × 10000 + minor × 100 + patch
 abbrev pub version-number : ℕ
-version-number = 1 * 10000 + 2 * 100 + 0
+version-number = 1 * 10000 + 3 * 100 + 0
 
 -- THE PROMISE of reading a tape from C: answer and buffers are those that the service promises on the table of the text
 pub record Parses-text (text tape words words-now code code-now : List ℕ) (r : ℕ) : Type 0 where
@@ -53,3 +55,9 @@ total-text text code count a = answer (totals-answer (load-table text) code coun
 pub record Totals-text (text code : List ℕ) (count : ℕ) (cells cells-now : List ℕ) (r : ℕ) : Type 0 where
   pub answers : unpacked r ≡ totals-answer (load-table text) code count
   pub leaves : cells-now ≡ in-cells (totals-litres (load-table text) code count) cells
+
+-- THE PROMISE of totals within a term from C: as for all totals. Each date is a number, year × 10000 + month × 100 + day, and every number is one
+-- date or none.
+pub record Term-totals-text (text code : List ℕ) (count start first last : ℕ) (cells cells-now : List ℕ) (r : ℕ) : Type 0 where
+  pub answers : unpacked r ≡ terms-answer (load-table text) code count (date-of start) (date-of first) (date-of last)
+  pub leaves : cells-now ≡ in-cells (terms-litres (load-table text) code count (date-of start) (date-of first) (date-of last)) cells

@@ -22,6 +22,10 @@ use Rattle.codes.specs.declared.Flattened.{Flattened}
 use Rattle.totals.specs.declared.Totalled.{Totalled}
 use Rattle.codes.specs.Flatten.{flattened-answer, Flattens}
 use Rattle.totals.specs.Totals.{totals-outcome, Totals}
+use Rattle.calendar.specs.declared.Date.{Date}
+use Rattle.calendar.specs.Dates.{date-of}
+use Rattle.terms.specs.declared.TermTotalled.{TermTotalled}
+use Rattle.terms.specs.Terms.{term-outcome, Term-totals}
 use Rattle.spans.specs.declared.Spanned.{Spanned}
 use Rattle.spans.specs.declared.SpanOutcome.the-variants.{Shown, Refused}
 use Rattle.spans.specs.Spans.{span-visit, span-order, span-answer, start-of, size-of, span-shown, span-outcome, Spans}
@@ -33,6 +37,7 @@ use Rattle.canonical.specs.declared.Canonicalized.{Canonicalized}
 use Rattle.canonical.specs.Canonicalize.{canonicalized-answer, Canonicalizes}
 use Rattle.packing.specs.Packing.{unpacked, in-cells}
 use Rattle.wumbyra.specs.Packed.{Parses-text, Flattens-text, Canonicalizes-text, shown-answer, span-text, total-text, Totals-text}
+use Rattle.wumbyra.specs.Packed.{Term-totals-text}
 
 -- ── a service's promise on the loaded table ──
 module _ (text : List ℕ) (l : Loaded) (h : Loads text l) where
@@ -76,6 +81,17 @@ module _ (text : List ℕ) (l : Loaded) (h : Loads text l) where
   totals-packed code count a p cells cells-now e r f =
       let q = subst (λ t. Totals t code count a) (h .gives) p in
       record { answers = f ∙ q .answers; leaves = e ∙ ap (λ ls. in-cells ls cells) (q .gives) }
+
+  module _ (code : List ℕ) (count start first last : ℕ) (s f t : Date) (es : s ≡ date-of start) (ef : f ≡ date-of first) (et : t ≡ date-of last) where
+    pub term-totals-packed :
+        (a : TermTotalled) → Term-totals (l .pattern) code count s f t a → (cells cells-now : List ℕ) → cells-now ≡ in-cells (a .litres) cells
+        → (r : ℕ) → unpacked r ≡ term-outcome (a .outcome) → Term-totals-text text code count start first last cells cells-now r
+    term-totals-packed a p cells cells-now e r g =
+        let table = subst (λ u. Term-totals u code count s f t a) (h .gives) p in
+        let from = subst (λ d. Term-totals (load-table text) code count d f t a) es table in
+        let within = subst (λ d. Term-totals (load-table text) code count (date-of start) d t a) ef from in
+        let q = subst (λ d. Term-totals (load-table text) code count (date-of start) (date-of first) d a) et within in
+        record { answers = g ∙ q .answers; leaves = e ∙ ap (λ ls. in-cells ls cells) (q .gives) }
 
 -- ── spans ──
 module _ (p : Pattern) (tape code : List ℕ) (count l k : ℕ) (s : Spanned) (h : Spans p tape code count l k s) where

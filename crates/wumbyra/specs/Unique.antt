@@ -9,7 +9,7 @@ use Rattle.parser.specs.Unique.{parses-one}
 use Rattle.canonical.specs.Canonicalize.{canonicalized-answer}
 use Rattle.canonical.specs.Unique.{canonicalizes-one}
 use Rattle.packing.specs.Packing.{unpacked}
-use Rattle.wumbyra.specs.Packed.{Parses-text, Flattens-text, Totals-text, Canonicalizes-text, span-text, total-text}
+use Rattle.wumbyra.specs.Packed.{Parses-text, Flattens-text, Totals-text, Term-totals-text, Canonicalizes-text, span-text, total-text}
 
 pub unpacked-same : (r s : ℕ) → unpacked r ≡ unpacked s → r ≡ s
 unpacked-same r s e = same-parts 32 r s (ap (λ a. a .number) e) (ap (λ a. a .value) e)
@@ -39,6 +39,11 @@ module _ (text : List ℕ) where
   pub totals-text-one : (code : List ℕ) (count : ℕ) (cells a b : List ℕ) (r s : ℕ)
       → Totals-text text code count cells a r → Totals-text text code count cells b s → (r ≡ s) × (a ≡ b)
   totals-text-one code count cells a b r s f g = (unpacked-same r s (f .answers ∙ sym (g .answers)), f .leaves ∙ sym (g .leaves))
+
+  pub term-totals-text-one : (code : List ℕ) (count start first last : ℕ) (cells a b : List ℕ) (r s : ℕ)
+      → Term-totals-text text code count start first last cells a r → Term-totals-text text code count start first last cells b s → (r ≡ s) × (a ≡ b)
+  term-totals-text-one code count start first last cells a b r s f g =
+      (unpacked-same r s (f .answers ∙ sym (g .answers)), f .leaves ∙ sym (g .leaves))
 
   pub canonicalizes-text-one : (code : List ℕ) (count : ℕ) (ts us us-too ws vs vs-too xs ys ys-too : List ℕ) (r s : ℕ)
       → Canonicalizes-text text code count ts us ws vs xs ys r → Canonicalizes-text text code count ts us-too ws vs-too xs ys-too s

@@ -14,7 +14,8 @@ use Rattle.totals.specs.Totals.{no-litres, totals-answer, totals-litres}
 use Rattle.spans.specs.Spans.{span-answer, span-shown}
 use Rattle.parser.specs.Parse.{early}
 use Rattle.packing.specs.Packing.{unpacked, in-cells}
-use Rattle.wumbyra.specs.Packed.{span-text, total-text, Totals-text}
+use Rattle.terms.specs.Terms.{terms-answer, terms-litres}
+use Rattle.wumbyra.specs.Packed.{span-text, total-text, Totals-text, Term-totals-text}
 
 zeros : (n i : ℕ) → _≡_ {A = ℕ} (getD (replicate n 0) i 0) 0
 zeros zero i = refl
@@ -50,3 +51,9 @@ module _ (text : List ℕ) (h : 1 ≤ load-answer text .number) where
       → (unpacked r ≡ answer 2 0) × (cells-now ≡ in-cells no-litres cells)
   unfolding totals-answer totals-litres
   totals-unloaded code count cells cells-now r t = (t .answers ∙ rw not-obeyed refl, t .leaves ∙ ap (λ ls. in-cells ls cells) (rw not-obeyed refl))
+
+  pub term-totals-unloaded : (code : List ℕ) (count start first last : ℕ) (cells cells-now : List ℕ) (r : ℕ)
+      → Term-totals-text text code count start first last cells cells-now r → (unpacked r ≡ answer 2 0) × (cells-now ≡ in-cells no-litres cells)
+  unfolding terms-answer terms-litres
+  term-totals-unloaded code count start first last cells cells-now r t =
+      (t .answers ∙ rw not-obeyed refl, t .leaves ∙ ap (λ ls. in-cells ls cells) (rw not-obeyed refl))

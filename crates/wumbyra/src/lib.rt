@@ -6,7 +6,8 @@ ghost use mathlib.Core.Path.{_≡_};
 ghost use Rattle.loading.specs.Load.{load-answer};
 ghost use Rattle.packing.specs.Packing.{unpacked};
 ghost use Rattle.wumbyra.specs.Packed.{version-number, Parses-text, Flattens-text, Canonicalizes-text};
-ghost use Rattle.wumbyra.specs.Packed.{span-text, total-text, Totals-text};
+ghost use Rattle.wumbyra.specs.Packed.{span-text, total-text, Totals-text, Term-totals-text};
+use calendar::date_of;
 use canonical::canonicalize;
 use codes::flatten;
 use loading::load;
@@ -16,6 +17,7 @@ use packing::of_flattened;
 use packing::of_outcome;
 use packing::of_parsed;
 use packing::of_refusal;
+use packing::of_term_totals;
 use packing::of_totals;
 use packing::packed;
 use packing::put_totals;
@@ -23,12 +25,13 @@ use packing::totals_number;
 use parser::parse;
 use spans::SpanOutcome;
 use spans::span;
+use terms::term_totals;
 use totals::totals;
 
 // The version of the interface. A change that a caller may notice raises one of these numbers, and the header's with it.
 const VERSION_MAJOR: u32 = 1;
 
-const VERSION_MINOR: u32 = 2;
+const VERSION_MINOR: u32 = 3;
 
 const VERSION_PATCH: u32 = 0;
 
@@ -130,4 +133,29 @@ pub extern "C" fn wumbyra_totals(text: &[u8], code: &[u8], count: u32, litres: &
     let added = all.litres;
     put_totals(&added, litres);
     of_totals(outcome)
+}
+
+// Dates are numbers: year × 10000 + month × 100 + day.
+#[no_mangle]
+pub extern "C" fn wumbyra_term_totals(
+    text: &[u8],
+    code: &[u8],
+    count: u32,
+    start: u32,
+    first: u32,
+    last: u32,
+    litres: &mut [u32],
+) -> u64
+    ensures { λ r.
+        ⌜ Term-totals-text (now (text .entry)) (now (code .entry)) count start first last
+        (now (litres .entry)) (now (litres .exit)) r ⌝ }
+{
+    let loaded = load(text);
+    let from = date_of(first);
+    let upto = date_of(last);
+    let all = term_totals(loaded.pattern, code, count, date_of(start), from, upto);
+    let outcome = all.outcome;
+    let added = all.litres;
+    put_totals(&added, litres);
+    of_term_totals(outcome)
 }

@@ -1,0 +1,9 @@
+pub mod Terms
+pub mod Days
+pub mod Adding
+pub mod TermWays
+pub mod Unique
+pub mod Orders
+pub mod Along
+pub mod TermLaws
+pub mod TermTable

@@ -1,0 +1,86 @@
+// The dates of letters, and which dates lie in a term.
+ghost use mathlib.Core.Path.{_≡_};
+ghost use Prim.Native.Nat.{_-_, _≤_};
+ghost use lib.ListN.{length, take};
+ghost use Rattle.terms.specs.Terms.{after-letter, in-term, is-term};
+ghost use Rattle.terms.specs.Days.{date-behind, day-of};
+use calendar::Date;
+use calendar::is_after;
+use calendar::is_date;
+use calendar::next_date;
+
+// The letter that ends a day.
+const DAY_END: u8 = b'D';
+
+// The date behind a letter. The letter that ends a day still belongs to that day.
+fn after_letter(c: u8, date: Date) -> Date
+    ensures { λ r. ⌜ r ≡ after-letter c date ⌝ }
+{
+    if c != DAY_END {
+        return date;
+    }
+    next_date(date)
+}
+
+// The date of the last of the first n letters, the start where there are none.
+pub(crate) fn last_date(letters: &[u8], n: usize, start: Date) -> Date
+    requires { ⌜ n ≤ length (now letters) ⌝ }
+    ensures { λ r. ⌜ r ≡ date-behind start (take (n - 1) (now (letters .entry))) ⌝ }
+{
+    let mut date = start;
+    let mut i = 0;
+    while i + 1 < n {
+        date = after_letter(letters[i], date);
+        i += 1;
+    }
+    date
+}
+
+// Whether a date lies in a term, first and last date included.
+fn in_term(first: Date, last: Date, date: Date) -> bool
+    ensures { λ r. ⌜ r ≡ in-term first last date ⌝ }
+{
+    let from = !is_after(first, date);
+    let upto = !is_after(date, last);
+    from && upto
+}
+
+// Whether two dates are those of a term.
+pub(crate) fn is_term(first: Date, last: Date) -> bool
+    ensures { λ r. ⌜ r ≡ is-term first last ⌝ }
+{
+    if !is_date(first) {
+        return false;
+    }
+    if !is_date(last) {
+        return false;
+    }
+    !is_after(first, last)
+}
+
+// A date, and whether it lies in the term: asked once a day, not once a letter.
+pub(crate) struct Day {
+    pub date: Date,
+    pub inside: bool,
+}
+
+pub(crate) fn day_of(first: Date, last: Date, date: Date) -> Day
+    ensures { λ r. ⌜ r ≡ day-of first last date ⌝ }
+{
+    Day {
+        date,
+        inside: in_term(first, last, date),
+    }
+}
+
+// The day behind a letter.
+pub(crate) fn next_day(first: Date, last: Date, day: Day, c: u8) -> Day
+    requires { ⌜ day ≡ day-of first last (day .date) ⌝ }
+    ensures { λ r. ⌜ r ≡ day-of first last (after-letter c (day .date)) ⌝ }
+{
+    if c != DAY_END {
+        return day;
+    }
+    let date = next_date(day.date);
+    day_of(first, last, date)
+}

@@ -1,0 +1,121 @@
+// Litres by account within a billing term: the days from a first date to a last one, both included.
+// The code's entries are gathered as for totals. A letter's date is the start, stepped once for each `D` before it. No date falls along the tape,
+// and a step of what is no date leaves it as it is, so all letters have a date if the last one has.
+ghost use mathlib.Core.Path.{_≡_};
+ghost use Prim.Native.Nat.{_≤_};
+ghost use lib.ListN.{length};
+ghost use Rattle.syntax.specs.Letter.{letter-limit};
+ghost use Rattle.totals.specs.Sums.{Owned, pairs};
+ghost use Rattle.terms.specs.Terms.{term-number, term-value, refused-term, Dates-totals, Term-totals};
+
+mod days; // days.rt: the dates of letters, and which of them lie in a term
+mod sums; // sums.rt: adding up the entries of a term
+
+use calendar::Date;
+use calendar::is_date;
+use days::is_term;
+use days::last_date;
+use refusals::Refusal;
+use refusals::number_of;
+use refusals::value_of;
+use sums::add_term;
+use syntax::Pattern;
+use totals::Gathered;
+use totals::Totalled;
+use totals::gather;
+
+// Why totalling within a term refuses: as totalling does, or for its dates.
+pub enum TermRefusal {
+    Base(Refusal),
+    TapeUndated,
+    NotATerm,
+}
+
+// What totalling within a term answers: that the litres are added up, or why not.
+pub enum TermOutcome {
+    Added,
+    Refused(TermRefusal),
+}
+
+// The answer, and the litres of accounts 0 to 9.
+pub struct TermTotalled {
+    pub outcome: TermOutcome,
+    pub litres: [u32; 10],
+}
+
+// The number of a cause: 02 gives 11 and 12, 01's table the others.
+pub fn term_number_of(why: TermRefusal) -> u32
+    ensures { λ r. ⌜ r ≡ term-number why ⌝ }
+{
+    match why {
+        TermRefusal::Base(base) => number_of(base),
+        TermRefusal::TapeUndated => 11,
+        TermRefusal::NotATerm => 12,
+    }
+}
+
+// The value beside it: 0 for a cause that 02 adds.
+pub fn term_value_of(why: TermRefusal) -> u32
+    ensures { λ r. ⌜ r ≡ term-value why ⌝ }
+{
+    match why {
+        TermRefusal::Base(base) => value_of(base),
+        TermRefusal::TapeUndated => 0,
+        TermRefusal::NotATerm => 0,
+    }
+}
+
+fn no_term_totals(why: TermRefusal) -> TermTotalled
+    ensures { λ r. ⌜ r ≡ refused-term why ⌝ }
+{
+    TermTotalled {
+        outcome: TermOutcome::Refused(why),
+        litres: [0; Totalled::ACCOUNTS],
+    }
+}
+
+// The totals of the first n entries within a term, once their dates and the term's are tested.
+fn total_dates(
+    letters: &[u8],
+    accounts: &[u8],
+    n: usize,
+    start: Date,
+    first: Date,
+    last: Date,
+) -> TermTotalled
+    requires { ⌜ (n ≤ length (now letters)) × (n ≤ letter-limit) × Owned (now accounts) n ⌝ }
+    ensures { λ r. ⌜ Dates-totals start first last (pairs n (now (letters .entry)) (now (accounts .entry))) r ⌝ }
+{
+    let dates = is_date(last_date(letters, n, start));
+    let term = is_term(first, last);
+    if !dates {
+        return no_term_totals(TermRefusal::TapeUndated);
+    }
+    if !term {
+        return no_term_totals(TermRefusal::NotATerm);
+    }
+    TermTotalled {
+        outcome: TermOutcome::Added,
+        litres: add_term(letters, accounts, n, start, first, last),
+    }
+}
+
+// Litres by account within a term, of a tape whose first letter has the date `start`.
+pub fn term_totals(
+    p: Pattern,
+    code: &[u8],
+    count: u32,
+    start: Date,
+    first: Date,
+    last: Date,
+) -> TermTotalled
+    ensures { λ r. ⌜ Term-totals p (now (code .entry)) count start first last r ⌝ }
+{
+    let mut letters = [0u8; Pattern::MAX_LETTERS];
+    let mut accounts = [0u8; Pattern::MAX_LETTERS];
+    let gathered = gather(p, code, count, &mut letters, &mut accounts);
+    match gathered {
+        Gathered::Refused(why) => no_term_totals(TermRefusal::Base(why)),
+        Gathered::Entries(n) => total_dates(&letters, &accounts, n, start, first, last),
+    }
+}
