@@ -27,7 +27,8 @@ static void stop(const struct caller *caller)
     show("text", caller->text.at, caller->text.size);
     show("tape", caller->tape.at, caller->tape.size);
     show("code", caller->code.at, caller->code.size);
-    fprintf(stderr, "count %" PRIu32 "\n", caller->count);
+    fprintf(stderr, "count %" PRIu32 "; start %" PRIu32 ", first %" PRIu32 ", last %" PRIu32 "\n", caller->count, caller->start,
+            caller->first, caller->last);
     _Exit(1);
 }
 
@@ -158,12 +159,12 @@ static void unchanged(struct caller *caller, const struct output *output, uint8_
 /* The parts of an answer, which must be one of these numbers; a number of no value is beside 0. */
 static struct answer taken(struct caller *caller, uint64_t packed, const char *numbers, const char *what)
 {
-    static const char names[] = "0123456789x";
+    static const char names[] = "0123456789xyz";
     struct answer answer = {wumbyra_number(packed), wumbyra_value(packed)};
     caller->calls++;
-    expect(caller, answer.number <= 10 && strchr(numbers, names[answer.number]) != NULL, what);
+    expect(caller, answer.number <= CAUSES && strchr(numbers, names[answer.number]) != NULL, what);
     caller->answers[answer.number]++;
-    if (answer.number == 3 || answer.number == 5 || answer.number == 8 || answer.number == 10)
+    if (answer.number == 3 || answer.number == 5 || answer.number == 8 || answer.number >= 10)
         expect(caller, answer.value == 0, what);
     return answer;
 }
@@ -246,15 +247,31 @@ struct answer call_total(struct caller *c, uint32_t account)
     return taken(c, packed, "0283", "total answers");
 }
 
+/* What both calls that write litres leave in them. */
+static void expect_litres(struct caller *c, struct answer answer, const uint32_t *litres, size_t cells)
+{
+    const size_t used = cells < WUMBYRA_ACCOUNTS ? cells : WUMBYRA_ACCOUNTS;
+    expect(c, answer.value == 0, "totals answer 0");
+    unchanged(c, &c->litres, c->filling, used * sizeof *litres, "totals leave litres");
+    for (size_t i = 0; answer.number != WUMBYRA_OK && i < used; i++)
+        expect(c, litres[i] == 0, "refused totals are 0");
+}
+
 struct answer call_totals(struct caller *c, size_t cells)
 {
     uint32_t *litres = lend(c, &c->litres, cells * sizeof *litres);
     uint64_t packed = wumbyra_totals(c->text.at, c->text.size, c->code.at, c->code.size, c->count, litres, cells);
     struct answer answer = taken(c, packed, "0283", "totals answers");
-    const size_t used = cells < WUMBYRA_ACCOUNTS ? cells : WUMBYRA_ACCOUNTS;
-    expect(c, answer.value == 0, "totals answers 0");
-    unchanged(c, &c->litres, c->filling, used * sizeof *litres, "totals leaves litres");
-    for (size_t i = 0; answer.number != WUMBYRA_OK && i < used; i++)
-        expect(c, litres[i] == 0, "refused totals are 0");
+    expect_litres(c, answer, litres, cells);
+    return answer;
+}
+
+struct answer call_term_totals(struct caller *c, size_t cells)
+{
+    uint32_t *litres = lend(c, &c->litres, cells * sizeof *litres);
+    uint64_t packed = wumbyra_term_totals(c->text.at, c->text.size, c->code.at, c->code.size, c->count, c->start, c->first, c->last,
+                                          litres, cells);
+    struct answer answer = taken(c, packed, "0283yz", "term totals answers");
+    expect_litres(c, answer, litres, cells);
     return answer;
 }

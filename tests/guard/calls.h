@@ -6,6 +6,8 @@
 
 #include "cases.h"
 
+enum { CAUSES = WUMBYRA_NOT_A_TERM };
+
 /* Pages between two unreadable ones. `fill` shows the same pages as `lent` does, where these cannot be written. */
 struct pages {
     uint8_t *lent, *fill;
@@ -27,10 +29,11 @@ struct output {
 struct caller {
     struct source source; /* of where buffers lie and what they are filled with */
     uint64_t seed, number; /* of the case */
-    uint64_t calls, answers[11]; /* of all cases; answers by their number */
+    uint64_t calls, answers[CAUSES + 1]; /* of all cases; answers by their number */
     uint8_t filling;
     struct input text, tape, code;
     uint32_t count; /* of the code's bits */
+    uint32_t start, first, last; /* dates of the tape and of a term */
     struct output words, letters, written, litres;
 };
 
@@ -51,6 +54,7 @@ struct answer call_flatten(struct caller *caller, size_t cells);
 struct answer call_span(struct caller *caller, uint32_t node, uint32_t visit);
 struct answer call_total(struct caller *caller, uint32_t account);
 struct answer call_totals(struct caller *caller, size_t cells);
+struct answer call_term_totals(struct caller *caller, size_t cells);
 
 struct room {
     size_t cells, words, bytes;

@@ -45,16 +45,27 @@ uint8_t draw_no_letter(struct source *source)
     return (uint8_t)(WUMBYRA_LAST_LETTER + 1 + draw(source, WUMBYRA_FIRST_HOT_LETTER - WUMBYRA_LAST_LETTER - 1));
 }
 
+uint32_t litres_of(uint8_t letter)
+{
+    return letter >= '0' && letter <= '9' ? (uint32_t)(letter - '0') : 0;
+}
+
+uint32_t days_of(uint8_t letter)
+{
+    return letter == 'D';
+}
+
 /* ---- patterns */
 
-/* Few letters, so that leaves of a pattern share them and a tape has several parses. Of the hot side they are the first, the last, and
- * the one that is a 9 with the highest bit set, which is no litre; each of them makes a range that begins with a digit go across the gap. */
+/* Few letters, so that leaves of a pattern share them and a tape has several parses; one of them ends a day. Of the hot side they are the
+ * first, the last, and the one that is a 9 with the highest bit set, which is no litre; each of them makes a range that begins with a digit
+ * go across the gap. */
 static uint8_t draw_letter(struct source *source)
 {
-    static const uint8_t usual[] = {'0', '1', '2', '3', '4', '5', '6', '7', '8', '9', 'a', 'b', 161, 185, 254};
+    static const uint8_t usual[] = {'0', '1', '2', '3', '4', '5', '6', '7', '8', '9', 'D', 'a', 'b', 161, 185, 254};
     if (chance(source, 12))
         return draw_between(source, WUMBYRA_FIRST_LETTER, WUMBYRA_LAST_HOT_LETTER);
-    return usual[chance(source, 2) ? draw(source, sizeof usual) : 9 + draw(source, 3)];
+    return usual[chance(source, 2) ? draw(source, sizeof usual) : 9 + draw(source, 4)];
 }
 
 /* Whether a line of this kind may stand here, with `trees` trees before it that none names and `left` lines behind it: those must
@@ -163,9 +174,9 @@ void put_byte_at(uint8_t *code, uint32_t at, uint8_t byte)
 
 static void put_letter(struct parse *parse, uint8_t letter, uint32_t account)
 {
+    parse->accounts[parse->count] = (uint8_t)account;
     parse->letters[parse->count++] = letter;
-    if (letter >= '0' && letter <= '9')
-        parse->litres[account] += (uint32_t)(letter - '0');
+    parse->litres[account] += litres_of(letter);
 }
 
 /* Whether another round may be gone through. Behind the last one at most 64 more lines are visited, for which there is room. */
@@ -242,6 +253,60 @@ void draw_parse(struct source *source, const struct pattern *pattern, struct par
     memset(parse->litres, 0, sizeof parse->litres);
     parse->watched = draw(source, pattern->count);
     visit(&walk, pattern->count - 1, 0);
+}
+
+/* ---- dates */
+
+/* Not by a table of months, which the library has. Years begin in March here, so that a leap day is the last of a year, and from there on
+ * five months have 153 days. The first year is that of March 1996; every fourth one has a day more, since 2100 is not reached. */
+enum { MARCH_1996 = 1401 /* days before 1 January 2000 */, FOUR_YEARS = 1461 };
+
+uint32_t date_of(uint32_t day)
+{
+    const uint32_t days = day + MARCH_1996;
+    const uint32_t year = (4 * days + 3) / FOUR_YEARS, of_year = days - FOUR_YEARS * year / 4;
+    const uint32_t month = (5 * of_year + 2) / 153, of_month = of_year - (153 * month + 2) / 5;
+    return WUMBYRA_DATE(1996 + year + (month >= 10), month < 10 ? month + 3 : month - 9, of_month + 1);
+}
+
+uint32_t day_of(uint32_t date)
+{
+    const uint32_t month = date / 100 % 100, of_month = date % 100, year = date / 10000 - (month < 3);
+    const uint32_t of_year = (153 * (month < 3 ? month + 9 : month - 3) + 2) / 5 + of_month - 1;
+    uint32_t day;
+    if (date < 20000101 || date > 20991231 || month < 1 || month > 12 || of_month < 1)
+        return DAYS;
+    day = FOUR_YEARS * (year - 1996) / 4 + of_year - MARCH_1996;
+    return date_of(day) == date ? day : DAYS; /* 31 April is counted as 1 May, and is none */
+}
+
+uint32_t draw_day(struct source *source)
+{
+    const uint32_t year = 20000000 + 10000 * draw(source, 100);
+    switch (draw(source, 6)) {
+    case 0: return draw(source, 4);
+    case 1: return DAYS - 1 - draw(source, chance(source, 2) ? 4 : 60);
+    case 2: return day_of(year + 301) - 1 - draw(source, 3);
+    case 3: return day_of(year + 101 + 100 * draw(source, 12)) + draw(source, 2);
+    case 4: return day_of(year + 1231) - draw(source, 2);
+    default: return draw(source, DAYS);
+    }
+}
+
+uint32_t draw_no_date(struct source *source)
+{
+    static const uint32_t nearly[] = {0, 19991231, 21000101, 20000100, 20240001, 20241301, 20230229, 21000228};
+    uint32_t date = date_of(draw_day(source));
+    do
+        switch (draw(source, 5)) {
+        case 0: date = nearly[draw(source, sizeof nearly / sizeof *nearly)]; break;
+        case 1: date = date / 100 * 100 + draw(source, 100); break;
+        case 2: date = date / 10000 * 10000 + 100 * draw(source, 100) + date % 100; break;
+        case 3: date = date % 10000 + 10000 * draw(source, 429496); break;
+        default: date = draw(source, UINT32_MAX); break;
+        }
+    while (day_of(date) < DAYS);
+    return date;
 }
 
 /* ---- damage */

@@ -1,4 +1,5 @@
-/* What the guard test draws: patterns, parses of them as code and letters, and damage to bytes. All of it comes from one number. */
+/* What the guard test draws: patterns, parses of them as code and letters, dates, and damage to bytes. All of it comes from one
+ * number. */
 #ifndef CASES_H
 #define CASES_H
 
@@ -25,6 +26,10 @@ bool chance(struct source *source, uint32_t of);
 bool is_letter(uint32_t byte);
 uint8_t draw_no_letter(struct source *source);
 
+/* How many litres a letter is, and how many days end with it. */
+uint32_t litres_of(uint8_t letter);
+uint32_t days_of(uint8_t letter);
+
 struct node {
     char kind; /* of E L R S A K Z */
     uint32_t account; /* 0: none */
@@ -46,6 +51,7 @@ struct parse {
     uint8_t code[CODE_ROOM];
     uint32_t bits;
     uint8_t letters[LETTER_ROOM];
+    uint8_t accounts[LETTER_ROOM]; /* of the letters */
     uint32_t count; /* of letters */
     uint32_t litres[WUMBYRA_ACCOUNTS];
     bool empty_round;
@@ -65,6 +71,17 @@ void put_bits(struct parse *parse, uint32_t bits, uint32_t count);
 
 /* Writes a byte over the eight bits of a code from `at` on. */
 void put_byte_at(uint8_t *code, uint32_t at, uint8_t byte);
+
+/* Days, counted from 1 January 2000 on, and numbers of dates as the library takes them. A number that is none has the day DAYS. */
+enum { DAYS = 36525 };
+uint32_t date_of(uint32_t day);
+uint32_t day_of(uint32_t date);
+
+/* A day, often one of those where a step is a special one. */
+uint32_t draw_day(struct source *source);
+
+/* A number that is no date, mostly one that is nearly a date. */
+uint32_t draw_no_date(struct source *source);
 
 /* Bytes after some damage: changed, lost, added, cut, doubled. There is room for `room` of them; the answer is how many there are. */
 size_t damage(struct source *source, uint8_t *bytes, size_t size, size_t room);

@@ -17,6 +17,8 @@ uint64_t __real_wumbyra_span(const uint8_t *text, size_t text_len, const uint8_t
                              size_t code_len, uint32_t count, uint32_t node, uint32_t visit);
 uint64_t __real_wumbyra_totals(const uint8_t *text, size_t text_len, const uint8_t *code, size_t code_len, uint32_t count,
                                uint32_t *litres, size_t litres_len);
+uint64_t __real_wumbyra_term_totals(const uint8_t *text, size_t text_len, const uint8_t *code, size_t code_len, uint32_t count,
+                                    uint32_t start, uint32_t first, uint32_t last, uint32_t *litres, size_t litres_len);
 uint64_t __wrap_wumbyra_load(const uint8_t *text, size_t text_len);
 uint64_t __wrap_wumbyra_parse(const uint8_t *text, size_t text_len, const uint8_t *tape, size_t tape_len, uint64_t *words,
                               size_t words_len, uint8_t *code, size_t code_len);
@@ -29,6 +31,8 @@ uint64_t __wrap_wumbyra_span(const uint8_t *text, size_t text_len, const uint8_t
                              size_t code_len, uint32_t count, uint32_t node, uint32_t visit);
 uint64_t __wrap_wumbyra_totals(const uint8_t *text, size_t text_len, const uint8_t *code, size_t code_len, uint32_t count,
                                uint32_t *litres, size_t litres_len);
+uint64_t __wrap_wumbyra_term_totals(const uint8_t *text, size_t text_len, const uint8_t *code, size_t code_len, uint32_t count,
+                                    uint32_t start, uint32_t first, uint32_t last, uint32_t *litres, size_t litres_len);
 
 static int fault(void)
 {
@@ -197,4 +201,58 @@ uint64_t __wrap_wumbyra_totals(const uint8_t *text, size_t text_len, const uint8
         litres[0] += 9 * counted(tape, wumbyra_value(letters), 128 + '9', 128 + '9');
     }
     return answer;
+}
+
+/* The day behind the tape's last letter: a `D` at its end is counted. */
+static uint32_t day_behind(const uint8_t *text, size_t text_len, const uint8_t *code, size_t code_len, uint32_t count, uint32_t start)
+{
+    uint8_t tape[WUMBYRA_MAX_LETTERS];
+    uint64_t letters = __real_wumbyra_flatten(text, text_len, code, code_len, count, tape, sizeof tape);
+    return day_of(start) + counted(tape, wumbyra_value(letters), 'D', 'D');
+}
+
+/* Whether these are dates, in whatever order. */
+static bool are_dates(uint32_t first, uint32_t last)
+{
+    return day_of(first) < DAYS && day_of(last) < DAYS;
+}
+
+static void spoil_litres(uint32_t number, uint32_t *litres, size_t litres_len)
+{
+    if (fault() == 30 && litres_len > 1) { /* to another account */
+        uint32_t first = litres[0];
+        litres[0] = litres[1];
+        litres[1] = first;
+    }
+    if (fault() == 31 && litres_len > WUMBYRA_ACCOUNTS)
+        litres[WUMBYRA_ACCOUNTS] ^= 1;
+    if (fault() == 32 && number != 0 && litres_len > 0)
+        litres[0] = 1;
+}
+
+uint64_t __wrap_wumbyra_term_totals(const uint8_t *text, size_t text_len, const uint8_t *code, size_t code_len, uint32_t count,
+                                    uint32_t start, uint32_t first, uint32_t last, uint32_t *litres, size_t litres_len)
+{
+    const bool are = are_dates(first, last), more = are && first < last;
+    uint64_t answer;
+    uint32_t number;
+    if (fault() == 26 && more) /* the first date left out */
+        first = date_of(day_of(first) + 1);
+    if (fault() == 27 && more) /* the last date left out */
+        last = date_of(day_of(last) - 1);
+    if (fault() == 28 && start % 10000 == 229) /* no leap days */
+        start = 0;
+    if (fault() == 29)
+        seen = code[code_len];
+    answer = __real_wumbyra_term_totals(text, text_len, code, code_len, count, start, first, last, litres, litres_len);
+    number = wumbyra_number(answer);
+    spoil_litres(number, litres, litres_len);
+    switch (fault()) {
+    case 33: return number == 12 && are ? 0 : answer; /* a term backwards is one without days */
+    case 34: return number == 11 && (!are || last < first) ? (uint64_t)12 << 32 : answer; /* 12 before 11 */
+    case 35: return number == 11 && day_of(start) < DAYS ? 0 : answer; /* letters behind 2099 let through */
+    case 36: /* the last `D` of 2099 refused */
+        return number == 0 && day_behind(text, text_len, code, code_len, count, start) >= DAYS ? (uint64_t)11 << 32 : answer;
+    default: return answer;
+    }
 }

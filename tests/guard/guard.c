@@ -134,7 +134,7 @@ static void try_totals(struct scene *s)
     expect_answer(c, call_totals(c, WUMBYRA_ACCOUNTS), s->refusal, 0, "totals: refused as flatten is");
     memcpy(litres, c->litres.at, sizeof litres);
     for (size_t i = 0; i < s->letters; i++)
-        sum += s->tape[i] >= '0' && s->tape[i] <= '9' ? (uint32_t)(s->tape[i] - '0') : 0;
+        sum += litres_of(s->tape[i]);
     for (size_t i = 0; i < WUMBYRA_ACCOUNTS; i++)
         sum -= litres[i];
     expect(c, sum == 0, "totals: they add up to the digits");
@@ -147,6 +147,125 @@ static void try_totals(struct scene *s)
     expect(c, memcmp(litres, c->litres.at, cells * sizeof *litres) == 0, "totals: the first of them");
     account = chance(&c->source, 8) ? draw(&c->source, UINT32_MAX) : draw(&c->source, 12);
     expect_answer(c, call_total(c, account), s->refusal, account < WUMBYRA_ACCOUNTS ? litres[account] : 0, "total: one of the totals");
+}
+
+/* ---- terms */
+
+/* Days that end on the tape. */
+static uint32_t ended_days(const struct scene *s)
+{
+    uint32_t days = 0;
+    for (uint32_t i = 0; i < s->letters; i++)
+        days += days_of(s->tape[i]);
+    return days;
+}
+
+/* What the call on these dates is answered: days are counted along the tape. */
+static uint32_t term_refusal(const struct scene *s)
+{
+    const struct caller *c = &s->caller;
+    uint32_t day = day_of(c->start);
+    if (s->refusal != WUMBYRA_OK)
+        return s->refusal;
+    for (uint32_t i = 0; day < DAYS && i + 1 < s->letters; i++)
+        day += days_of(s->tape[i]);
+    if (day >= DAYS)
+        return WUMBYRA_TAPE_UNDATED;
+    if (day_of(c->first) == DAYS || day_of(c->last) == DAYS || day_of(c->last) < day_of(c->first))
+        return WUMBYRA_NOT_A_TERM;
+    return WUMBYRA_OK;
+}
+
+/* Litres of the letters in the term, by the accounts that the parse was drawn with, or all to account 0 where they are not known. */
+static void count_term(const struct scene *s, bool known, uint32_t *litres)
+{
+    const uint32_t first = day_of(s->caller.first), last = day_of(s->caller.last);
+    uint32_t day = day_of(s->caller.start);
+    memset(litres, 0, WUMBYRA_ACCOUNTS * sizeof *litres);
+    for (uint32_t i = 0; i < s->letters; i++) {
+        if (day >= first && day <= last)
+            litres[known ? s->parse.accounts[i] : 0] += litres_of(s->tape[i]);
+        day += days_of(s->tape[i]);
+    }
+}
+
+/* Totals the litres of the term, and compares them with those of the letters. */
+static void expect_term(struct scene *s, uint32_t *litres)
+{
+    struct caller *c = &s->caller;
+    const bool known = s->whole_text && s->whole_code;
+    const uint32_t refusal = term_refusal(s);
+    uint32_t due[WUMBYRA_ACCOUNTS], sum = 0;
+    expect_answer(c, call_term_totals(c, WUMBYRA_ACCOUNTS), refusal, 0, "term totals: the refusal is due");
+    memcpy(litres, c->litres.at, sizeof due);
+    if (refusal != WUMBYRA_OK)
+        return;
+    count_term(s, known, due);
+    if (known)
+        expect(c, memcmp(litres, due, sizeof due) == 0, "term totals: litres by account");
+    for (size_t i = 0; i < WUMBYRA_ACCOUNTS; i++)
+        sum += due[i] - litres[i];
+    expect(c, sum == 0, "term totals: they add up to the digits of the term");
+}
+
+/* Two terms that part the days of the tape: their totals add up to those of the whole tape. */
+static void try_parting(struct scene *s)
+{
+    struct caller *c = &s->caller;
+    const uint32_t start = day_of(c->start), begin = start - draw(&c->source, start < 3 ? start + 1 : 3);
+    const uint32_t end = start + ended_days(s);
+    uint32_t whole[WUMBYRA_ACCOUNTS], one[WUMBYRA_ACCOUNTS], two[WUMBYRA_ACCOUNTS], cut;
+    if (end >= DAYS - 1)
+        return;
+    cut = begin + draw(&c->source, end + 1 - begin);
+    (void)call_totals(c, WUMBYRA_ACCOUNTS);
+    memcpy(whole, c->litres.at, sizeof whole);
+    c->first = date_of(begin);
+    c->last = date_of(cut);
+    expect_term(s, one);
+    c->first = date_of(cut + 1);
+    c->last = date_of(end + 1);
+    expect_term(s, two);
+    for (size_t i = 0; i < WUMBYRA_ACCOUNTS; i++)
+        expect(c, one[i] + two[i] == whole[i], "term totals: terms that part the tape add up to its totals");
+}
+
+/* The date of a day, or the last there is. */
+static uint32_t date_up_to(uint32_t day)
+{
+    return date_of(day < DAYS ? day : DAYS - 1);
+}
+
+/* A start, mostly so that the tape ends in time; a term near it or elsewhere; and now and then what is no date. */
+static void draw_dates(struct scene *s)
+{
+    struct caller *c = &s->caller;
+    const uint32_t days = ended_days(s);
+    uint32_t start = draw_day(&c->source), first, last;
+    if (start + days >= DAYS && !chance(&c->source, 3))
+        start = DAYS - 1 - days + draw(&c->source, 3); /* so that the last letters are about 31 December 2099 */
+    first = chance(&c->source, 4) ? draw_day(&c->source) : start + draw(&c->source, days + 3) - (start > 0);
+    last = first + draw(&c->source, chance(&c->source, 4) ? DAYS : days + 3);
+    if (chance(&c->source, 8))
+        last = draw_day(&c->source);
+    c->start = chance(&c->source, 12) ? draw_no_date(&c->source) : date_up_to(start);
+    c->first = chance(&c->source, 12) ? draw_no_date(&c->source) : date_up_to(first);
+    c->last = chance(&c->source, 12) ? draw_no_date(&c->source) : date_up_to(last);
+}
+
+static void try_terms(struct scene *s)
+{
+    struct caller *c = &s->caller;
+    uint32_t litres[WUMBYRA_ACCOUNTS];
+    size_t cells = draw(&c->source, 20);
+    draw_dates(s);
+    expect_term(s, litres);
+    expect_answer(c, call_term_totals(c, cells), term_refusal(s), 0, "term totals: any number of cells");
+    if (cells > WUMBYRA_ACCOUNTS)
+        cells = WUMBYRA_ACCOUNTS;
+    expect(c, memcmp(litres, c->litres.at, cells * sizeof *litres) == 0, "term totals: the first of them");
+    if (s->refusal == WUMBYRA_OK && day_of(c->start) < DAYS)
+        try_parting(s);
 }
 
 /* ---- tapes */
@@ -267,6 +386,7 @@ static void try_settling(struct scene *s)
     expect(c, memcmp(s->tape, c->letters.at, s->letters) == 0, "flatten of parse: the tape");
     s->whole_code = false; /* from here on the code is another one */
     try_totals(s);
+    try_terms(s);
     expect_answer(c, call_span(c, 0, UINT32_MAX), WUMBYRA_NO_SUCH_VISIT, 0, "span: not so many visits");
 }
 
@@ -315,6 +435,7 @@ static void try_case(struct scene *s, uint64_t seed, uint64_t number)
     try_text(s);
     try_flatten(s);
     try_totals(s);
+    try_terms(s);
     try_damaged_tape(s);
     if (s->refusal != WUMBYRA_OK) {
         try_refused_code(s);
@@ -329,7 +450,7 @@ static void try_case(struct scene *s, uint64_t seed, uint64_t number)
 
 struct work {
     pthread_t thread;
-    uint64_t seed, first, step, calls, done, cases, answers[11];
+    uint64_t seed, first, step, calls, done, cases, answers[CAUSES + 1];
 };
 
 /* Cases first, first + step, .. until so many calls are made, so that a seed gives the same cases however threads run. */
@@ -374,7 +495,7 @@ int main(int count, char **arguments)
         cases += work[i].cases;
     }
     printf("seed %s: %" PRIu64 " calls in %" PRIu64 " cases, %d threads: all as due; by number", arguments[2], calls, cases, THREADS);
-    for (int number = 0; number <= 10; number++) {
+    for (int number = 0; number <= CAUSES; number++) {
         uint64_t sum = 0;
         for (int i = 0; i < THREADS; i++)
             sum += work[i].answers[number];

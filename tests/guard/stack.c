@@ -9,7 +9,7 @@
 #include <sys/mman.h>
 #include <ucontext.h>
 
-enum { PAGE = 4096, DRAWN = 300 };
+enum { PAGE = 4096, DRAWN = 300, CALLS = 8 };
 
 static ucontext_t outside, inside;
 static const uint8_t *text;
@@ -17,10 +17,10 @@ static size_t size;
 static struct parse parse;
 static uint64_t words[WUMBYRA_MAX_WORDS];
 static uint8_t tape[WUMBYRA_MAX_LETTERS], written[WUMBYRA_MAX_WRITTEN_CODE_BYTES];
-static uint32_t litres[WUMBYRA_ACCOUNTS];
-static uint64_t answers[7];
+static uint32_t litres[WUMBYRA_ACCOUNTS], dated[WUMBYRA_ACCOUNTS];
+static uint64_t answers[CALLS];
 
-/* Seven calls, of which none may run out of stack. Their buffers are elsewhere. */
+/* Eight calls, of which none may run out of stack. Their buffers are elsewhere. */
 static void call_all(void)
 {
     const uint8_t *letters = parse.letters, *code = parse.code;
@@ -33,6 +33,7 @@ static void call_all(void)
     answers[4] = wumbyra_span(text, size, letters, count, code, bytes, parse.bits, parse.watched, parse.visits - 1);
     answers[5] = wumbyra_total(text, size, code, bytes, parse.bits, 1);
     answers[6] = wumbyra_totals(text, size, code, bytes, parse.bits, litres, WUMBYRA_ACCOUNTS);
+    answers[7] = wumbyra_term_totals(text, size, code, bytes, parse.bits, 20000101, 20000101, 20991231, dated, WUMBYRA_ACCOUNTS);
 }
 
 static int on_small_stack(const struct pattern *pattern, uint8_t *stack)
@@ -46,11 +47,15 @@ static int on_small_stack(const struct pattern *pattern, uint8_t *stack)
     makecontext(&inside, call_all, 0);
     if (swapcontext(&outside, &inside) != 0)
         return 1;
-    for (int i = 0; i < 7; i++)
+    for (int i = 0; i < CALLS; i++)
         if (wumbyra_number(answers[i]) != WUMBYRA_OK && !(i == 4 && parse.visits == 0)) {
             fprintf(stderr, "FAILED: call %d is refused with %u\n", i, wumbyra_number(answers[i]));
             return 1;
         }
+    if (memcmp(dated, litres, sizeof litres) != 0) {
+        fprintf(stderr, "FAILED: a term of all days has not the totals of the tape\n");
+        return 1;
+    }
     return 0;
 }
 
@@ -142,6 +147,6 @@ int main(void)
     }
     failed = failed || read_longest(&pattern, 'K', around + PAGE) || read_longest(&pattern, 'Z', around + PAGE);
     if (!failed)
-        printf("%zu patterns, seven calls each, on %d bytes of stack\n", sizeof chains / sizeof *chains + DRAWN, WUMBYRA_STACK_BYTES);
+        printf("%zu patterns, eight calls each, on %d bytes of stack\n", sizeof chains / sizeof *chains + DRAWN, WUMBYRA_STACK_BYTES);
     return failed;
 }

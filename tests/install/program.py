@@ -1,11 +1,13 @@
-"""The worked example, and a refusal that comes back from another process, by a program outside the tree."""
+"""The worked example, a term, and a refusal that comes back from another process, by a program outside the tree."""
 
+import datetime
 import multiprocessing
 from concurrent.futures import ProcessPoolExecutor
 
 from wumbyra import Pattern, Refused
 
 PATTERN = b"0\tR\t-\t0\t9\n1\tL\t-\tW\n2\tS\t9\t1\t0\n3\tR\t1\t0\t9\n4\tA\t-\t2\t3\n5\tK\t-\t4\n"
+DAYS = b"0\tR\t1\t0\t9\n1\tL\t-\tD\n2\tA\t-\t0\t1\n3\tK\t-\t2\n"
 SECONDS = 30  # a refusal that cannot be pickled would be waited for without end
 
 
@@ -39,6 +41,9 @@ def main():
         if amount > 0:
             print("account", account, amount, sep="\t")
     print("span", *pattern.span(b"3W2", code, bits, 2, 0), sep="\t")
+    days, leap_day = Pattern(DAYS), datetime.date(2024, 2, 29)
+    code, bits, _ = days.parse(b"1D2D4")
+    print("term", leap_day.strftime("%Y%m%d"), days.term_totals(code, bits, (2024, 2, 28), leap_day, leap_day)[1], sep="\t")
     for answers in pools():
         assert answers == (litres, (4, 1)), answers
 

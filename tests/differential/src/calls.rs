@@ -64,6 +64,18 @@ mod c {
             litres: *mut u32,
             litres_len: usize,
         ) -> u64;
+        pub fn wumbyra_term_totals(
+            text: *const u8,
+            text_len: usize,
+            code: *const u8,
+            code_len: usize,
+            count: u32,
+            start: u32,
+            first: u32,
+            last: u32,
+            litres: *mut u32,
+            litres_len: usize,
+        ) -> u64;
     }
 }
 
@@ -169,6 +181,30 @@ pub fn totals(text: &[u8], code: &[u8], count: u32, litres: &mut [u32]) -> u64 {
             code.as_ptr(),
             code.len(),
             count,
+            litres.as_mut_ptr(),
+            litres.len(),
+        )
+    }
+}
+
+/// The dates are start, first and last, each as its number.
+pub fn term_totals(
+    text: &[u8],
+    code: &[u8],
+    count: u32,
+    [start, first, last]: [u32; 3],
+    litres: &mut [u32],
+) -> u64 {
+    unsafe {
+        c::wumbyra_term_totals(
+            text.as_ptr(),
+            text.len(),
+            code.as_ptr(),
+            code.len(),
+            count,
+            start,
+            first,
+            last,
             litres.as_mut_ptr(),
             litres.len(),
         )

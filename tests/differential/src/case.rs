@@ -1,5 +1,6 @@
-//! Random cases: a pattern text, a tape, a code and the buffers lent.
+//! Random cases: a pattern text, a tape, a code, dates and the buffers lent.
 
+use crate::dates::random_numbers;
 use wumbyra_reference::cases::mutated::{change, LIKELY_HOT_BYTES, LIKELY_MIXED_BYTES};
 use wumbyra_reference::code::{encode, pack};
 use wumbyra_reference::codes::damaged::{damage, damage_letter, other_byte};
@@ -12,8 +13,13 @@ use wumbyra_reference::memo::preferred_reading;
 use wumbyra_reference::patterns::{random, text_of, LISTING, P1, P2, P3, P4, P5};
 use wumbyra_reference::prng::Prng;
 use wumbyra_reference::services::spelling::letters_of;
+use wumbyra_reference::services::terms::DAY_END;
 use wumbyra_reference::table::{Kind, Node, Star, Table};
 use wumbyra_reference::tapes::random::{HOT, MIXED, WITHOUT_Z};
+use wumbyra_reference::terms::random::{
+    day_ends, has_litres, rounds_of_days, HOT_DAYS, MIXED_DAYS, WITH_DAYS,
+};
+use wumbyra_reference::terms::{DAYS, LAZY_SEVENS, SEVENS};
 use wumbyra_reference::value::{spell, Value};
 
 #[derive(Clone, Debug, PartialEq, Eq)]
@@ -27,8 +33,10 @@ pub struct Case {
     pub node: u32,
     pub visit: u32,
     pub account: u32,
+    /// Start, first and last, each as callers from C write it.
+    pub dates: [u32; 3],
     /// Cells lent: to `parse` words and bytes, to `flatten` and `canonicalize` letters, to `canonicalize` words and bytes, to
-    /// `totals` one for each account.
+    /// `totals` and `term_totals` one for each account.
     pub parse_words: usize,
     pub parse_bytes: usize,
     pub letters: usize,
@@ -51,6 +59,7 @@ pub fn random_case(rng: &mut Prng) -> Case {
         5..=14 => deep(rng),
         15..=99 => sampled(rng, by_hand),
         100..=299 => sampled(rng, nested),
+        300..=549 => with_days(rng),
         _ => sampled(rng, sampled_pattern),
     };
     let tape = tape_of(rng, &table, &value);
@@ -84,12 +93,50 @@ fn by_hand(rng: &mut Prng) -> Table {
 fn sampled_pattern(rng: &mut Prng) -> Table {
     let tastes = *rng.pick(&[&WITHOUT_Z, &MIXED, &MIXED, &HOT, &HOT]);
     let taste = *rng.pick(tastes);
-    let count = match rng.below(40) {
+    let count = line_count(rng);
+    random(rng, count, taste)
+}
+
+/// Patterns that read digits and `D`, three in four with rounds enough for litres on several days, half of these with empty
+/// rounds put in.
+fn with_days(rng: &mut Prng) -> (Table, Value) {
+    if rng.below(4) == 0 {
+        return sampled(rng, day_pattern);
+    }
+    let taste = rng.pick(&[WITH_DAYS, MIXED_DAYS, HOT_DAYS])[0];
+    loop {
+        let lines = line_count(rng).max(2);
+        let (table, value) = rounds_of_days(rng, taste, lines);
+        let letters = spell(&value);
+        if has_litres(&letters) && day_ends(&letters) > 0 {
+            return match rng.below(2) {
+                0 => (table, value),
+                _ => {
+                    let more = put_in(rng, &table, table.root(), &value);
+                    (table, more)
+                }
+            };
+        }
+    }
+}
+
+/// One in eight reads every tape of days.
+fn day_pattern(rng: &mut Prng) -> Table {
+    if rng.below(8) == 0 {
+        let text = *rng.pick(&[DAYS, SEVENS, LAZY_SEVENS]);
+        return load(text.as_bytes()).expect("a good pattern");
+    }
+    let taste = rng.pick(&[WITH_DAYS, MIXED_DAYS, HOT_DAYS])[0];
+    let lines = line_count(rng);
+    random(rng, lines, taste)
+}
+
+fn line_count(rng: &mut Prng) -> usize {
+    match rng.below(40) {
         0 => 64,
         1 => 40 + rng.below(24),
         _ => 1 + rng.below(24),
-    };
-    random(rng, count, taste)
+    }
 }
 
 /// Stars in stars over parts that may be empty, and repeated optional parts: what a search that goes back takes longest for.
@@ -244,6 +291,8 @@ fn likely_letters(table: &Table) -> &'static [u8] {
     if has(|letter| letter >= 161) {
         // Some of these are others with the highest bit turned.
         b"a09~\xa1\xb0\xb9\xe1\xe2\xe4\xfe"
+    } else if has(|letter| letter == u64::from(DAY_END)) {
+        b"DD0259W"
     } else if has(|letter| letter == u64::from(b'a')) {
         b"ab"
     } else {
@@ -302,6 +351,9 @@ fn long_case(rng: &mut Prng) -> Case {
         (hot::H2, "0101", Star::Greedy, 226),
         (hot::H5, "010100001", Star::Greedy, 161),
         (hot::H6, "111111110", Star::Lazy, 254),
+        (SEVENS.as_bytes(), "01", Star::Greedy, b'D'),
+        (SEVENS.as_bytes(), "0001", Star::Greedy, b'D'),
+        (LAZY_SEVENS.as_bytes(), "11", Star::Lazy, b'D'),
     ]);
     let count = *rng.pick(&[3_599, 3_600, 3_601, 3_602]);
     let mut tape = vec![letter; count];
@@ -342,6 +394,7 @@ fn finished(rng: &mut Prng, text: Vec<u8>, tape: Vec<u8>, code: Code) -> Case {
         node: 0,
         visit: 0,
         account: 0,
+        dates: [0; 3],
         parse_words: 0,
         parse_bytes: 0,
         letters: 0,
@@ -351,7 +404,7 @@ fn finished(rng: &mut Prng, text: Vec<u8>, tape: Vec<u8>, code: Code) -> Case {
         filling: rng.number(),
     };
     let mut nodes = 64;
-    let (mut parse_bytes, mut letters, mut bytes) = (0, 0, 0);
+    let (mut parse_bytes, mut letters, mut bytes, mut days) = (0, 0, 0, 0);
     if let Ok(table) = load(&case.text) {
         nodes = table.count as usize;
         let needed = |tape: &[u8]| match preferred_reading(&table, tape) {
@@ -361,6 +414,7 @@ fn finished(rng: &mut Prng, text: Vec<u8>, tape: Vec<u8>, code: Code) -> Case {
         parse_bytes = needed(&case.tape);
         if let Ok(spelled) = letters_of(&table, &case.code, u64::from(case.count)) {
             letters = spelled.len();
+            days = day_ends(&spelled);
             bytes = if letters <= 3_600 {
                 needed(&spelled)
             } else {
@@ -387,12 +441,16 @@ fn finished(rng: &mut Prng, text: Vec<u8>, tape: Vec<u8>, code: Code) -> Case {
         0 => *rng.pick(&[10, 16, 64, u32::MAX]),
         _ => rng.below(11) as u32,
     };
+    case.dates = random_numbers(rng, days);
     case
 }
 
 #[cfg(test)]
 mod tests {
     use super::*;
+    use wumbyra_reference::calendar::Date;
+    use wumbyra_reference::services::terms::term_totals;
+    use wumbyra_reference::services::totals::totals;
     use wumbyra_reference::table::is_letter;
 
     /// The letters and bytes that the README names come up, and often enough for a run of 20,000 cases to meet each many times.
@@ -425,7 +483,45 @@ mod tests {
             assert!(on_tapes[byte] >= 20, "{byte}: {}", on_tapes[byte]);
         }
         assert!(across >= 400, "{across}");
-        assert!(faulty >= 20, "{faulty}");
+        // About 20 are usual.
+        assert!(faulty >= 10, "{faulty}");
         assert!(no_codes >= 100, "{no_codes}");
+    }
+
+    /// Terms of every sort come up: litres, some of them left out, none, a date past the last one, bad dates.
+    #[test]
+    fn cases_have_terms_of_every_sort() {
+        let mut rng = Prng::new(19);
+        let [mut whole, mut part, mut none, mut past, mut start, mut term] = [0; 6];
+        for _ in 0..4_000 {
+            let case = random_case(&mut rng);
+            let Ok(table) = load(&case.text) else {
+                continue;
+            };
+            let bits = u64::from(case.count);
+            let [from, first, last] = case.dates.map(Date::of_number);
+            let all = totals(&table, &case.code, bits).unwrap_or([0; 10]);
+            let counted = match term_totals(&table, &case.code, bits, from, first, last) {
+                Ok(_) if all == [0; 10] => continue,
+                Ok(litres) if litres == all => &mut whole,
+                Ok(litres) if litres == [0; 10] => &mut none,
+                Ok(_) => &mut part,
+                Err(refusal) if refusal.number == 12 => &mut term,
+                Err(refusal) if refusal.number != 11 => continue,
+                Err(_) if from.is_date() => &mut past,
+                Err(_) => &mut start,
+            };
+            *counted += 1;
+        }
+        for (sort, count) in [
+            ("whole", whole),
+            ("part", part),
+            ("none", none),
+            ("past", past),
+            ("start", start),
+            ("term", term),
+        ] {
+            assert!(count >= 25, "{sort}: {count}");
+        }
     }
 }

@@ -2,9 +2,10 @@
 
 use crate::calls;
 use crate::case::Case;
+use wumbyra_reference::calendar::Date;
 use wumbyra_reference::load::load;
 use wumbyra_reference::prng::Prng;
-use wumbyra_reference::services::{reading, settling, spelling, totals, visits};
+use wumbyra_reference::services::{reading, settling, spelling, terms, totals, visits};
 use wumbyra_reference::table::{Refusal, Table};
 
 /// Cells on each side of a lent buffer that no call may touch.
@@ -12,7 +13,7 @@ const CANARIES: usize = 8;
 /// Bytes of a code that is walked for every node.
 const SHORT: usize = 64;
 
-pub const CALLS: [&str; 7] = [
+pub const CALLS: [&str; 8] = [
     "load",
     "parse",
     "flatten",
@@ -20,11 +21,15 @@ pub const CALLS: [&str; 7] = [
     "span",
     "total",
     "totals",
+    "term_totals",
 ];
 
-/// How often each call answered each number, 0 to 10.
+/// The greatest number of a cause.
+pub const LAST_CAUSE: usize = 12;
+
+/// How often each call answered each number.
 #[derive(Clone, Default)]
-pub struct Counts(pub [[u64; 11]; 7]);
+pub struct Counts(pub [[u64; LAST_CAUSE + 1]; 8]);
 
 impl Counts {
     pub fn calls(&self) -> u64 {
@@ -101,6 +106,7 @@ pub fn compare(case: &Case, counts: &mut Counts) -> Result<(), String> {
     run.span()?;
     run.total()?;
     run.totals()?;
+    run.term_totals()?;
     if before != (case.text.clone(), case.tape.clone(), case.code.clone()) {
         return Err("text, tape or code was changed".into());
     }
@@ -239,6 +245,31 @@ impl Run<'_> {
             );
             self.answered(6, proved, packed(expected))?;
             litres.same("totals", "litres")?;
+        }
+        Ok(())
+    }
+
+    fn term_totals(&mut self) -> Result<(), String> {
+        let case = self.case;
+        let dates = case.dates.map(Date::of_number);
+        for cells in [case.accounts, 0, 9, 10, 11] {
+            let mut litres = Lent::new(cells, || self.fill.number() as u32);
+            let proved = calls::term_totals(
+                &case.text,
+                &case.code,
+                case.count,
+                case.dates,
+                litres.proved(),
+            );
+            let expected = terms::term_totals_into(
+                &self.table,
+                &case.code,
+                u64::from(case.count),
+                dates,
+                litres.expected(),
+            );
+            self.answered(7, proved, packed(expected))?;
+            litres.same("term_totals", "litres")?;
         }
         Ok(())
     }

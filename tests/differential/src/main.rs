@@ -1,14 +1,16 @@
-//! Random calls of the C interface, each compared with the reference.
+//! Every date, then random calls of the C interface, each compared with the reference.
 //! Arguments: the number of cases, the seed, and the folder for a failing case.
 
 mod calls;
 mod case;
 mod compare;
+mod dates;
+mod every_date;
 mod letters;
 mod shrink;
 
 use case::{random_case, Case};
-use compare::{compare, Counts, CALLS};
+use compare::{compare, Counts, CALLS, LAST_CAUSE};
 use std::path::Path;
 use wumbyra_reference::prng::Prng;
 
@@ -42,6 +44,13 @@ fn main() {
         );
         std::process::exit(1);
     }
+    match every_date::calls() {
+        Ok((dates, calls)) => println!("{dates} dates, {calls} calls: all equal"),
+        Err(words) => {
+            println!("{words}");
+            std::process::exit(1);
+        }
+    }
     let mut counts = Counts::default();
     let mut seeds = Prng::new(seed);
     for index in 0..cases {
@@ -64,7 +73,7 @@ fn main() {
 /// How often each call answered each number.
 fn show(counts: &Counts) {
     print!("{:13}", "number");
-    (0..=10).for_each(|number| print!("{number:>8}"));
+    (0..=LAST_CAUSE).for_each(|number| print!("{number:>8}"));
     println!();
     for (name, row) in CALLS.iter().zip(&counts.0) {
         print!("{name:13}");
@@ -84,13 +93,16 @@ fn report(case: &Case, folder: &Path) {
         .map(|byte| format!("{byte:02x}"))
         .collect();
     let rest = format!(
-        "{words}\nbits {}\nown tape {}\nnode {} visit {} account {}\n\
+        "{words}\nbits {}\nown tape {}\nnode {} visit {} account {}\nstart {} first {} last {}\n\
          parse: words {} bytes {}\nletters {} words {} bytes {} accounts {}\nfilling {}\n",
         small.count,
         small.own_tape,
         small.node,
         small.visit,
         small.account,
+        small.dates[0],
+        small.dates[1],
+        small.dates[2],
         small.parse_words,
         small.parse_bytes,
         small.letters,

@@ -1,6 +1,7 @@
 //! Makes a failing case smaller for as long as it still fails.
 
 use crate::case::Case;
+use crate::dates::plainer;
 use crate::letters::{cool, narrower};
 use wumbyra_reference::code::{decode, encode, pack, unpack};
 use wumbyra_reference::load::load;
@@ -87,6 +88,9 @@ fn candidates(case: &Case) -> Vec<Case> {
     for number in numbers {
         add(&|smaller| *number(smaller) = 0);
         add(&|smaller| *number(smaller) = number(smaller).saturating_sub(1));
+    }
+    for dates in plainer(case.dates) {
+        add(&|smaller| smaller.dates = dates);
     }
     found
 }
@@ -280,7 +284,10 @@ fn without(table: &Table, place: usize, by: Node) -> Table {
 mod tests {
     use super::*;
     use crate::case::random_case;
+    use wumbyra_reference::calendar::Date;
     use wumbyra_reference::prng::Prng;
+    use wumbyra_reference::services::terms::term_totals;
+    use wumbyra_reference::services::totals::totals;
     use wumbyra_reference::value::{has_empty_round, spell};
 
     /// A fault in codes with an empty round comes down to one star and one round.
@@ -392,6 +399,51 @@ mod tests {
         }
     }
 
+    /// A fault in terms that leave litres out needs no late date.
+    #[test]
+    fn dates_are_made_plain() {
+        let fails = |case: &Case| {
+            let Ok(table) = load(&case.text) else {
+                return false;
+            };
+            let bits = u64::from(case.count);
+            let [start, first, last] = case.dates.map(Date::of_number);
+            let some = term_totals(&table, &case.code, bits, start, first, last);
+            some.is_ok() && some != totals(&table, &case.code, bits)
+        };
+        let mut rng = Prng::new(15);
+        let mut seen = 0;
+        while seen < 20 {
+            let case = random_case(&mut rng);
+            if case.code.len() < 100 && fails(&case) {
+                seen += 1;
+                let small = shrink(&case, &fails);
+                let plain = [20_000_101, 20_000_102];
+                let all_plain = small.dates.iter().all(|date| plain.contains(date));
+                assert!(all_plain, "{:?} of {:?}", small.dates, case.dates);
+            }
+        }
+    }
+
+    /// A fault in dates past the last keeps its year.
+    #[test]
+    fn a_late_date_is_kept_where_it_is_needed() {
+        let fails = |case: &Case| {
+            let start = Date::of_number(case.dates[0]);
+            start.is_date() && start.year == 2099
+        };
+        let mut rng = Prng::new(21);
+        let mut seen = 0;
+        while seen < 20 {
+            let case = random_case(&mut rng);
+            if case.code.len() < 100 && fails(&case) {
+                seen += 1;
+                let small = shrink(&case, &fails);
+                assert_eq!(small.dates, [20_990_101, 0, 0]);
+            }
+        }
+    }
+
     fn goes_on(value: &Value) -> bool {
         match value {
             Value::Nothing | Value::Letter(_) => false,
@@ -415,7 +467,7 @@ mod tests {
         let mut seen = 0;
         while seen < 20 {
             let case = random_case(&mut rng);
-            if fails(&case) {
+            if case.code.len() < 100 && fails(&case) {
                 seen += 1;
                 let small = shrink(&case, &fails);
                 assert_eq!(small.text, b"0\tE\t-\n1\tK\t-\t0\n");

@@ -4,6 +4,7 @@
 
 pub mod automaton;
 pub mod brute;
+pub mod calendar;
 pub mod cases;
 pub mod code;
 pub mod codes;
@@ -19,6 +20,7 @@ pub mod prng;
 pub mod services;
 pub mod table;
 pub mod tapes;
+pub mod terms;
 pub mod two_pass;
 pub mod value;
 pub mod vectors;

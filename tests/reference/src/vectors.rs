@@ -1,7 +1,8 @@
 //! What program `vectors` is run on and what it must print: the cases of all
-//! kinds, one kind after the other. A line's first field is the kind's letter.
+//! kinds, one kind after the other, a later kind behind the earlier ones. A
+//! line's first field is the kind's letter.
 
-use crate::{cases, codes, tapes, visits};
+use crate::{cases, codes, tapes, terms, visits};
 
 /// One line a case, as the program reads it.
 pub fn lines() -> Vec<String> {
@@ -9,6 +10,7 @@ pub fn lines() -> Vec<String> {
     lines.extend(tapes::all().iter().map(tapes::Case::line));
     lines.extend(codes::all().iter().map(codes::Case::line));
     lines.extend(visits::all().iter().map(visits::Case::line));
+    lines.extend(terms::all().iter().map(terms::Case::line));
     lines
 }
 
@@ -18,6 +20,7 @@ pub fn names() -> Vec<String> {
     names.extend(tapes::all().into_iter().map(|case| case.name));
     names.extend(codes::all().into_iter().map(|case| case.name));
     names.extend(visits::all().into_iter().map(|case| case.name));
+    names.extend(terms::all().into_iter().map(|case| case.name));
     names
 }
 
@@ -28,5 +31,6 @@ pub fn answers() -> Vec<String> {
     answers.extend(tapes::all().iter().map(tapes::Case::answer));
     answers.extend(codes::all().iter().flat_map(codes::Case::answers));
     answers.extend(visits::all().iter().map(visits::Case::answer));
+    answers.extend(terms::all().iter().map(terms::Case::answer));
     answers
 }

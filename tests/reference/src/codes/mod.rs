@@ -13,9 +13,9 @@ use crate::hex;
 use crate::services::reading::parse;
 use crate::services::settling::canonicalize;
 use crate::services::spelling::flatten;
-use crate::services::totals::totals;
+use crate::services::totals::{totals, Totals};
 use crate::services::MOST_LETTERS;
-use crate::table::{number_and_value, Table};
+use crate::table::{number_and_value, Refusal, Table};
 use crate::tapes::{
     digest_of_bytes, digest_of_words, shown_code, table_of, ALL_BYTES, ALL_WORDS, BYTE_BEFORE,
     WORD_BEFORE,
@@ -101,6 +101,17 @@ pub fn just_enough(table: &Table, code: &Code) -> Lent {
     }
 }
 
+/// Number, value and the ten totals, which are parted by commas.
+pub fn totals_line(answer: Result<Totals, Refusal>) -> String {
+    let (number, value) = number_and_value(&answer.map(|_| 0));
+    let litres: Vec<String> = answer
+        .unwrap_or([0; 10])
+        .iter()
+        .map(|litres| litres.to_string())
+        .collect();
+    format!("{number}\t{value}\t{}", litres.join(","))
+}
+
 impl Case {
     /// The line that the program reads.
     pub fn line(&self) -> String {
@@ -134,16 +145,8 @@ impl Case {
         format!("{number}\t{value}\t{lent}\t{past}")
     }
 
-    /// Number, value and the ten totals.
     fn totalling(&self, table: &Table) -> String {
-        let added = totals(table, &self.code.bytes, self.code.count);
-        let (number, value) = number_and_value(&added.map(|_| 0));
-        let litres: Vec<String> = added
-            .unwrap_or([0; 10])
-            .iter()
-            .map(|litres| litres.to_string())
-            .collect();
-        format!("{number}\t{value}\t{}", litres.join(","))
+        totals_line(totals(table, &self.code.bytes, self.code.count))
     }
 
     /// Number, value, digests of the tape and the words lent, code bytes

@@ -1,10 +1,11 @@
-//! The services, each with its checks in the order that 01 gives them.
+//! The services, each with its checks in the order that 01 or 02 gives them.
 //! Lent buffers are slices with their old contents; what a service does not
 //! write keeps them.
 
 pub mod reading;
 pub mod settling;
 pub mod spelling;
+pub mod terms;
 pub mod totals;
 pub mod visits;
 

@@ -4,58 +4,93 @@ use super::judge_length;
 use crate::table::{judge, Refusal, Table};
 use crate::walk::{walk, NotWhole, Step};
 
-/// Totalling litres: 2, 8, 3. Gives the totals of accounts 0 to 9; a caller
-/// that needs totals beside a refusal takes ten times 0.
-pub fn totals(table: &Table, code: &[u8], bits: u64) -> Result<[u64; 10], Refusal> {
-    judge(table)?;
-    let mut totals = [0; 10];
-    let mut letters = 0;
-    // The accounts of the nodes around the present one, the innermost last.
-    let mut accounts: Vec<u64> = Vec::new();
-    walk(table, code, bits, &mut |step| match step {
-        Step::Enter(place) => {
-            // "the account of the innermost node, the leaf included, that
-            // has one; without one, to account 0"
-            let around = accounts.last().copied().unwrap_or(0);
-            let own = table.node(place).account;
-            accounts.push(if own == 0 { around } else { own });
-        }
-        Step::Leave(_) => {
-            accounts.pop();
-        }
-        Step::Letter(letter) => {
-            letters += 1;
-            // "Letters `0` to `9` count 0 to 9 litres, others none."
-            if letter.is_ascii_digit() {
-                let account = accounts.last().copied().unwrap_or(0);
-                totals[account as usize] += u64::from(letter - b'0');
-            }
-        }
-    })
-    .map_err(|NotWhole| Refusal::new(8, 0))?;
-    judge_length(letters)?;
-    Ok(totals)
+/// The litres of accounts 0 to 9.
+pub type Totals = [u64; 10];
+
+/// A letter that the code spells, and the account that it goes to.
+#[derive(Clone, Copy, PartialEq, Eq, Debug)]
+pub struct Entry {
+    pub letter: u8,
+    pub account: u64,
 }
 
-/// Totalling into lent cells: 2, 8, 3, and the value is 0. As many totals are
-/// written, from account 0 on, as there are accounts and cells; they are 0 if
-/// it is refused. Cells behind them keep what they hold.
+impl Entry {
+    /// "Letters `0` to `9` count 0 to 9 litres, others none."
+    fn litres(&self) -> u64 {
+        match self.letter {
+            b'0'..=b'9' => u64::from(self.letter - b'0'),
+            _ => 0,
+        }
+    }
+}
+
+/// The entries of a whole code, in the order of its letters.
+pub fn entries(table: &Table, code: &[u8], bits: u64) -> Result<Vec<Entry>, NotWhole> {
+    let mut entries = Vec::new();
+    // The accounts of the nodes around the present one, the innermost last.
+    let mut accounts: Vec<u64> = Vec::new();
+    walk(table, code, bits, &mut |step| {
+        // "the account of the innermost node, the leaf included, that has
+        // one; without one, to account 0"
+        let around = accounts.last().copied().unwrap_or(0);
+        match step {
+            Step::Enter(place) => {
+                let own = table.node(place).account;
+                accounts.push(if own == 0 { around } else { own });
+            }
+            Step::Leave(_) => drop(accounts.pop()),
+            Step::Letter(letter) => entries.push(Entry {
+                letter,
+                account: around,
+            }),
+        }
+    })?;
+    Ok(entries)
+}
+
+/// The litres of these entries, account by account.
+pub fn added<'a>(entries: impl IntoIterator<Item = &'a Entry>) -> Totals {
+    let mut totals = [0; 10];
+    for entry in entries {
+        totals[entry.account as usize] += entry.litres();
+    }
+    totals
+}
+
+/// The checks 2, 8, 3, and the entries that are left to be added.
+pub fn judged_entries(table: &Table, code: &[u8], bits: u64) -> Result<Vec<Entry>, Refusal> {
+    judge(table)?;
+    let entries = entries(table, code, bits).map_err(|NotWhole| Refusal::new(8, 0))?;
+    judge_length(entries.len())?;
+    Ok(entries)
+}
+
+/// Totalling litres: 2, 8, 3. Gives the totals of accounts 0 to 9; a caller
+/// that needs totals beside a refusal takes ten times 0.
+pub fn totals(table: &Table, code: &[u8], bits: u64) -> Result<Totals, Refusal> {
+    let entries = judged_entries(table, code, bits)?;
+    Ok(added(&entries))
+}
+
+/// Totalling into lent cells: 2, 8, 3, and the value is 0.
 pub fn totals_into(
     table: &Table,
     code: &[u8],
     bits: u64,
     litres: &mut [u32],
 ) -> Result<u64, Refusal> {
-    let added = totals(table, code, bits);
+    put(totals(table, code, bits), litres)
+}
+
+/// As many totals are written, from account 0 on, as there are accounts and
+/// cells; they are 0 if it is refused. Cells behind them keep what they hold.
+pub fn put(answer: Result<Totals, Refusal>, litres: &mut [u32]) -> Result<u64, Refusal> {
     // "refused, all are 0"
-    let all = match &added {
-        Ok(totals) => *totals,
-        Err(_) => [0; 10],
-    };
+    let all = answer.unwrap_or([0; 10]);
     for (account, total) in all.into_iter().enumerate() {
         if let Some(cell) = litres.get_mut(account) {
             *cell = u32::try_from(total).expect("at most 3,600 times 9 litres");
         }
     }
-    added.map(|_| 0)
+    answer.map(|_| 0)
 }
