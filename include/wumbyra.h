@@ -32,6 +32,10 @@
  *                                 padding; in wumbyra_span also a code of another tape
  *   WUMBYRA_TAPE_TOO_SHORT   9    the tape buffer is shorter than what the code spells         letters needed
  *   WUMBYRA_NO_SUCH_VISIT   10    no such node, or it is visited at most `visit` times         0
+ *   WUMBYRA_TAPE_UNDATED    11    the start is no date, or a letter of the tape is dated       0
+ *                                 past 31 December 2099
+ *   WUMBYRA_NOT_A_TERM      12    the first or the last date of the term is none, or the       0
+ *                                 last is before the first
  *
  *  Where several causes hold, the first in the order that is given with the call is answered. A number that is not in that
  *  order is never answered by the call.
@@ -53,6 +57,12 @@
  * Codes
  *  A code is bytes and a bit count. Bits fill bytes from the highest; the bytes are exactly enough for the count, unused bits
  *  are 0, and there are at most 65,536 bytes.
+ *
+ * Dates
+ *  A date is one number, year * 10000 + month * 100 + day: 20240229 is 29 February 2024. There are the days of the Gregorian
+ *  calendar from 1 January 2000 to 31 December 2099; any other number is no date, and so is 0. WUMBYRA_DATE makes the number.
+ *  On a tape `D`, byte 68, ends a day, whichever line of the pattern reads it, and belongs to the day that it ends. A letter's date
+ *  is that of the first letter, stepped by a day for each `D` that stands before it.
  *
  * Stack and time
  *  No call takes memory from the heap. Calls inside a call go as deep as the pattern's tree, at most 64, and never with the
@@ -78,7 +88,7 @@ extern "C" {
  * was compiled with another header than its library's. What is added, a call, a kind of line or letters, raises the minor number;
  * a call that is changed or dropped raises the major number. */
 #define WUMBYRA_VERSION_MAJOR 1
-#define WUMBYRA_VERSION_MINOR 2
+#define WUMBYRA_VERSION_MINOR 3
 #define WUMBYRA_VERSION_PATCH 0
 #define WUMBYRA_VERSION_NUMBER (WUMBYRA_VERSION_MAJOR * 10000 + WUMBYRA_VERSION_MINOR * 100 + WUMBYRA_VERSION_PATCH)
 
@@ -93,7 +103,9 @@ enum {
     WUMBYRA_CODE_TOO_SHORT = 7,
     WUMBYRA_NOT_A_CODE = 8,
     WUMBYRA_TAPE_TOO_SHORT = 9,
-    WUMBYRA_NO_SUCH_VISIT = 10
+    WUMBYRA_NO_SUCH_VISIT = 10,
+    WUMBYRA_TAPE_UNDATED = 11,
+    WUMBYRA_NOT_A_TERM = 12
 };
 
 /* ---- limits */
@@ -126,8 +138,8 @@ enum {
 #define WUMBYRA_ACCOUNTS 10
 #define WUMBYRA_MAX_LITRES 32400
 
-/* Stack that suffices for any call, in bytes. The most that was measured is 29 KB, totals of 63 nested stars; tests/guard runs
- * every call on a stack of this size. */
+/* Stack that suffices for any call, in bytes. The most that was measured is 29 KB, totals of 63 nested stars, in all or within a term;
+ * tests/guard runs every call on a stack of this size. */
 #define WUMBYRA_STACK_BYTES 32768
 
 /* ---- sizes of buffers; n is a number of letters, bits a bit count */
@@ -144,6 +156,15 @@ enum {
 
 /* Bytes that a code of so many bits has: those that are written, and those that are handed in with the count. */
 #define WUMBYRA_BYTES_OF_BITS(bits) (((size_t)(bits) + 7) / 8)
+
+/* ---- dates */
+
+/* The number of a date. A month or a day above 99, or a year above 9999, would make the number of another date; for these it is 0,
+ * which is none, and for a negative number as well. It is a constant where its arguments are, and it takes each of them twice. */
+#define WUMBYRA_DATE(year, month, day) \
+    ((uint64_t)(year) > 9999 || (uint64_t)(month) > 99 || (uint64_t)(day) > 99 \
+         ? (uint32_t)0 \
+         : (uint32_t)(year) * 10000 + (uint32_t)(month) * 100 + (uint32_t)(day))
 
 /* ---- answers */
 
@@ -256,6 +277,19 @@ uint64_t wumbyra_total(const uint8_t *text, size_t text_len, const uint8_t *code
 WUMBYRA_CHECK_ANSWER
 uint64_t wumbyra_totals(const uint8_t *text, size_t text_len, const uint8_t *code, size_t code_len, uint32_t count,
                         uint32_t *litres, size_t litres_len);
+
+/* The litres of all accounts within a billing term, from 1.3.0 on: those of the letters that are dated from `first` to `last`, both
+ * included. `start` is the date of the first letter. Where terms part the days of the tape, their totals add up to wumbyra_totals.
+ *
+ * Order: 2, 8, 3, 11, 12. Value: 0.
+ * Written: the cells that wumbyra_totals writes. They are 0 where no letter is dated within the term.
+ *
+ *   11               the `D` that ends 31 December 2099 has this date, and any letter behind it has none, whatever the term; where
+ *                    the tape has no letters the start is looked at all the same
+ *   2, 8, 3, 11, 12  the same cells are written, and all with 0 */
+WUMBYRA_CHECK_ANSWER
+uint64_t wumbyra_term_totals(const uint8_t *text, size_t text_len, const uint8_t *code, size_t code_len, uint32_t count,
+                             uint32_t start, uint32_t first, uint32_t last, uint32_t *litres, size_t litres_len);
 
 #ifdef __cplusplus
 }

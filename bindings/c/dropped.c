@@ -12,4 +12,5 @@ void drop(const uint8_t *in, uint8_t *out, uint64_t *words, uint32_t *litres)
     wumbyra_span(in, 1, in, 1, in, 1, 8, 0, 0);
     wumbyra_total(in, 1, in, 1, 8, 0);
     wumbyra_totals(in, 1, in, 1, 8, litres, 1);
+    wumbyra_term_totals(in, 1, in, 1, 8, 20240101, 20240101, 20240101, litres, 1);
 }

@@ -67,6 +67,46 @@ static void try_hot_letters(void)
     expect("a range that ends in the gap", wumbyra_load((const uint8_t *)"0\tR\t-\t!\t\x80\n", 10), WUMBYRA_LINE_FORM, 0);
 }
 
+/* Three days of digits for account 1, parted by `D`, the first of them 28 February 2024. */
+static void try_terms(void)
+{
+    static const char days[] = "0\tR\t1\t0\t9\n1\tL\t-\tD\n2\tA\t-\t0\t1\n3\tK\t-\t2\n";
+    static const uint8_t letters[] = {'1', 'D', '2', 'D', '4'};
+    const uint32_t start = WUMBYRA_DATE(2024, 2, 28), leap_day = WUMBYRA_DATE(2024, 2, 29), last_day = WUMBYRA_DATE(2099, 12, 31);
+    const uint8_t *text = (const uint8_t *)days;
+    const size_t len = sizeof days - 1;
+    uint64_t words[2 * (5 + 1)], answer;
+    uint8_t code[WUMBYRA_CODE_BYTES(5)];
+    uint32_t litres[3];
+    uint32_t bits;
+    size_t size;
+    answer = wumbyra_parse(text, len, letters, 5, words, WUMBYRA_WORDS(5), code, sizeof code);
+    expect("days: parse", answer, WUMBYRA_OK, 35);
+    bits = wumbyra_value(answer);
+    size = WUMBYRA_BYTES_OF_BITS(bits);
+    litres[2] = 7;
+    expect("a term of a day", wumbyra_term_totals(text, len, code, size, bits, start, leap_day, leap_day, litres, 2), WUMBYRA_OK, 0);
+    if (litres[0] != 0 || litres[1] != 2 || litres[2] != 7)
+        failed = 1;
+    printf("term\t%u\t%u\n", leap_day, litres[1]);
+    expect("a term of two days", wumbyra_term_totals(text, len, code, size, bits, start, start, leap_day, litres, 2), WUMBYRA_OK, 0);
+    if (litres[1] != 3)
+        failed = 1;
+    expect("a term behind the tape", wumbyra_term_totals(text, len, code, size, bits, start, last_day, last_day, litres, 2), WUMBYRA_OK, 0);
+    if (litres[1] != 0)
+        failed = 1;
+    litres[1] = 7;
+    expect("no start", wumbyra_term_totals(text, len, code, size, bits, 0, start, leap_day, litres, 2), WUMBYRA_TAPE_UNDATED, 0);
+    if (litres[0] != 0 || litres[1] != 0 || litres[2] != 7)
+        failed = 1;
+    expect("a tape that goes on in 2100", wumbyra_term_totals(text, len, code, size, bits, last_day, start, 0, litres, 2),
+           WUMBYRA_TAPE_UNDATED, 0);
+    expect("a term backwards", wumbyra_term_totals(text, len, code, size, bits, start, leap_day, start, litres, 2), WUMBYRA_NOT_A_TERM, 0);
+    expect("29 February 2023", wumbyra_term_totals(text, len, code, size, bits, start, WUMBYRA_DATE(2023, 2, 29), leap_day, litres, 2),
+           WUMBYRA_NOT_A_TERM, 0);
+    expect("no code, start or term", wumbyra_term_totals(text, len, code, size, bits + 1, 0, 0, 0, litres, 2), WUMBYRA_NOT_A_CODE, 0);
+}
+
 int main(void)
 {
     enum { letters = 3 };
@@ -121,6 +161,7 @@ int main(void)
     expect("span of no node", wumbyra_span(text, len, read, letters, code, 3, bits, 6, 0), WUMBYRA_NO_SUCH_VISIT, 0);
     try_lazy_star();
     try_hot_letters();
+    try_terms();
     expect("count past the bytes", wumbyra_total(text, len, code, 3, 25, 1), WUMBYRA_NOT_A_CODE, 0);
     return failed;
 }

@@ -1,4 +1,5 @@
-/* The header's sizes: they are constants, they fit each other, and the longest pattern text that it names loads. It is C11. */
+/* The header's sizes and its numbers of dates: they are constants, they fit each other, and the longest pattern text that it names
+ * loads. It is C11. */
 #include "wumbyra.h"
 
 #include <assert.h>
@@ -16,6 +17,18 @@ static_assert(WUMBYRA_MAX_LITRES == 9 * WUMBYRA_MAX_LETTERS, "nine litres a lett
 static_assert(WUMBYRA_FIRST_LETTER == 33 && WUMBYRA_LAST_LETTER == 126, "letters");
 static_assert(WUMBYRA_FIRST_HOT_LETTER == 161 && WUMBYRA_LAST_HOT_LETTER == 254, "letters of the hot side");
 static_assert(WUMBYRA_MAX_TEXT_BYTES < WUMBYRA_DECISIVE_TEXT_BYTES, "a text that loads is decided whole");
+
+/* A number is that of one date: what would be another's is 0. */
+static_assert(WUMBYRA_DATE(2024, 2, 29) == 20240229 && WUMBYRA_DATE(2099, 12, 31) == 20991231, "dates");
+static_assert(WUMBYRA_DATE(2024, 0, 0) == 20240000 && WUMBYRA_DATE(0, 1, 1) == 101, "no dates, and no other number's");
+static_assert(WUMBYRA_DATE(9999, 99, 99) == 99999999, "the greatest number");
+static_assert(WUMBYRA_DATE(2024, 1, 100) == 0 && WUMBYRA_DATE(2024, 1, 129) == 0, "a day above 99 is no day of the next month");
+static_assert(WUMBYRA_DATE(2024, 100, 1) == 0 && WUMBYRA_DATE(2024, 101, 1) == 0, "a month above 99 is no month of the next year");
+static_assert(WUMBYRA_DATE(10000, 1, 1) == 0 && WUMBYRA_DATE(431520, 75, 25) == 0, "a year above 9999 is none, past 32 bits too");
+static_assert(WUMBYRA_DATE(-1, 1, 1) == 0 && WUMBYRA_DATE(2024, -1, 1) == 0 && WUMBYRA_DATE(2024, 1, -1) == 0, "below 0 is none");
+static_assert(WUMBYRA_DATE(2024, UINT64_C(0x100000001), 1) == 0 && WUMBYRA_DATE(2024, 1, INT64_MIN + 1) == 0, "64 bits are not cut");
+static_assert(WUMBYRA_DATE(2000 + 24, 1 + 1, 30 - 1) == 20240229, "sums as parts of a date");
+static_assert(sizeof WUMBYRA_DATE(2024, 2, 29) == sizeof(uint32_t), "a number of 32 bits");
 
 /* 32 ranges, 31 sequences over them and a star over all: no 64 lines that load are longer. */
 static size_t write_longest(char *text)

@@ -75,6 +75,16 @@ class Wheel(unittest.TestCase):
         missing = python("-c", TELL, PYTHONPATH=self.bare)
         self.assertIn("ImportError: libwumbyra.so is not found: install this package with `pip install", missing.stderr)
 
+    def test_a_library_of_another_version_is_refused(self):
+        with tempfile.TemporaryDirectory() as room:
+            source, other = pathlib.Path(room, "other.c"), pathlib.Path(room, "other.so")
+            for number in [10200, 20300]:
+                source.write_text(f"unsigned wumbyra_version(void) {{ return {number}; }}\n")
+                subprocess.run(["gcc", "-shared", "-fPIC", "-o", str(other), str(source)], check=True)
+                refused = python("-c", TELL, PYTHONPATH=self.site, WUMBYRA_LIBRARY=other)
+                words = f"ImportError: this package is for version 1 of the library from 1.3 on, and the one found says {number}"
+                self.assertIn(words, refused.stderr)
+
     def test_a_missing_archive_is_one_sentence(self):
         with tempfile.TemporaryDirectory() as empty:
             missing = python("-c", f"import build_package; build_package.build_wheel({empty!r})", PYTHONPATH=HERE, WUMBYRA_LIB_DIR=empty)

@@ -1,8 +1,9 @@
-"""The worked examples of the scope, refusals, numbers of any size, totals in any number of cells, and the version."""
+"""The worked examples of the scope, terms, refusals, numbers of any size, totals in any number of cells, and the version."""
 
 import concurrent.futures
 import copy
 import ctypes
+import datetime
 import inspect
 import multiprocessing
 import pathlib
@@ -20,6 +21,11 @@ LISTING = b"0\tR\t-\t0\t9\n1\tL\t-\tW\n2\tS\t9\t1\t0\n3\tR\t1\t0\t9\n4\tA\t-\t2\
 P1 = b"0\tL\t-\ta\n1\tE\t-\n2\tA\t-\t0\t1\n3\tK\t-\t2\n"
 P3 = b"0\tL\t-\ta\n1\tK\t-\t0\n2\tL\t-\tb\n3\tK\t-\t2\n4\tS\t-\t1\t3\n5\tK\t-\t4\n"
 P5 = b"0\tL\t-\ta\n1\tK\t-\t0\n2\tL\t-\ta\n3\tS\t-\t1\t2\n"
+# Digits for account 1, `W` and a digit for account 9, and `D`, which ends a day.
+DAYS = (
+    b"0\tR\t-\t0\t9\n1\tL\t-\tW\n2\tS\t9\t1\t0\n3\tR\t1\t0\t9\n4\tL\t-\tD\n5\tA\t-\t3\t4\n6\tA\t-\t2\t5\n7\tK\t-\t6\n"
+)
+FIRST_DAY, LAST_DAY = datetime.date(2000, 1, 1), datetime.date(2099, 12, 31)
 REPOSITORY = pathlib.Path(__file__).resolve().parents[2]
 
 
@@ -136,6 +142,103 @@ class Services(Case):
         self.assertEqual(Pattern(P1).canonicalize(found, bits), (found, bits))
 
 
+class Terms(Case):
+    def test_terms_inside_across_and_outside(self):
+        pattern = Pattern(DAYS)
+        found, bits, _ = pattern.parse(b"1D2W3DD4")
+        start = datetime.date(2024, 2, 27)
+        for first, last, litres in [
+            (start, start, (1, 0)),
+            ((2024, 2, 28), (2024, 2, 28), (2, 3)),
+            ((2024, 2, 29), (2024, 2, 29), (0, 0)),
+            ((2024, 3, 1), datetime.date(2024, 3, 1), (4, 0)),
+            (start, (2024, 2, 28), (3, 3)),
+            ((2024, 2, 28), (2024, 3, 1), (6, 3)),
+            (FIRST_DAY, LAST_DAY, (7, 3)),
+            (FIRST_DAY, (2024, 2, 26), (0, 0)),
+            ((2024, 3, 2), LAST_DAY, (0, 0)),
+        ]:
+            totals = pattern.term_totals(found, bits, start, first, last)
+            self.assertEqual(totals, [0, litres[0], *(7 * [0]), litres[1]])
+        self.assertEqual(pattern.term_totals(found, bits, start, FIRST_DAY, LAST_DAY), pattern.totals(found, bits))
+        # Of a year without a leap day the fourth day is another one.
+        self.assertEqual(pattern.term_totals(found, bits, (2023, 2, 27), (2023, 3, 2), (2023, 3, 2))[1], 4)
+
+    def test_every_date_is_stepped(self):
+        pattern = Pattern(DAYS)
+        found, bits, _ = pattern.parse(b"1D2")
+        due = [0, 2, *(8 * [0])]
+        date, stepped = FIRST_DAY, 0
+        while date < LAST_DAY:
+            following = date + datetime.timedelta(1)
+            self.assertEqual(pattern.term_totals(found, bits, date, following, following), due, date)
+            date, stepped = following, stepped + 1
+        self.assertEqual(stepped, 36524)  # all of the 36,525 days but the last, which none follows
+        self.refused(11, 0, pattern.term_totals, found, bits, LAST_DAY, LAST_DAY, LAST_DAY)
+
+    def test_what_is_no_date(self):
+        pattern = Pattern(DAYS)
+        empty = code("1")
+        for year in [1999, *range(2000, 2100, 9), 2023, 2100]:
+            for month in range(15):
+                for day in [*range(4), *range(27, 34), 99]:
+                    try:
+                        due = FIRST_DAY <= datetime.date(year, month, day) <= LAST_DAY
+                    except ValueError:
+                        due = False
+                    given = year, month, day
+                    if due:
+                        self.assertEqual(pattern.term_totals(*empty, given, given, given), 10 * [0])
+                    else:
+                        self.refused(11, 0, pattern.term_totals, *empty, given, FIRST_DAY, LAST_DAY)
+                        self.refused(12, 0, pattern.term_totals, *empty, FIRST_DAY, given, LAST_DAY)
+                        self.refused(12, 0, pattern.term_totals, *empty, FIRST_DAY, FIRST_DAY, given)
+
+    def test_greater_numbers_make_no_other_date(self):
+        # Each of these would be a date if it were only put into one number, and cut to 32 bits.
+        pattern = Pattern(DAYS)
+        for given in [(2024, 1, 129), (2024, 0, 10101), (2023, 101, 1), (2024, 112, 31), (431520, 75, 25), (2024, 2**32 + 2, 29)]:
+            self.refused(11, 0, pattern.term_totals, *code("1"), given, FIRST_DAY, LAST_DAY)
+            self.refused(12, 0, pattern.term_totals, *code("1"), FIRST_DAY, given, LAST_DAY)
+        for given in [(10**100, 1, 1), (2024, 10**100, 1), (2024, 1, 10**100)]:
+            self.refused(11, 0, pattern.term_totals, *code("1"), given, given, given)
+
+    def test_the_order_of_checks(self):
+        pattern = Pattern(DAYS)
+        found, bits, _ = pattern.parse(b"1D2")
+        none = 0, 0, 0
+        self.refused(8, 0, pattern.term_totals, found, bits + 1, none, none, none)
+        self.refused(8, 0, pattern.term_totals, found, 2**32 + bits, none, none, none)
+        self.refused(3, 0, Pattern(P1).term_totals, *code(3601 * "00" + "1"), none, none, none)
+        self.refused(11, 0, pattern.term_totals, found, bits, none, none, none)
+        self.refused(12, 0, pattern.term_totals, found, bits, FIRST_DAY, LAST_DAY, FIRST_DAY)
+        # The `D` that ends 2099 has a date, and a letter behind it has none, whatever the term.
+        self.assertEqual(pattern.term_totals(*pattern.parse(b"1D")[:2], LAST_DAY, LAST_DAY, LAST_DAY)[1], 1)
+        for tape in [b"1D2", b"1DD"]:
+            for first, last in [(LAST_DAY, LAST_DAY), (FIRST_DAY, FIRST_DAY), (LAST_DAY, FIRST_DAY), (none, none)]:
+                self.refused(11, 0, pattern.term_totals, *pattern.parse(tape)[:2], LAST_DAY, first, last)
+
+    def test_what_is_not_three_numbers(self):
+        pattern = Pattern(DAYS)
+        for given in [(2024, -1, 1), (-1, 1, 1), (2024, 1, -(2**32)), (2024, 1), (2024, 1, 1, 1)]:
+            for dates in [(given, FIRST_DAY, LAST_DAY), (FIRST_DAY, given, LAST_DAY), (FIRST_DAY, LAST_DAY, given)]:
+                self.assertRaises(ValueError, pattern.term_totals, b"", 0, *dates)
+        for given in [20240101, "day", (2024, 1, 1.0), (2024, "1", 1), None]:
+            self.assertRaises(TypeError, pattern.term_totals, b"", 0, given, FIRST_DAY, LAST_DAY)
+
+    def test_terms_in_any_number_of_cells(self):
+        found, bits, _ = Pattern(DAYS).parse(b"1D2W3")
+        for cells in range(13):
+            written = min(cells, ACCOUNTS)
+            # The library sees the first cells only, those behind them are canaries.
+            for last, number, totals in [(20250101, 0, [0, 2, 0, 0, 0, 0, 0, 0, 0, 3]), (20241231, 12, 10 * [0]), (20250100, 12, 10 * [0])]:
+                litres = (ctypes.c_uint32 * 16)(*(16 * [77]))
+                dates = 20241231, 20250101, last
+                answer = LIBRARY.wumbyra_term_totals(DAYS, len(DAYS), found, len(found), bits, *dates, litres, cells)
+                self.assertEqual(answer, number << 32)
+                self.assertEqual(list(litres), totals[:written] + (16 - written) * [77])
+
+
 class Refusals(Case):
     def test_refusals(self):
         self.refused(1, 0, Pattern, b"")
@@ -180,7 +283,7 @@ class Refusals(Case):
         self.assertRaises(TypeError, pattern.flatten, found, 3.0)
 
     def test_a_refusal_is_copied_and_pickled(self):
-        for refused in [Refused(4, 17), Refused(11, 0)]:
+        for refused in [Refused(4, 17), Refused(12, 0), Refused(13, 0)]:
             for again in [copy.copy(refused), copy.deepcopy(refused), pickle.loads(pickle.dumps(refused))]:
                 self.assertEqual((type(again), again.number, again.value), (Refused, refused.number, refused.value))
                 self.assertEqual(str(again), str(refused))
@@ -193,9 +296,9 @@ class Refusals(Case):
             self.refused(5, 0, bad.result, 60)
 
     def test_each_cause_has_words(self):
-        self.assertEqual(list(CAUSES), list(range(1, 11)))
+        self.assertEqual(list(CAUSES), list(range(1, 13)))
         self.assertEqual(str(Refused(4, 17)), "the byte at position 17 of the tape is no letter")
-        self.assertIn("number 11 with value 0", str(Refused(11, 0)))
+        self.assertIn("number 13 with value 0", str(Refused(13, 0)))
         # The same words as those of the Rust wrapper, which has {line}, {position} or {needed} where this one has {value}.
         rust = (REPOSITORY / "bindings/rust/src/refusal.rs").read_text()
         there = {re.sub(r"\{\w+\}", "{value}", words) for words in re.findall(r'write!\(\s*f,\s+"([^"]*)"', rust)}

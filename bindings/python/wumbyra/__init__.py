@@ -12,18 +12,22 @@ or an array; text is none, so a `str` is a TypeError.
 Bit counts, nodes, visits and accounts are numbers from 0 on, of any size: one that has over 32 bits is refused as the library refuses
 any that is too great (8 for a bit count, 10 for a node or visit; an account that there is not has 0 litres), and in the library's
 order of checks. A negative number is no count at all: it is a ValueError, whatever else is handed over.
+
+A date is a `datetime.date`, or three numbers from 0 on, of any size: year, month and day. The library has the days of the years 2000 to
+2099 and refuses what is none of them; whatever is not three such numbers is a ValueError or a TypeError.
 """
 
 from __future__ import annotations
 
+import datetime
 import operator
 from array import array
-from typing import TYPE_CHECKING, List, NamedTuple, Union
+from typing import TYPE_CHECKING, List, NamedTuple, Tuple, Union
 
 from ._library import LIBRARY
 from ._refused import CAUSES, Refused
 
-__version__ = "1.2.0"
+__version__ = "1.3.0"
 __all__ = ["ACCOUNTS", "CAUSES", "MAX_CODE_BYTES", "MAX_LETTERS", "Code", "Parsed", "Pattern", "Refused", "Span", "version"]
 
 MAX_LETTERS = 3600
@@ -35,6 +39,7 @@ if TYPE_CHECKING:
 else:
     Words = array  # takes no parameter before Python 3.12
 BytesLike = Union[bytes, bytearray, memoryview, Words]
+Date = Union[datetime.date, Tuple[int, int, int]]
 
 
 class Code(NamedTuple):
@@ -88,6 +93,13 @@ def _count(number: int, what: str) -> int:
     if number < 0:
         raise ValueError(f"{what} is a number from 0 on, and {number} is below")
     return min(number, 0xFFFFFFFF)
+
+
+def _date(date: Date) -> int:
+    """A date as the library takes it, in one number, of which 0 is no date. Greater parts would make the number of another date."""
+    year, month, day = (date.year, date.month, date.day) if isinstance(date, datetime.date) else date
+    year, month, day = _count(year, "a year"), _count(month, "a month"), _count(day, "a day")
+    return 0 if year > 9999 or month > 99 or day > 99 else year * 10000 + month * 100 + day
 
 
 def _cells(kind: str, count: int) -> Words:
@@ -162,6 +174,16 @@ class Pattern:
         """The litres of accounts 0 to 9, by one pass over the code. Refused with 8 or 3."""
         litres = _cells("I", ACCOUNTS)
         _value(LIBRARY.wumbyra_totals(*self._coded(code, bits), *litres.buffer_info()))
+        return litres.tolist()
+
+    def term_totals(self, code: BytesLike, bits: int, start: Date, first: Date, last: Date) -> List[int]:
+        """The litres of accounts 0 to 9 within a term: those of the letters that are dated from `first` to `last`, both included.
+
+        `start` is the date of the tape's first letter, and each `D` ends a day. Refused with 8, 3, 11 or 12.
+        """
+        litres = _cells("I", ACCOUNTS)
+        dates = _date(start), _date(first), _date(last)
+        _value(LIBRARY.wumbyra_term_totals(*self._coded(code, bits), *dates, *litres.buffer_info()))
         return litres.tolist()
 
     def _coded(self, code: BytesLike, bits: int) -> tuple:

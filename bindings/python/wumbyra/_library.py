@@ -6,8 +6,8 @@ import ctypes
 import os
 import pathlib
 
-# The calls declared here are those of version 1, whatever its minor number.
-MAJOR = 1
+# The calls declared here are those of version 1. They are all there from this minor number on.
+MAJOR, MINOR = 1, 3
 INSIDE = pathlib.Path(__file__).resolve().with_name("libwumbyra.so")
 INSTALLED = [f"libwumbyra.so.{MAJOR}", "libwumbyra.so"]
 
@@ -37,8 +37,8 @@ def _declared(library: ctypes.CDLL) -> ctypes.CDLL:
     library.wumbyra_version.argtypes = []
     library.wumbyra_version.restype = ctypes.c_uint32
     found = library.wumbyra_version()
-    if found // 10000 != MAJOR:
-        raise ImportError(f"this package is for version {MAJOR} of the library, and the one found says {found}")
+    if found // 10000 != MAJOR or found // 100 % 100 < MINOR:
+        raise ImportError(f"this package is for version {MAJOR} of the library from {MAJOR}.{MINOR} on, and the one found says {found}")
     buffer = [ctypes.c_void_p, ctypes.c_size_t]
     number = [ctypes.c_uint32]
     for name, parameters in {
@@ -49,6 +49,7 @@ def _declared(library: ctypes.CDLL) -> ctypes.CDLL:
         "wumbyra_span": 3 * buffer + 3 * number,
         "wumbyra_total": 2 * buffer + 2 * number,
         "wumbyra_totals": 2 * buffer + number + buffer,
+        "wumbyra_term_totals": 2 * buffer + 4 * number + buffer,
     }.items():
         function = getattr(library, name)
         function.argtypes = parameters

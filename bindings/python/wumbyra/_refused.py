@@ -14,6 +14,8 @@ CAUSES = {
     8: "not a whole code of the pattern, or one of another tape",
     9: "{value} tape cells are needed",
     10: "there is no such node, or no such visit of it",
+    11: "the start is no date, or a letter is dated past 31 December 2099",
+    12: "the term's first or last date is none, or the last is before the first",
 }
 
 

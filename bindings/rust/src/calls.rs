@@ -64,6 +64,18 @@ mod c {
             litres: *mut u32,
             litres_len: usize,
         ) -> u64;
+        pub fn wumbyra_term_totals(
+            text: *const u8,
+            text_len: usize,
+            code: *const u8,
+            code_len: usize,
+            count: u32,
+            start: u32,
+            first: u32,
+            last: u32,
+            litres: *mut u32,
+            litres_len: usize,
+        ) -> u64;
     }
 }
 
@@ -172,6 +184,31 @@ pub fn totals(text: &[u8], code: &[u8], count: u32, litres: &mut [u32]) -> Answe
             code.as_ptr(),
             code.len(),
             count,
+            litres.as_mut_ptr(),
+            litres.len(),
+        )
+    })
+}
+
+pub fn term_totals(
+    text: &[u8],
+    code: &[u8],
+    count: u32,
+    start: u32,
+    first: u32,
+    last: u32,
+    litres: &mut [u32],
+) -> Answer {
+    Answer(unsafe {
+        c::wumbyra_term_totals(
+            text.as_ptr(),
+            text.len(),
+            code.as_ptr(),
+            code.len(),
+            count,
+            start,
+            first,
+            last,
             litres.as_mut_ptr(),
             litres.len(),
         )

@@ -52,6 +52,38 @@ pub struct Code {
     pub bits: u32,
 }
 
+/// A date: any three numbers, of which those of a day in the years 2000 to 2099 are taken. It is a plain value, and any may be handed
+/// over: what is no date is refused. Dates are ordered as days are.
+///
+/// ```
+/// use wumbyra::{Date, Pattern};
+///
+/// let day = |day| Date { year: 2024, month: 2, day };
+/// let pattern = Pattern::load(b"0\tR\t1\t0\t9\n1\tL\t-\tD\n2\tA\t-\t0\t1\n3\tK\t-\t2\n").unwrap();
+/// let code = pattern.parse(b"1D2D4").unwrap().code; // a `D` ends a day
+/// let litres = pattern.term_totals(&code, day(27), day(28), day(29)).unwrap();
+/// assert_eq!(litres[1], 6);
+/// ```
+#[derive(Clone, Copy, Debug, PartialEq, Eq, PartialOrd, Ord, Hash)]
+pub struct Date {
+    /// The year, 2000 to 2099.
+    pub year: u32,
+    /// The month, 1 to 12.
+    pub month: u32,
+    /// The day of the month, from 1 on.
+    pub day: u32,
+}
+
+impl Date {
+    /// The date as the library takes it, in one number, of which 0 is no date. Greater parts would make the number of another date.
+    const fn number(self) -> u32 {
+        if self.year > 9_999 || self.month > 99 || self.day > 99 {
+            return 0;
+        }
+        self.year * 10_000 + self.month * 100 + self.day
+    }
+}
+
 /// What reading a tape gives.
 #[derive(Clone, Debug, PartialEq, Eq)]
 #[non_exhaustive]
@@ -187,6 +219,44 @@ impl Pattern {
     /// Cells behind them are left as they were.
     pub fn totals_into(&self, code: &Code, litres: &mut [u32]) -> Result<(), Refusal> {
         calls::totals(&self.text, &code.bytes, code.bits, litres).value()?;
+        Ok(())
+    }
+
+    /// The litres of accounts 0 to 9 within a term: those of the letters that are dated from `first` to `last`, both included. `start`
+    /// is the date of the tape's first letter, and each `D` ends a day. Refused with 8, 3, 11 or 12.
+    pub fn term_totals(
+        &self,
+        code: &Code,
+        start: Date,
+        first: Date,
+        last: Date,
+    ) -> Result<[u32; ACCOUNTS], Refusal> {
+        let mut litres = [0; ACCOUNTS];
+        self.term_totals_into(code, start, first, last, &mut litres)?;
+        Ok(litres)
+    }
+
+    /// As many totals of the term as `totals_into` leaves are left in the buffer; they are 0 at a refusal. Cells behind them are left
+    /// as they were.
+    pub fn term_totals_into(
+        &self,
+        code: &Code,
+        start: Date,
+        first: Date,
+        last: Date,
+        litres: &mut [u32],
+    ) -> Result<(), Refusal> {
+        let [start, first, last] = [start, first, last].map(Date::number);
+        calls::term_totals(
+            &self.text,
+            &code.bytes,
+            code.bits,
+            start,
+            first,
+            last,
+            litres,
+        )
+        .value()?;
         Ok(())
     }
 }

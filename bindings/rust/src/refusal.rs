@@ -46,6 +46,10 @@ pub enum Refusal {
     },
     /// 10: there is no such node, or it has no visit of this number.
     NoSuchVisit,
+    /// 11: the start is no date, or a letter of the tape is dated past 31 December 2099.
+    TapeUndated,
+    /// 12: the term's first or last date is none, or the last is before the first.
+    NotATerm,
     /// A cause that this wrapper does not know: the library is a later one.
     Unknown {
         /// The cause's number.
@@ -70,11 +74,13 @@ impl Refusal {
             8 => Refusal::NotACode,
             9 => Refusal::TapeTooShort { needed: value },
             10 => Refusal::NoSuchVisit,
+            11 => Refusal::TapeUndated,
+            12 => Refusal::NotATerm,
             _ => Refusal::Unknown { number, value },
         })
     }
 
-    /// The cause's number, 1 to 10.
+    /// The cause's number, 1 to 12.
     pub fn number(self) -> u32 {
         match self {
             Refusal::LineForm { .. } => 1,
@@ -87,6 +93,8 @@ impl Refusal {
             Refusal::NotACode => 8,
             Refusal::TapeTooShort { .. } => 9,
             Refusal::NoSuchVisit => 10,
+            Refusal::TapeUndated => 11,
+            Refusal::NotATerm => 12,
             Refusal::Unknown { number, .. } => number,
         }
     }
@@ -102,7 +110,9 @@ impl Refusal {
             Refusal::TapeTooLong
             | Refusal::Unreadable
             | Refusal::NotACode
-            | Refusal::NoSuchVisit => 0,
+            | Refusal::NoSuchVisit
+            | Refusal::TapeUndated
+            | Refusal::NotATerm => 0,
             Refusal::Unknown { value, .. } => value,
         }
     }
@@ -132,6 +142,18 @@ impl fmt::Display for Refusal {
             }
             Refusal::TapeTooShort { needed } => write!(f, "{needed} tape cells are needed"),
             Refusal::NoSuchVisit => write!(f, "there is no such node, or no such visit of it"),
+            Refusal::TapeUndated => {
+                write!(
+                    f,
+                    "the start is no date, or a letter is dated past 31 December 2099"
+                )
+            }
+            Refusal::NotATerm => {
+                write!(
+                    f,
+                    "the term's first or last date is none, or the last is before the first"
+                )
+            }
             Refusal::Unknown { number, value } => {
                 write!(
                     f,

@@ -1,6 +1,6 @@
-//! The worked examples of the scope, each refusal with what is left in the buffers, and the version.
+//! The worked examples of the scope, each refusal with what is left in the buffers, terms, and the version.
 
-use wumbyra::{code_bytes_for, version, words_for, Code, Pattern, Refusal, ACCOUNTS};
+use wumbyra::{code_bytes_for, version, words_for, Code, Date, Pattern, Refusal, ACCOUNTS};
 
 const HEADER: &str = include_str!("../../../include/wumbyra.h");
 
@@ -11,6 +11,8 @@ const P2: &[u8] = b"0\tE\t-\n1\tL\t-\ta\n2\tA\t-\t0\t1\n3\tK\t-\t2\n";
 const P3: &[u8] = b"0\tL\t-\ta\n1\tK\t-\t0\n2\tL\t-\tb\n3\tK\t-\t2\n4\tS\t-\t1\t3\n5\tK\t-\t4\n";
 const P4: &[u8] = b"0\tL\t-\ta\n1\tL\t-\ta\n2\tL\t-\tb\n3\tS\t-\t1\t2\n4\tA\t-\t0\t3\n5\tL\t-\tb\n6\tE\t-\n7\tA\t-\t5\t6\n8\tS\t-\t4\t7\n";
 const P5: &[u8] = b"0\tL\t-\ta\n1\tK\t-\t0\n2\tL\t-\ta\n3\tS\t-\t1\t2\n";
+/// Digits for account 1, `W` and a digit for account 9, and `D`, which ends a day.
+const DAYS: &[u8] = b"0\tR\t-\t0\t9\n1\tL\t-\tW\n2\tS\t9\t1\t0\n3\tR\t1\t0\t9\n4\tL\t-\tD\n5\tA\t-\t3\t4\n6\tA\t-\t2\t5\n7\tK\t-\t6\n";
 
 fn pattern(text: &[u8]) -> Pattern {
     Pattern::load(text).expect("a good pattern")
@@ -216,6 +218,160 @@ fn refused_totals_are_zeros() {
     };
     let star = pattern(b"0\tL\t4\t7\n1\tK\t-\t0\n");
     assert_eq!(star.totals(&long), Err(Refusal::TapeTooLong));
+}
+
+fn date(year: u32, month: u32, day: u32) -> Date {
+    Date { year, month, day }
+}
+
+fn litres(first: u32, ninth: u32) -> [u32; ACCOUNTS] {
+    let mut all = [0; ACCOUNTS];
+    (all[1], all[9]) = (first, ninth);
+    all
+}
+
+/// Four days from 27 February 2024 on, and terms inside, across and outside them.
+#[test]
+fn terms() {
+    let days = pattern(DAYS);
+    let read = days.parse(b"1D2W3DD4").expect("it is read").code;
+    let start = date(2024, 2, 27);
+    for (first, last, due) in [
+        (start, start, litres(1, 0)),
+        (date(2024, 2, 28), date(2024, 2, 28), litres(2, 3)),
+        (date(2024, 2, 29), date(2024, 2, 29), litres(0, 0)),
+        (date(2024, 3, 1), date(2024, 3, 1), litres(4, 0)),
+        (start, date(2024, 2, 28), litres(3, 3)),
+        (date(2024, 2, 28), date(2024, 3, 1), litres(6, 3)),
+        (date(2000, 1, 1), date(2099, 12, 31), litres(7, 3)),
+        (date(2000, 1, 1), date(2024, 2, 26), litres(0, 0)),
+        (date(2024, 3, 2), date(2099, 12, 31), litres(0, 0)),
+    ] {
+        assert!(first <= last);
+        assert_eq!(days.term_totals(&read, start, first, last), Ok(due));
+    }
+    assert_eq!(days.totals(&read), Ok(litres(7, 3)));
+    // Of a year without a leap day the fourth day is another one.
+    let (before, march) = (date(2023, 2, 27), date(2023, 3, 2));
+    assert_eq!(
+        days.term_totals(&read, before, march, march),
+        Ok(litres(4, 0))
+    );
+}
+
+#[test]
+fn refused_dates() {
+    let days = pattern(DAYS);
+    let read = days.parse(b"1D2").expect("it is read").code;
+    let good = date(2024, 2, 29);
+    for none in [
+        date(0, 0, 0),
+        date(2024, 0, 1),
+        date(2024, 13, 1),
+        date(2024, 1, 0),
+        date(2024, 1, 32),
+        date(2023, 2, 29),
+        date(2024, 2, 30),
+        date(1999, 12, 31),
+        date(2100, 1, 1),
+        // As one number each of these would be another date's, or past 32 bits.
+        date(2024, 1, 129),
+        date(2024, 0, 10_101),
+        date(2023, 101, 1),
+        date(2024, 112, 31),
+        date(431_520, 75, 25),
+        date(u32::MAX, 1, 1),
+        date(2024, u32::MAX, 1),
+        date(2024, 1, u32::MAX),
+    ] {
+        let undated = Err(Refusal::TapeUndated);
+        assert_eq!(days.term_totals(&read, none, good, good), undated);
+        assert_eq!(days.term_totals(&read, none, none, none), undated);
+        let no_term = Err(Refusal::NotATerm);
+        assert_eq!(days.term_totals(&read, good, none, good), no_term);
+        assert_eq!(days.term_totals(&read, good, good, none), no_term);
+        // A tape of no letters has a start all the same, and a code comes before it.
+        let empty = code("1");
+        assert_eq!(days.term_totals(&empty, none, good, good), undated);
+        assert_eq!(
+            days.term_totals(&code("0"), none, none, none),
+            Err(Refusal::NotACode)
+        );
+    }
+    assert_eq!(
+        days.term_totals(&read, good, good, date(2024, 2, 28)),
+        Err(Refusal::NotATerm)
+    );
+    assert_eq!(
+        (Refusal::TapeUndated.number(), Refusal::NotATerm.number()),
+        (11, 12)
+    );
+    assert_eq!(
+        (Refusal::TapeUndated.value(), Refusal::NotATerm.value()),
+        (0, 0)
+    );
+    let words = Refusal::NotATerm.to_string();
+    assert_eq!(
+        words,
+        "the term's first or last date is none, or the last is before the first"
+    );
+}
+
+/// The last `D` of 2099 has a date, and a letter behind it has none, whatever the term.
+#[test]
+fn the_end_of_2099() {
+    let days = pattern(DAYS);
+    let last = date(2099, 12, 31);
+    let closed = days.parse(b"1D").expect("it is read").code;
+    assert_eq!(
+        days.term_totals(&closed, last, last, last),
+        Ok(litres(1, 0))
+    );
+    for tape in [&b"1D2"[..], b"1DD"] {
+        let past = days.parse(tape).expect("it is read").code;
+        let early = date(2024, 1, 1);
+        for (first, last) in [(last, last), (early, early), (last, early)] {
+            assert_eq!(
+                days.term_totals(&past, date(2099, 12, 31), first, last),
+                Err(Refusal::TapeUndated)
+            );
+        }
+    }
+    let long = Code {
+        bytes: [vec![0; 450], vec![0x40]].concat(),
+        bits: 3_602,
+    };
+    let star = pattern(b"0\tL\t4\tD\n1\tK\t-\t0\n");
+    let none = date(0, 0, 0);
+    assert_eq!(
+        star.term_totals(&long, none, none, none),
+        Err(Refusal::TapeTooLong)
+    );
+}
+
+#[test]
+fn terms_in_any_number_of_cells() {
+    let days = pattern(DAYS);
+    let read = days.parse(b"1D2W3").expect("it is read").code;
+    let (start, next) = (date(2024, 12, 31), date(2025, 1, 1));
+    let due = litres(2, 3);
+    for cells in 0..=12 {
+        let written = cells.min(ACCOUNTS);
+        let mut into = [77; 12];
+        assert_eq!(
+            days.term_totals_into(&read, start, next, next, &mut into[..cells]),
+            Ok(())
+        );
+        assert_eq!(into[..written], due[..written]);
+        assert_eq!(into[written..], [77; 12][written..]);
+        into = [77; 12];
+        assert_eq!(
+            days.term_totals_into(&read, start, next, start, &mut into[..cells]),
+            Err(Refusal::NotATerm)
+        );
+        assert_eq!(into[..written], [0; 12][..written]);
+        assert_eq!(into[written..], [77; 12][written..]);
+    }
 }
 
 /// The number of a macro of the header.

@@ -1,10 +1,12 @@
 /* billing FOLDER: the litres of all flats under FOLDER, as one table on standard output.
  *
- * Each flat is a folder with pattern.tsv and tape.txt. A flat whose pattern or tape is refused gets no litres at all: it stands under
- * the table with the cause. Standard error has a line that counts the flats. The exit status is 0 where all flats are billed, 1 where
- * some are not, and 2 where FOLDER cannot be read.
+ * Each flat is a folder with pattern.tsv and tape.txt. One that is billed for some days only has term.tsv too, with three dates: that of the
+ * tape's first letter, and the first and the last of the term. A flat whose pattern, tape or term is refused gets no litres at all: it
+ * stands under the table with the cause. Standard error has a line that counts the flats. The exit status is 0 where all flats are billed,
+ * 1 where some are not, and 2 where FOLDER cannot be read.
  *
- * A flat takes three calls: wumbyra_load says whether the pattern is one, wumbyra_parse reads the tape, and wumbyra_totals adds up. */
+ * A flat takes three calls: wumbyra_load says whether the pattern is one, wumbyra_parse reads the tape, and wumbyra_totals adds up, or
+ * wumbyra_term_totals where there is a term. */
 #define _POSIX_C_SOURCE 200809L
 #include "wumbyra.h"
 
@@ -13,6 +15,7 @@
 #include <stdio.h>
 #include <stdlib.h>
 #include <string.h>
+#include <unistd.h>
 
 /* Bytes held of a file. Those behind them change nothing: a pattern that loads has under 1,024 bytes, and a tape of over 3,600 letters
  * is refused however long it is. */
@@ -23,6 +26,9 @@ struct file {
     size_t size;
 };
 
+/* The dates of term.tsv, as numbers: 20240229 is 29 February 2024. */
+enum { START, FIRST, LAST, DATES };
+
 struct flat {
     const char *name;
     const char *missing; /* the file that cannot be read, or NULL */
@@ -30,14 +36,29 @@ struct flat {
     uint32_t litres[WUMBYRA_ACCOUNTS];
 };
 
+enum { PATH_BYTES = 4096 };
+
+/* Writes the path of a file of a flat; 0 if it is too long. */
+static int put_path(char path[PATH_BYTES], const char *folder, const char *flat, const char *name)
+{
+    return (size_t)snprintf(path, PATH_BYTES, "%s/%s/%s", folder, flat, name) < PATH_BYTES;
+}
+
+static int is_there(const char *folder, const char *flat, const char *name)
+{
+    char path[PATH_BYTES];
+
+    return put_path(path, folder, flat, name) && access(path, F_OK) == 0;
+}
+
 /* Reads a file of a flat; 0 if it cannot be read. */
 static int read_file(const char *folder, const char *flat, const char *name, struct file *file)
 {
-    char path[4096];
+    char path[PATH_BYTES];
     FILE *from;
     int good;
 
-    if ((size_t)snprintf(path, sizeof path, "%s/%s/%s", folder, flat, name) >= sizeof path)
+    if (!put_path(path, folder, flat, name))
         return 0;
     from = fopen(path, "rb");
     if (!from)
@@ -48,8 +69,30 @@ static int read_file(const char *folder, const char *flat, const char *name, str
     return good;
 }
 
-/* The answer of the first call that refuses, or of the last one. */
-static uint64_t bill(const struct file *pattern, const struct file *tape, uint32_t litres[WUMBYRA_ACCOUNTS])
+/* Reads the dates of a flat's term; 0 if there are not three. A number that is too great is no date, and neither is 0. */
+static int read_dates(const char *folder, const char *flat, uint32_t dates[DATES])
+{
+    static struct file file;
+    char text[HELD + 1], *at = text;
+    int i;
+
+    if (!read_file(folder, flat, "term.tsv", &file))
+        return 0;
+    memcpy(text, file.bytes, file.size);
+    text[file.size] = 0;
+    for (i = 0; i < DATES; i++) {
+        const char *field = at;
+        unsigned long long number = strtoull(field, &at, 10);
+
+        if (at == field)
+            return 0;
+        dates[i] = number > UINT32_MAX ? 0 : (uint32_t)number;
+    }
+    return 1;
+}
+
+/* The answer of the first call that refuses, or of the last one. Without dates the whole tape is billed. */
+static uint64_t bill(const struct file *pattern, const struct file *tape, const uint32_t *dates, uint32_t litres[WUMBYRA_ACCOUNTS])
 {
     /* Room for the longest tape, so that no buffer is ever too short. */
     static uint64_t words[WUMBYRA_WORDS(WUMBYRA_MAX_LETTERS)];
@@ -64,21 +107,28 @@ static uint64_t bill(const struct file *pattern, const struct file *tape, uint32
     if (wumbyra_number(answer) != WUMBYRA_OK)
         return answer;
     bits = wumbyra_value(answer);
-    return wumbyra_totals(pattern->bytes, pattern->size, code, (bits + 7) / 8, bits, litres, WUMBYRA_ACCOUNTS);
+    if (!dates)
+        return wumbyra_totals(pattern->bytes, pattern->size, code, (bits + 7) / 8, bits, litres, WUMBYRA_ACCOUNTS);
+    return wumbyra_term_totals(pattern->bytes, pattern->size, code, (bits + 7) / 8, bits, dates[START], dates[FIRST], dates[LAST], litres,
+                               WUMBYRA_ACCOUNTS);
 }
 
 static void bill_flat(const char *folder, struct flat *flat)
 {
     static struct file pattern, tape;
+    uint32_t dates[DATES] = {0};
+    int has_term = is_there(folder, flat->name, "term.tsv");
 
     if (!read_file(folder, flat->name, "pattern.tsv", &pattern))
         flat->missing = "pattern.tsv";
     else if (!read_file(folder, flat->name, "tape.txt", &tape))
         flat->missing = "tape.txt";
+    else if (has_term && !read_dates(folder, flat->name, dates))
+        flat->missing = "term.tsv";
     else {
         if (tape.size > 0 && tape.bytes[tape.size - 1] == '\n')
             tape.size--; /* the file's last line end is no letter of the tape */
-        flat->answer = bill(&pattern, &tape, flat->litres);
+        flat->answer = bill(&pattern, &tape, has_term ? dates : NULL, flat->litres);
     }
 }
 
@@ -98,6 +148,8 @@ static void print_cause(uint64_t answer)
     case WUMBYRA_TAPE_TOO_LONG: puts("the tape has over 3,600 letters"); break;
     case WUMBYRA_TAPE_BYTE: printf("the byte at position %" PRIu32 " of the tape is no letter\n", value); break;
     case WUMBYRA_UNREADABLE: puts("no parse of the pattern spells the tape"); break;
+    case WUMBYRA_TAPE_UNDATED: puts("the start is no date, or a letter is dated past 31 December 2099"); break;
+    case WUMBYRA_NOT_A_TERM: puts("the term's first or last date is none, or the last is before the first"); break;
     default: puts("a cause that does not occur here"); break;
     }
 }

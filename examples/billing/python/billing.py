@@ -1,8 +1,9 @@
 """billing FOLDER: the litres of all flats under FOLDER, as one table on standard output.
 
-Each flat is a folder with pattern.tsv and tape.txt. A flat whose pattern or tape is refused gets no litres at all: it stands under the
-table with the cause. Standard error has a line that counts the flats. The exit status is 0 where all flats are billed, 1 where some
-are not, and 2 where FOLDER cannot be read.
+Each flat is a folder with pattern.tsv and tape.txt. One that is billed for some days only has term.tsv too, with three dates: that of the
+tape's first letter, and the first and the last of the term. A flat whose pattern, tape or term is refused gets no litres at all: it
+stands under the table with the cause. Standard error has a line that counts the flats. The exit status is 0 where all flats are billed,
+1 where some are not, and 2 where FOLDER cannot be read.
 """
 
 import os
@@ -23,14 +24,31 @@ def read(flat, name):
         raise Missing(f"{name} cannot be read") from None
 
 
+def date(field):
+    """The year, month and day that a number writes: 20240229 is 29 February 2024."""
+    number = int(field)
+    return number // 10000, number // 100 % 100, number % 100
+
+
+def read_term(flat):
+    """The dates of a flat's term; none where the whole tape is billed."""
+    if not (flat / "term.tsv").exists():
+        return None
+    try:
+        start, first, last = map(date, read(flat, "term.tsv").split()[:3])
+    except ValueError:
+        raise Missing("term.tsv cannot be read") from None
+    return start, first, last
+
+
 def bill(flat):
     """The litres of accounts 0 to 9."""
-    text, tape = read(flat, "pattern.tsv"), read(flat, "tape.txt")
+    text, tape, term = read(flat, "pattern.tsv"), read(flat, "tape.txt"), read_term(flat)
     if tape.endswith(b"\n"):
         tape = tape[:-1]  # the file's last line end is no letter of the tape
     pattern = Pattern(text)
     code, bits, _ = pattern.parse(tape)
-    return pattern.totals(code, bits)
+    return pattern.term_totals(code, bits, *term) if term else pattern.totals(code, bits)
 
 
 def bill_all(folder, names):

@@ -1,13 +1,14 @@
 //! billing FOLDER: the litres of all flats under FOLDER, as one table on standard output.
 //!
-//! Each flat is a folder with pattern.tsv and tape.txt. A flat whose pattern or tape is refused gets no litres at all: it stands under
-//! the table with the cause. Standard error has a line that counts the flats. The exit status is 0 where all flats are billed, 1 where
-//! some are not, and 2 where FOLDER cannot be read.
+//! Each flat is a folder with pattern.tsv and tape.txt. One that is billed for some days only has term.tsv too, with three dates: that of
+//! the tape's first letter, and the first and the last of the term. A flat whose pattern, tape or term is refused gets no litres at all:
+//! it stands under the table with the cause. Standard error has a line that counts the flats. The exit status is 0 where all flats are
+//! billed, 1 where some are not, and 2 where FOLDER cannot be read.
 
 use std::path::Path;
 use std::process::ExitCode;
 use std::{env, fs, io};
-use wumbyra::{Pattern, Refusal, ACCOUNTS};
+use wumbyra::{Date, Pattern, Refusal, ACCOUNTS};
 
 type Litres = [u32; ACCOUNTS];
 
@@ -27,15 +28,44 @@ fn read(flat: &Path, name: &'static str) -> Result<Vec<u8>, Unbilled> {
     fs::read(flat.join(name)).map_err(|_| Unbilled::Missing(name))
 }
 
+/// The date that a number writes: 20240229 is 29 February 2024.
+fn date(number: u32) -> Date {
+    Date {
+        year: number / 10_000,
+        month: number / 100 % 100,
+        day: number % 100,
+    }
+}
+
+/// Three dates from the fields of a text, if it has so many.
+fn dates(text: &[u8]) -> Option<[Date; 3]> {
+    let mut fields = std::str::from_utf8(text).ok()?.split_whitespace();
+    let mut next = || fields.next()?.parse().ok().map(date);
+    Some([next()?, next()?, next()?])
+}
+
+/// The dates of a flat's term; none where the whole tape is billed.
+fn read_term(flat: &Path) -> Result<Option<[Date; 3]>, Unbilled> {
+    if !flat.join("term.tsv").exists() {
+        return Ok(None);
+    }
+    let text = read(flat, "term.tsv")?;
+    dates(&text).map(Some).ok_or(Unbilled::Missing("term.tsv"))
+}
+
 fn bill(flat: &Path) -> Result<Litres, Unbilled> {
     let text = read(flat, "pattern.tsv")?;
     let mut tape = read(flat, "tape.txt")?;
+    let term = read_term(flat)?;
     if tape.last() == Some(&b'\n') {
         tape.pop(); // the file's last line end is no letter of the tape
     }
     let pattern = Pattern::load(&text)?;
-    let parsed = pattern.parse(&tape)?;
-    Ok(pattern.totals(&parsed.code)?)
+    let code = pattern.parse(&tape)?.code;
+    Ok(match term {
+        None => pattern.totals(&code)?,
+        Some([start, first, last]) => pattern.term_totals(&code, start, first, last)?,
+    })
 }
 
 /// A row of the table: the litres of accounts 0 to 9, and of all.
