@@ -37,6 +37,13 @@ static void p_one_tests(void) { sink = parse_of(unread, 1, 0); }
 static void p_walk(void) { sink = wumbyra_flatten(text, size, codes[0], bytes, bits, spelled[0], 0); }
 static void p_spell(void) { sink = wumbyra_flatten(text, size, codes[0], bytes, bits, spelled[0], LETTERS); }
 static void p_totals(void) { sink = wumbyra_totals(text, size, codes[0], bytes, bits, litres[0], 10); }
+// Terms of a tape that begins with the year 2000: all of its days, which are the most litres to add, and a month of them.
+enum { START = 20000101, BEFORE = 20000115, FIRST = 20000116, LAST = 20000215, BEHIND = 20000216, END = 20991231 };
+static uint64_t term_of(uint32_t first, uint32_t last) {
+  return wumbyra_term_totals(text, size, codes[0], bytes, bits, START, first, last, litres[0], 10);
+}
+static void p_term(void) { sink = term_of(START, END); }
+static void p_month(void) { sink = term_of(FIRST, LAST); }
 // A visit that there is not: all of the code is searched, and the answer is 10.
 static void p_span(void) { sink = wumbyra_span(text, size, tape, n, codes[0], bytes, bits, 0, UINT32_MAX); }
 static void p_settle(void) {
@@ -137,6 +144,20 @@ static void take(size_t letters, unsigned lefts) {
   for (unread[0] = '~'; masks.takers[unread[0]];) unread[0]--;
 }
 
+// A term of all days has the totals of the tape, which stand on side 1, and three terms that part the days add up to them.
+static void compare_terms(void) {
+  static const uint32_t terms[][2] = {{START, BEFORE}, {FIRST, LAST}, {BEHIND, END}};
+  uint32_t sums[10] = {0};
+  same("a term of all days", term_of(START, END) == 0 && !memcmp(litres[0], litres[1], sizeof litres[0]));
+  for (int k = 0; k < 3; k++) {
+    same("a term", term_of(terms[k][0], terms[k][1]) == 0);
+    for (int a = 0; a < 10; a++) sums[a] += litres[0][a];
+  }
+  same("terms that part the tape", !memcmp(sums, litres[1], sizeof sums));
+  same("causes 11 and 12", term_of(END, START) == 12ull << 32 &&
+                             wumbyra_term_totals(text, size, codes[0], bytes, bits, 0, 0, 0, litres[0], 10) == 11ull << 32);
+}
+
 static void compare(void) {
   same("the line count", wumbyra_load(text, size) == (uint64_t)table.count);
   c_masks();
@@ -164,6 +185,7 @@ static void compare(void) {
   c_totals();
   same("C's totals", sink == 0 && !memcmp(litres[0], litres[1], sizeof litres[0]));
   for (int a = 0; a < 10; a++) same("litres", wumbyra_total(text, size, codes[0], bytes, bits, a) == litres[1][a]);
+  compare_terms();
   p_span();
   same("cause 10", sink == 10ull << 32);
   p_settle();
@@ -182,8 +204,8 @@ static void row(const char *pattern, const char *work, Time p, Time c, double bo
   wanting += bound > 0 && ratio > bound;
 }
 
-// Bounds for every pattern, as ratios to C.
-static const double walk_bound = 3, flatten_bound = 2.2;
+// Bounds for every pattern, as ratios to C, and that of a term, as ratio to totals.
+static const double walk_bound = 3, flatten_bound = 2.2, term_bound = 1.5;
 
 static void against_c(const char *name, double fill_bound, double parse_bound) {
   enum { LOAD, PARSE, PARSE_C, UNREAD, FILL_C, TESTS, ONE, MASKS_C, ONE_TESTS, MASKS_FILL_C, WALK, WALK_C, SPELL, FLATTEN_C, SPELL_C,
@@ -204,6 +226,15 @@ static void against_c(const char *name, double fill_bound, double parse_bound) {
   row(name, "totals (C makes the same tests)", minus(j[TOTALS].time, load), j[TOTALS_C].time, 0);
   row(name, "settle (C tests the code too)", minus(j[SETTLE].time, load), j[SETTLE_C].time, 0);
   row(name, "span of a visit that there is not (C: one walk of the code)", minus(j[SPAN].time, load), j[WALK_C].time, 0);
+}
+
+// Totals within a term as ratios to totals of the whole tape, by the same walk over the code: what the dates cost.
+static void against_totals(const char *name, double bound) {
+  Job j[4] = {{p_load}, {p_totals}, {p_term}, {p_month}};
+  time_jobs(j, 4, 2e6);
+  Time load = j[0].time, totals_p = minus(j[1].time, load);
+  row(name, "all days", minus(j[2].time, load), totals_p, bound);
+  row(name, "a month", minus(j[3].time, load), totals_p, bound);
 }
 
 static void matcher_row(const char *pattern, const char *matcher, Time parse, Time m, int bound) {
@@ -324,9 +355,9 @@ static void no_call(void) {}
 static void stacks(const char *name) {
   size_t none = stack_of(no_call), parse = stack_of(p_parse) - none;
   wanting += parse > STACK_BOUND;
-  printf("| %s | %d | %zu | %zu, %s | %zu | %zu | %zu | %zu | %zu | %zu |\n", name, depth(&table), stack_of(p_load) - none, parse,
+  printf("| %s | %d | %zu | %zu, %s | %zu | %zu | %zu | %zu | %zu | %zu | %zu |\n", name, depth(&table), stack_of(p_load) - none, parse,
          parse > STACK_BOUND ? "NOT MET" : "met", stack_of(p_walk) - none, stack_of(p_spell) - none, stack_of(p_totals) - none,
-         stack_of(p_settle) - none, stack_of(p_span) - none, stack_of(c_parse) - none);
+         stack_of(p_term) - none, stack_of(p_settle) - none, stack_of(p_span) - none, stack_of(c_parse) - none);
 }
 
 static void meter(void) { meter_pattern(&table, 64); }
@@ -373,6 +404,13 @@ static void hot_letters(void) {
   same("byte 160 of a tape", parse_of(tape, n, CELLS) == 4ull << 32);
 }
 
+// A tape of days without litres, so that each letter steps the date: the most that dates can cost.
+static void days_alone(void) {
+  days_pattern(&table);
+  take(LETTERS, 8);
+  compare();
+}
+
 // A tape that the meter's pattern does not read: a restart, and stale litres to the end.
 static void never_closed(void) {
   pattern(0);
@@ -401,8 +439,8 @@ static int version(void) {
 
 static void print_stacks(void) {
   puts("\n### Stack: bytes that a call changes, with the load before it\n");
-  printf("| Pattern | Depth | Load | Parse, at most %d | Walk | Flatten | Totals | Settle | Span | C's parse |\n", STACK_BOUND);
-  puts("|---|---|---|---|---|---|---|---|---|---|");
+  printf("| Pattern | Depth | Load | Parse, at most %d | Walk | Flatten | Totals | Term | Settle | Span | C's parse |\n", STACK_BOUND);
+  puts("|---|---|---|---|---|---|---|---|---|---|---|");
   for (int k = 0; k < PATTERNS; k++) pattern(k), stacks(patterns[k].name);
 }
 
@@ -426,7 +464,14 @@ int main(int argc, char **argv) {
   growth("meter tape", meter_pattern);
   growth("hostile", hostile_pattern);
   print_stacks();
-  hot_letters();  // at the end, so that the tapes that are timed are drawn as ever
+  // At the end, so that the tapes above are drawn as ever.
+  puts("\n### Totals within a term: 3,600 letters\n");
+  puts("| Pattern | Term | Term's totals, µs | Totals, µs | Ratio | Bound |");
+  puts("|---|---|---|---|---|---|");
+  for (int k = 0; k < TIMED; k++) pattern(k), against_totals(patterns[k].name, term_bound);
+  days_alone();
+  against_totals("each letter a `D`, 2 nodes", 0);
+  hot_letters();
   printf("\nBounds not met: %d.\n", wanting);
   return 0;
 }

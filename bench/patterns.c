@@ -151,6 +151,13 @@ void hot_pattern(Table *t) {
   checked(t, 8);
 }
 
+void days_pattern(Table *t) {
+  made = t;
+  t->count = 0;
+  star(letter('D'));
+  checked(t, 2);
+}
+
 void chain_pattern(Table *t, int left) {
   made = t;
   t->count = 0;

@@ -7,6 +7,7 @@ void meter_pattern(Table *t, int nodes);    // a month of a meter's tape; 16, 32
 void hostile_pattern(Table *t, int nodes);  // (nodes - 4) / 2 times a or b, then a, then the star of a or b
 void stress_pattern(Table *t);              // one of 31 letters, in 3 nested stars
 void hot_pattern(Table *t);                 // a combined meter's: a digit, byte 161 and a digit, or a letter of a to 254, any number of times
+void days_pattern(Table *t);                // any number of D
 
 // The deepest patterns: 63 stars of kind K or Z around a or b; any number of a or b and 31 more, a chain of 31 sequences down to the left or to the right.
 void stars_pattern(Table *t, char kind);

@@ -78,6 +78,10 @@ static uint64_t parse_exact(void) {
 }
 static uint64_t flatten(void) { return wumbyra_flatten((uint8_t *)text, size, code, code_bytes, count, spelled, LETTERS); }
 static uint64_t totals(void) { return wumbyra_totals((uint8_t *)text, size, code, code_bytes, count, litres, WUMBYRA_ACCOUNTS); }
+// All days there are, of a tape that begins with the first.
+static uint64_t term_totals(void) {
+  return wumbyra_term_totals((uint8_t *)text, size, code, code_bytes, count, 20000101, 20000101, 20991231, litres, WUMBYRA_ACCOUNTS);
+}
 static uint64_t canonicalize(void) {
   return wumbyra_canonicalize((uint8_t *)text, size, code, code_bytes, count, spelled, LETTERS, words, WUMBYRA_WORDS(LETTERS), settled,
                               BYTES);
@@ -134,12 +138,14 @@ static void on_codes(int left) {
   longest_code();
   row(empty, "flatten", flatten, 0, steps);
   row(empty, "totals", totals, 0, steps);
+  row(empty, "totals within a term", term_totals, 0, steps);
   row(empty, "canonicalize", canonicalize, 1, steps);
   row(empty, "span of a visit that there is not", span, refused(WUMBYRA_NO_SUCH_VISIT), steps);
   row(empty, "span of the root", span_of_root, 0, steps);
   row_of("L\t1\t7", "L\t1\t7", left);
   row(many, "flatten", flatten, refused(WUMBYRA_TAPE_TOO_LONG), steps);
   row(many, "totals", totals, refused(WUMBYRA_TAPE_TOO_LONG), steps);
+  row(many, "totals within a term", term_totals, refused(WUMBYRA_TAPE_TOO_LONG), steps);
   row(many, "canonicalize", canonicalize, refused(WUMBYRA_TAPE_TOO_LONG), steps);
   memset(tape, '7', LETTERS);
   row(many, "span", span_of_letters, refused(WUMBYRA_NOT_A_CODE), steps);
