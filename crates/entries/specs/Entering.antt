@@ -1,5 +1,5 @@
 -- Entering into two slices: what a call asks and what it leaves, as records; and the steps of the walk, each as one law.
-use mathlib.Core.Path.{_≡_, refl, sym, ap, ap₂, _∙_}
+use mathlib.Core.Path.{_≡_, refl, sym, ap, ap₂, subst, _∙_}
 use mathlib.Core.Bool.{Bool, true, false, cond, true≢false, false≢true}
 use mathlib.Core.Option.{none, some, Option·none-ne-some}
 use mathlib.Core.List.{List, [], _∷_, _++_, map}
@@ -214,6 +214,11 @@ module _ {code : List ℕ} {v : Tree} {ov at : ℕ} {t : Tree} {ot from : ℕ} {
                     ∙ ap (λ a. sets ys n (accounts-in a)) all,
               );
         }
+
+    -- with the second part's account by an equation, behind the promise that it is in: a wrong one is then named (docs/PROVING.md)
+    pub both-charged : r .ok ≡ true → length xs ≤ letter-limit → length ys ≤ letter-limit → {o : ℕ} {xs'' ys'' : List ℕ} {z : Entered}
+        → Enters code u o (r .at) (r .n) xs' ys' xs'' ys'' z → o ≡ ou → Enters code v ov at n xs ys xs'' ys'' z
+    both-charged f sx sy {o} {xs''} {ys''} {z} k q = both-entered f sx sy (subst (λ a. Enters code u a (r .at) (r .n) xs' ys' xs'' ys'' z) q k)
 
 module _ {code : List ℕ} {v : Tree} {ov at : ℕ} {t : Tree} {ot from : ℕ} (e : Same code v ov at t ot from) where
   pub same-entered : {n : ℕ} {xs ys xs' ys' : List ℕ} {r : Entered} → Enters code t ot from n xs ys xs' ys' r → Enters code v ov at n xs ys xs' ys' r

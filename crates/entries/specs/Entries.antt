@@ -15,6 +15,7 @@ use Rattle.syntax.specs.Tree.{Label, Tree, range, seq, alt, star}
 use Rattle.syntax.specs.Trees.{made, unplanted}
 use Rattle.bits.specs.Bits.{bit-at, number-at, held}
 use Rattle.semantics.specs.Accounts.{owner, entries}
+use Rattle.semantics.specs.AccountLaws.{handed-none}
 use Rattle.semantics.specs.Decode.{Read, read}
 use Rattle.semantics.specs.Positions.{Seen, see, seen, and-then}
 use Rattle.walks.specs.Looks.{look-stays, look-nothing, look-letter, look-short, look-range, look-outside, look-seq, look-alt-none, look-left}
@@ -42,13 +43,15 @@ pub leaf-entries : (code : List ℕ) (m : Label) (f : ℕ → Tree) (x : Leaf) (
     → entries-at code (made m f (Leaf-node x)) o at ≡ entries-at code (leaf-tree x) (owner m o) at
 unfolding entries-at see read
 leaf-entries code m f Nothing o at = refl
-leaf-entries code m f (Letter c) o at = refl
+leaf-entries code m f (Letter c) o at =
+    ap (λ a. see (held 8 code (length code * 8)) (leaf-tree (Letter c)) (λ v. (c, a) ∷ []) at) (sym (handed-none (owner m o)))
 leaf-entries code m f (Range a b) o at = go (read (leaf-tree (Range a b)) (drop at (held 8 code (length code * 8))))
   where
     go : (r : Read (leaf-tree (Range a b))) → seen (length (held 8 code (length code * 8))) (range m a b) (entries (range m a b) o) r
         ≡ seen (length (held 8 code (length code * 8))) (leaf-tree (Range a b)) (entries (leaf-tree (Range a b)) (owner m o)) r
     go none = refl
-    go (some p) = refl
+    go (some p) =
+        ap (λ z. seen (length (held 8 code (length code * 8))) (leaf-tree (Range a b)) (λ v. (v .0, z) ∷ []) (some p)) (sym (handed-none (owner m o)))
 
 module _ (code : List ℕ) where
   module _ (o at : ℕ) where
@@ -67,6 +70,7 @@ module _ (code : List ℕ) where
     unfolding entries-at
     entries-letter x c e le =
         ap (λ y. entries-at code (leaf-tree y) o at) e ∙ look-letter code (length code * 8) (omega arith) _ at c (entries (leaf-tree (Letter c)) o) le
+        ∙ ap (λ z. some ((c, z) ∷ [], at)) (handed-none o)
 
     module _ (a b : ℕ) where
       pub entries-short : length code * 8 < at + 8 → entries-at code (leaf-tree (Range a b)) o at ≡ none
@@ -76,7 +80,9 @@ module _ (code : List ℕ) where
       module _ (c : ℕ) (h : at + 8 ≤ length code * 8) (e : c ≡ number-at 8 code at 8) where
         pub entries-range : in-range a b c ≡ true → entries-at code (leaf-tree (Range a b)) o at ≡ some ((c, o) ∷ [], at + 8)
         unfolding entries-at
-        entries-range q = look-range code (length code * 8) (omega arith) _ a b (entries (leaf-tree (Range a b)) o) at c h e q
+        entries-range q =
+            look-range code (length code * 8) (omega arith) _ a b (entries (leaf-tree (Range a b)) o) at c h e q
+            ∙ ap (λ z. some ((c, z) ∷ [], at + 8)) (handed-none o)
 
         pub entries-outside : in-range a b c ≡ false → entries-at code (leaf-tree (Range a b)) o at ≡ none
         unfolding entries-at

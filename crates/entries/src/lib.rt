@@ -63,10 +63,13 @@ fn next_cell(n: usize) -> usize
     if n < MANY { n + 1 } else { MANY }
 }
 
-// The account that a node hands down: its own, or the one from above if it has none.
+// The account that a node hands down: what is handed the stale account hands it down; else its own, or the one from above if it has none.
 fn handed_down(own: u8, above: u8) -> u8
     ensures { λ r. ⌜ r ≡ handed-down own above ⌝ }
 {
+    if above == Pattern::STALE_ACCOUNT {
+        return Pattern::STALE_ACCOUNT;
+    }
     if own == 0 { above } else { own }
 }
 

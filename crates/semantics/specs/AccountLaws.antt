@@ -1,5 +1,5 @@
--- LAWS of accounts: the letters with accounts are the tape's, and the totals add up to the tape's digits.
-use mathlib.Core.Path.{_∙_, _≡_, ap, ap₂, refl}
+-- LAWS of accounts: the letters with accounts are the tape's, what is stale goes to account 9, and the totals add up to the tape's digits.
+use mathlib.Core.Path.{_∙_, _≡_, ap, ap₂, refl, subst, sym}
 use mathlib.Core.Bool.{_&&_, Bool, cond, false, true}
 use mathlib.Core.Logic.{inl, inr}
 use mathlib.Core.List.{_++_, _∷_, List, [], map, map-append}
@@ -7,12 +7,43 @@ use Prim.Native.Nat.{_*_, _+_, _-_, _<_, _≤_, suc, zero, ℕ}
 use native.Mathlib.Omega.{arith}
 use lib.Dec.{eqb, leb}
 use lib.ListN.{length}
+use Rattle.syntax.specs.Table.{stale}
 use Rattle.syntax.specs.Tree.{Label, Tree, nothing, letter, range, seq, alt, star}
 use Rattle.semantics.specs.Value.{Value, flat-rounds, flat}
 use Rattle.semantics.specs.Visits.{label}
-use Rattle.semantics.specs.Accounts.{owner, join-rounds, entries, accounts, litres, total, digits}
+use Rattle.semantics.specs.Accounts.{handed-down, owner, join-rounds, entries, accounts, litres, total, digits}
+use Rattle.semantics.specs.Innermost.{innermost, entries-with}
 use Rattle.semantics.specs.Basics.{and-snd, eqb-eq, eqb-no, leb-le}
 use Rattle.semantics.specs.VisitLaws.{All, all-append}
+
+-- ── what a node hands down ──
+-- handed 9 it hands down 9, whatever its own account is
+pub handed-stale : (own : ℕ) → handed-down own stale ≡ stale
+handed-stale own = refl
+
+-- handed any other account it goes by 01's rule alone, as before 02's Job 5
+pub handed-other : (own above : ℕ) → (above ≡ stale → ⊥) → handed-down own above ≡ innermost own above
+handed-other own above h = go (eqb above stale) refl
+  where
+    go : (b : Bool) → eqb above stale ≡ b → cond b stale (innermost own above) ≡ innermost own above
+    go true e = absurd (h (eqb-eq above stale e))
+    go false e = refl
+
+-- of account 9 it hands down 9, whatever it is handed
+pub own-stale : (own above : ℕ) → own ≡ stale → handed-down own above ≡ stale
+own-stale own above e = ap (λ a. handed-down a above) e ∙ go (eqb above stale)
+  where
+    go : (b : Bool) → cond b stale stale ≡ stale
+    go true = refl
+    go false = refl
+
+-- without an account of its own it hands down what it is handed
+pub handed-none : (above : ℕ) → handed-down 0 above ≡ above
+handed-none above = go (eqb above stale) refl
+  where
+    go : (b : Bool) → eqb above stale ≡ b → cond b stale above ≡ above
+    go true e = sym (eqb-eq above stale e)
+    go false e = refl
 
 abbrev pub letters : List (ℕ × ℕ) → List ℕ
 letters es = map (λ e. e .0) es
@@ -34,23 +65,27 @@ entries-flat (alt m t u) o (inl v) = entries-flat t (owner m o) v
 entries-flat (alt m t u) o (inr v) = entries-flat u (owner m o) v
 entries-flat (star m again t) o vs = join-letters (flat t) (entries t (owner m o)) (entries-flat t (owner m o)) vs
 
--- a node with an account of its own hides those above it
-pub owner-own : (m : Label) (o p : ℕ) → (m .account ≡ 0 → ⊥) → owner m o ≡ owner m p
-owner-own m o p h = go (eqb (m .account) 0) refl
+-- a node with an account of its own hides those above it, where they are not 9
+pub owner-own : (m : Label) (o p : ℕ) → (o ≡ stale → ⊥) → (p ≡ stale → ⊥) → (m .account ≡ 0 → ⊥) → owner m o ≡ owner m p
+owner-own m o p i j h = handed-other (m .account) o i ∙ go (eqb (m .account) 0) refl ∙ sym (handed-other (m .account) p j)
   where
     go : (b : Bool) → eqb (m .account) 0 ≡ b → cond b o (m .account) ≡ cond b p (m .account)
     go true e = absurd (h (eqb-eq (m .account) 0 e))
     go false e = refl
 
--- "the innermost node, the leaf included, that has one": under a node that has one, what stands above it changes nothing
-pub entries-own : (t : Tree) (o p : ℕ) (v : Value t) → (label t .account ≡ 0 → ⊥) → entries t o v ≡ entries t p v
-entries-own (nothing m) o p v h = refl
-entries-own (letter m c) o p v h = ap (λ a. (c, a) ∷ []) (owner-own m o p h)
-entries-own (range m low high) o p v h = ap (λ a. (v .0, a) ∷ []) (owner-own m o p h)
-entries-own (seq m t u) o p v h = ap (λ a. entries t a (v .0) ++ entries u a (v .1)) (owner-own m o p h)
-entries-own (alt m t u) o p (inl v) h = ap (λ a. entries t a v) (owner-own m o p h)
-entries-own (alt m t u) o p (inr v) h = ap (λ a. entries u a v) (owner-own m o p h)
-entries-own (star m again t) o p vs h = ap (λ a. join-rounds (entries t a) vs) (owner-own m o p h)
+-- what stands above a node changes its entries only by what the node hands down
+entries-owner : (t : Tree) (o p : ℕ) (v : Value t) → owner (label t) o ≡ owner (label t) p → entries t o v ≡ entries t p v
+entries-owner (nothing m) o p v e = refl
+entries-owner (letter m c) o p v e = ap (λ a. (c, a) ∷ []) e
+entries-owner (range m low high) o p v e = ap (λ a. (v .0, a) ∷ []) e
+entries-owner (seq m t u) o p v e = ap (λ a. entries t a (v .0) ++ entries u a (v .1)) e
+entries-owner (alt m t u) o p (inl v) e = ap (λ a. entries t a v) e
+entries-owner (alt m t u) o p (inr v) e = ap (λ a. entries u a v) e
+entries-owner (star m again t) o p vs e = ap (λ a. join-rounds (entries t a) vs) e
+
+-- "the innermost node, the leaf included, that has one": under a node that has one, what stands above it changes nothing, as long as it is not 9
+pub entries-own : (t : Tree) (o p : ℕ) (v : Value t) → (o ≡ stale → ⊥) → (p ≡ stale → ⊥) → (label t .account ≡ 0 → ⊥) → entries t o v ≡ entries t p v
+entries-own t o p v i j h = entries-owner t o p v (owner-own (label t) o p i j h)
 
 -- ── every account is below n where the tree's are ──
 abbrev pub Accounts : ℕ → Tree → Type 0
@@ -62,11 +97,12 @@ Accounts n (alt m t u) = (m .account < n) × Accounts n t × Accounts n u
 Accounts n (star m again t) = (m .account < n) × Accounts n t
 
 owner-lt : (n : ℕ) (m : Label) (o : ℕ) → m .account < n → o < n → owner m o < n
-owner-lt n m o h k = go (eqb (m .account) 0)
+owner-lt n m o h k = go (eqb o stale) refl (eqb (m .account) 0)
   where
-    go : (b : Bool) → cond b o (m .account) < n
-    go true = k
-    go false = h
+    go : (b : Bool) → eqb o stale ≡ b → (d : Bool) → cond b stale (cond d o (m .account)) < n
+    go true e d = omega (arith, eqb-eq o stale e)
+    go false e true = k
+    go false e false = h
 
 join-all : {A B : Type 0} (P : B → Type 0) (g : A → List B) → ((v : A) → All P (g v)) → (vs : List A) → All P (join-rounds g vs)
 join-all P g one [] = tt
@@ -84,6 +120,77 @@ entries-below n (alt m t u) o (inl v) h k = entries-below n t (owner m o) v (h .
 entries-below n (alt m t u) o (inr v) h k = entries-below n u (owner m o) v (h .2) (owner-lt n m o (h .0) k)
 entries-below n (star m again t) o vs h k = join-all (λ e. e .1 < n) (entries t (owner m o))
     (λ v. entries-below n t (owner m o) v (h .1) (owner-lt n m o (h .0) k)) vs
+
+-- ── 02, Job 5: stale litres "go to account 9, however deep they stand, even if an inner node has another account" ──
+-- what is handed 9 is stale, all of it, whatever accounts stand in it
+pub stale-below : (t : Tree) (v : Value t) → All (λ e. e .1 ≡ stale) (entries t stale v)
+stale-below (nothing m) v = tt
+stale-below (letter m c) v = (refl, tt)
+stale-below (range m low high) v = (refl, tt)
+stale-below (seq m t u) v =
+    all-append (λ e. e .1 ≡ stale) (entries t stale (v .0)) (entries u stale (v .1)) (stale-below t (v .0)) (stale-below u (v .1))
+stale-below (alt m t u) (inl v) = stale-below t v
+stale-below (alt m t u) (inr v) = stale-below u v
+stale-below (star m again t) vs = join-all (λ e. e .1 ≡ stale) (entries t stale) (stale-below t) vs
+
+-- what is at or under a node of account 9 is stale, whatever is handed to that node, and so wherever in a pattern it stands
+pub stale-node : (t : Tree) (o : ℕ) (v : Value t) → label t .account ≡ stale → All (λ e. e .1 ≡ stale) (entries t o v)
+stale-node t o v h =
+    subst (All (λ e. e .1 ≡ stale)) (sym (entries-owner t o stale v (own-stale (label t .account) o h))) (stale-below t v)
+
+-- ── and nothing else moves: without account 9, 01's rule alone decides, as before ──
+join-same : {A B : Type 0} (f g : A → List B) → ((v : A) → f v ≡ g v) → (vs : List A) → join-rounds f vs ≡ join-rounds g vs
+join-same f g one [] = refl
+join-same f g one (v ∷ vs) = ap₂ (λ x y. x ++ y) (one v) (join-same f g one vs)
+
+-- `entries-with` goes through a tree as `entries` does: only the rule is another
+pub with-handed-down : (t : Tree) (o : ℕ) (v : Value t) → entries t o v ≡ entries-with handed-down t o v
+with-handed-down (nothing m) o v = refl
+with-handed-down (letter m c) o v = refl
+with-handed-down (range m low high) o v = refl
+with-handed-down (seq m t u) o v = ap₂ (λ x y. x ++ y) (with-handed-down t (owner m o) (v .0)) (with-handed-down u (owner m o) (v .1))
+with-handed-down (alt m t u) o (inl v) = with-handed-down t (owner m o) v
+with-handed-down (alt m t u) o (inr v) = with-handed-down u (owner m o) v
+with-handed-down (star m again t) o vs =
+    join-same (entries t (owner m o)) (entries-with handed-down t (owner m o)) (with-handed-down t (owner m o)) vs
+
+-- no node of the tree has account a
+abbrev pub Without : ℕ → Tree → Type 0
+Without a (nothing m) = m .account ≡ a → ⊥
+Without a (letter m c) = m .account ≡ a → ⊥
+Without a (range m low high) = m .account ≡ a → ⊥
+Without a (seq m t u) = (m .account ≡ a → ⊥) × Without a t × Without a u
+Without a (alt m t u) = (m .account ≡ a → ⊥) × Without a t × Without a u
+Without a (star m again t) = (m .account ≡ a → ⊥) × Without a t
+
+innermost-not : (a own above : ℕ) → (own ≡ a → ⊥) → (above ≡ a → ⊥) → innermost own above ≡ a → ⊥
+innermost-not a own above h k = go (eqb own 0)
+  where
+    go : (b : Bool) → cond b above own ≡ a → ⊥
+    go true = k
+    go false = h
+
+-- in a pattern without account 9 each letter goes to the account that 01's rule alone gives it to
+pub no-stale : (t : Tree) (o : ℕ) (v : Value t) → Without stale t → (o ≡ stale → ⊥) → entries t o v ≡ entries-with innermost t o v
+no-stale (nothing m) o v h k = refl
+no-stale (letter m c) o v h k = ap (λ a. (c, a) ∷ []) (handed-other (m .account) o k)
+no-stale (range m low high) o v h k = ap (λ a. (v .0, a) ∷ []) (handed-other (m .account) o k)
+no-stale (seq m t u) o v h k =
+    let w = innermost (m .account) o in
+    let n = innermost-not stale (m .account) o (h .0) k in
+    ap (λ a. entries t a (v .0) ++ entries u a (v .1)) (handed-other (m .account) o k)
+    ∙ ap₂ (λ x y. x ++ y) (no-stale t w (v .0) (h .1) n) (no-stale u w (v .1) (h .2) n)
+no-stale (alt m t u) o (inl v) h k =
+    ap (λ a. entries t a v) (handed-other (m .account) o k)
+    ∙ no-stale t (innermost (m .account) o) v (h .1) (innermost-not stale (m .account) o (h .0) k)
+no-stale (alt m t u) o (inr v) h k =
+    ap (λ a. entries u a v) (handed-other (m .account) o k)
+    ∙ no-stale u (innermost (m .account) o) v (h .2) (innermost-not stale (m .account) o (h .0) k)
+no-stale (star m again t) o vs h k =
+    let w = innermost (m .account) o in
+    let n = innermost-not stale (m .account) o (h .0) k in
+    ap (λ a. join-rounds (entries t a) vs) (handed-other (m .account) o k)
+    ∙ join-same (entries t w) (entries-with innermost t w) (λ v. no-stale t w v (h .1) n) vs
 
 -- ── totals ──
 -- the sum of f 0 to f (n - 1)

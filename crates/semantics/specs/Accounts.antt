@@ -4,12 +4,15 @@ use mathlib.Core.Logic.{inl, inr}
 use mathlib.Core.List.{_++_, _∷_, List, [], map}
 use Prim.Native.Nat.{_+_, _-_, ℕ}
 use lib.Dec.{eqb, leb}
+use Rattle.syntax.specs.Table.{stale}
 use Rattle.syntax.specs.Tree.{Label, Tree, nothing, letter, range, seq, alt, star}
 use Rattle.semantics.specs.Value.{Value}
 
--- the account that a node hands down: its own, or the one from above if it has none (0)
+-- The account that a node hands down. 02, Job 5: "Litres at or under a node of account 9 are stale and go to account 9, however deep they stand, even if
+-- an inner node has another account." So what is handed 9 hands down 9. For the rest 01: "Litres go to the account of the innermost node, the leaf
+-- included, that has one"; so it hands down its own account, or the one from above if it has none (0).
 abbrev pub handed-down : (own above : ℕ) → ℕ
-handed-down own above = cond (eqb own 0) above own
+handed-down own above = cond (eqb above stale) stale (cond (eqb own 0) above own)
 
 abbrev pub owner : Label → (above : ℕ) → ℕ
 owner m o = handed-down (m .account) o
@@ -18,7 +21,7 @@ abbrev pub join-rounds : {A B : Type 0} → (A → List B) → List A → List B
 join-rounds g [] = []
 join-rounds g (v ∷ vs) = g v ++ join-rounds g vs
 
--- 01: "Litres go to the account of the innermost node, the leaf included, that has one". Each letter with its account; `above` where no node here has one.
+-- Each letter with its account: what is handed down to it from the root on, the leaf included. `above` is what the tree is handed.
 abbrev pub entries : (t : Tree) → (above : ℕ) → Value t → List (ℕ × ℕ)
 entries (nothing m) o v = []
 entries (letter m c) o v = (c, owner m o) ∷ []

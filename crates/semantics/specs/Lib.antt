@@ -9,6 +9,8 @@ pub mod Code
 pub mod Automaton
 pub mod Visits
 pub mod Accounts
+-- 01's rule of accounts before 02's Job 5; AccountLaws: where a pattern has no account 9, Accounts' entries are those of this rule
+pub mod Innermost
 -- Layer 2, how it is computed: decoding, the two sweeps, leaving out empty iterations. Programs are proved against these.
 pub mod Decode
 pub mod Sweeps
@@ -36,5 +38,6 @@ pub mod VisitLaws
 pub mod AccountLaws
 pub mod LetterLaws
 pub mod Promised
--- C1 to C11 and the listing of document 01, and rows for `Z`.
+-- C1 to C11 and the listing of document 01, and rows for `Z`; chains of accounts.
 pub mod Examples
+pub mod AccountChains

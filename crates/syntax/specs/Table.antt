@@ -43,6 +43,10 @@ node-good (Star again p) = true
 abbrev pub account-limit : ℕ
 account-limit = 9
 
+-- 02, Job 5: litres "at or under a node of account 9 are stale"; in code `Pattern::STALE_ACCOUNT`
+abbrev pub stale : ℕ
+stale = 9
+
 unfoldable pub line-good : Line → Bool
 line-good x = leb (x .account) account-limit && node-good (x .node)
 

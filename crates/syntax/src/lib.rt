@@ -52,6 +52,9 @@ impl Pattern {
     // Accounts are 1 to this; 0 stands for none.
     pub const MAX_ACCOUNT: u8 = 9;
 
+    // The account of litres that are "stale" (02): what is at or under a node of it stays in it.
+    pub const STALE_ACCOUNT: u8 = 9;
+
     pub const FIRST_LETTER: u8 = 33;
 
     pub const LAST_LETTER: u8 = 126;

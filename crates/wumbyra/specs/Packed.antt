@@ -18,9 +18,9 @@ use Rattle.parser.specs.Parse.{parsed-answer, Parses}
 use Rattle.canonical.specs.declared.Canonicalized.{Canonicalized}
 use Rattle.canonical.specs.Canonicalize.{canonicalized-answer, Canonicalizes}
 
--- the version 1.3.0 as one number: major × 10000 + minor × 100 + patch
+-- the version 1.4.0 as one number: major × 10000 + minor × 100 + patch
 abbrev pub version-number : ℕ
-version-number = 1 * 10000 + 3 * 100 + 0
+version-number = 1 * 10000 + 4 * 100 + 0
 
 -- THE PROMISE of reading a tape from C: answer and buffers are those that the service promises on the table of the text
 pub record Parses-text (text tape words words-now code code-now : List ℕ) (r : ℕ) : Type 0 where

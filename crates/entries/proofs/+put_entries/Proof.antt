@@ -1,12 +1,13 @@
 -- `entries::put_entries` meets its contract.
 use Rattle.bits.specs.Bits.{bit-at}
+use Rattle.semantics.specs.Accounts.{handed-down}
 use Rattle.semantics.specs.Code.{code-limit}
 use Rattle.table.specs.Cells.{tree-in}
 use Rattle.entries.specs.Entering.{At-line, line-known, first-below, second-below, side-below, star-below}
 use Rattle.entries.specs.Entering.{leaf-is, seq-is, side-is, stop-is, round-is, alt-none-is, star-none-is}
-use Rattle.entries.specs.Entering.{ready-at, enters-stays, enters-ready, not-entered, none-entered, first-failed, both-entered, same-entered}
+use Rattle.entries.specs.Entering.{ready-at, enters-stays, enters-ready, not-entered, none-entered, first-failed, both-charged, same-entered}
 use Rattle.entries.specs.Entering.{Turns, turns-start, turn-ready, turns-failed, turns-more}
-use mathlib.Core.Path.{refl, _∙_}
+use mathlib.Core.Path.{_≡_, refl, _∙_}
 use native.Mathlib.Omega.{arith}
 use borrow.Author.Tests.{not-true, not-false}
 use borrow.Author.Needs.{needs}
@@ -85,7 +86,9 @@ line : (t : ℕ) (d : Read t)
     → At-line (start t d .args .table .now) (start t d .args .l) (start t d .args .above) (d .before .handed-down .result) (d .node-at .result)
 line t d =
     let (good, small) = start t d .pre .1 .0 in
-    line-known good small (d .node-at .ensures) (d .before .before .account-at .ensures) (d .before .handed-down .ensures)
+    let own = d .before .before .account-at .result in
+    let owner : d .before .handed-down .result ≡ handed-down own (start t d .args .above) = d .before .handed-down .ensures in
+    line-known good small (d .node-at .ensures) (d .before .before .account-at .ensures) owner
 
 -- the bit that chooses a side is there, and so is a star's next bit
 side-there : (t : ℕ) (d : lts.Else2 (given t) (called t) reads.Post Inv μ-loop)
@@ -397,8 +400,8 @@ returns-6 t c =
     let e = at-p .p .given .1 in
     let parts = seq-is known _ _ _ _ e (begin .pre .1 .1 .within) in
     let ready = begin .pre .1 .1 in
-    both-entered parts (at-put-entries .put-entries .ensures) (not-false _ (at-else1 .if1 .left)) (ready .long) (ready .wide)
-    (at-put-entries2 .put-entries2 .ensures)
+    both-charged parts (at-put-entries .put-entries .ensures) (not-false _ (at-else1 .if1 .left)) (ready .long) (ready .wide)
+    (at-put-entries2 .put-entries2 .ensures) refl
 
 same-length-11 : (t : ℕ) → lts.Need-same-length-11 (given t) (called t) reads.Post Inv μ-loop
 same-length-11 t c = search needs
