@@ -116,6 +116,27 @@ static void write_text(struct pattern *pattern)
     pattern->size = (size_t)(end - (char *)pattern->text);
 }
 
+/* Puts account 9 above other accounts: at one of the upper lines, and others at most of the lines below it. */
+static void put_stale(struct source *source, struct pattern *pattern)
+{
+    bool below[WUMBYRA_MAX_LINES] = {false};
+    const uint32_t top = pattern->count - 1 - draw(source, (pattern->count + 1) / 2);
+    below[top] = true;
+    for (uint32_t i = top + 1; i-- > 0;) {
+        struct node *node = &pattern->node[i];
+        if (!below[i])
+            continue;
+        if (strchr("SAKZ", node->kind) != NULL)
+            below[node->first] = true;
+        if (strchr("SA", node->kind) != NULL)
+            below[node->second] = true;
+        if (i == top)
+            node->account = STALE;
+        else if (!chance(source, 3))
+            node->account = 1 + draw(source, STALE - 1);
+    }
+}
+
 void draw_pattern(struct source *source, struct pattern *pattern, bool endless)
 {
     static const char *const mixes[] = {"ELLRRSSAAKZ", "ELRSAKKZZ", "EEELSSSSAKZ", "ELAAAAASZ", "RRRRSSSSKZ", "ELRSAK", "ELRSAZ"};
@@ -142,6 +163,8 @@ void draw_pattern(struct source *source, struct pattern *pattern, bool endless)
             node->second = take(source, tree, &trees);
         tree[trees++] = i;
     }
+    if (chance(source, 3))
+        put_stale(source, pattern);
     write_text(pattern);
 }
 
@@ -229,6 +252,13 @@ static void visit_kind(struct walk *walk, const struct node *node, uint32_t acco
     }
 }
 
+/* Where litres in a node go, if those of the node above it go to `above`. Once that is account 9 it stays so, however deep they stand;
+ * otherwise the nearest account has them. */
+static uint32_t account_in(uint32_t above, uint32_t own)
+{
+    return above == STALE || own == 0 ? above : own;
+}
+
 static void visit(struct walk *walk, uint32_t place, uint32_t account)
 {
     const struct node *node = &walk->pattern->node[place];
@@ -239,7 +269,7 @@ static void visit(struct walk *walk, uint32_t place, uint32_t account)
         number = parse->visits++;
         parse->start[number] = (uint16_t)before;
     }
-    visit_kind(walk, node, node->account == 0 ? account : node->account);
+    visit_kind(walk, node, account_in(account, node->account));
     if (place == parse->watched)
         parse->length[number] = (uint16_t)(parse->count - before);
 }

@@ -30,6 +30,8 @@ uint8_t draw_no_letter(struct source *source);
 uint32_t litres_of(uint8_t letter);
 uint32_t days_of(uint8_t letter);
 
+enum { STALE = 9 }; /* the account of stale litres: what stands under a node that has it goes there, whatever account is nearer */
+
 struct node {
     char kind; /* of E L R S A K Z */
     uint32_t account; /* 0: none */

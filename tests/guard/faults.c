@@ -182,6 +182,47 @@ uint64_t __wrap_wumbyra_span(const uint8_t *text, size_t text_len, const uint8_t
     return fault() == 16 && wumbyra_number(answer) == 10 ? 0 : answer;
 }
 
+/* Where the account stands in the line of a text that begins at `at`, and where the next line begins. */
+static size_t account_at(const uint8_t *text, size_t at)
+{
+    for (int tabs = 0; tabs < 2; at++)
+        tabs += text[at] == '\t';
+    return at;
+}
+
+static size_t line_behind(const uint8_t *text, size_t at)
+{
+    while (text[at] != '\n')
+        at++;
+    return at + 1;
+}
+
+/* Writes a text that loads with an account that it does not have in the place of 9, and answers which; 0 if it has all of them. By that
+ * text litres go to the nearest account, since no account but 9 outranks others. */
+static uint32_t put_other_account(uint8_t *other, const uint8_t *text, size_t text_len)
+{
+    bool used[256] = {false};
+    uint32_t spare = 1;
+    for (size_t at = 0; at < text_len; at = line_behind(text, at))
+        used[text[account_at(text, at)]] = true;
+    while (used['0' + spare])
+        spare++;
+    if (spare >= STALE)
+        return 0;
+    memcpy(other, text, text_len);
+    for (size_t at = 0; at < text_len; at = line_behind(text, at))
+        if (text[account_at(text, at)] == '0' + STALE)
+            other[account_at(text, at)] = (uint8_t)('0' + spare);
+    return spare;
+}
+
+/* Totals by that text, with the other account's litres on account 9. */
+static void put_nearest(const uint32_t *all, uint32_t spare, uint32_t *litres, size_t litres_len)
+{
+    for (uint32_t i = 0; i < WUMBYRA_ACCOUNTS && i < litres_len; i++)
+        litres[i] = i == spare ? 0 : all[i == STALE ? spare : i];
+}
+
 uint64_t __wrap_wumbyra_totals(const uint8_t *text, size_t text_len, const uint8_t *code, size_t code_len, uint32_t count,
                                uint32_t *litres, size_t litres_len)
 {
@@ -199,6 +240,14 @@ uint64_t __wrap_wumbyra_totals(const uint8_t *text, size_t text_len, const uint8
         uint8_t tape[WUMBYRA_MAX_LETTERS];
         uint64_t letters = __real_wumbyra_flatten(text, text_len, code, code_len, count, tape, sizeof tape);
         litres[0] += 9 * counted(tape, wumbyra_value(letters), 128 + '9', 128 + '9');
+    }
+    if (fault() == 37 && wumbyra_number(answer) == 0) { /* to the nearest account, though 9 is above it */
+        uint8_t other[WUMBYRA_MAX_TEXT_BYTES];
+        uint32_t all[WUMBYRA_ACCOUNTS], spare = put_other_account(other, text, text_len);
+        if (spare > 0) {
+            (void)__real_wumbyra_totals(other, text_len, code, code_len, count, all, WUMBYRA_ACCOUNTS);
+            put_nearest(all, spare, litres, litres_len);
+        }
     }
     return answer;
 }
@@ -247,6 +296,14 @@ uint64_t __wrap_wumbyra_term_totals(const uint8_t *text, size_t text_len, const 
     answer = __real_wumbyra_term_totals(text, text_len, code, code_len, count, start, first, last, litres, litres_len);
     number = wumbyra_number(answer);
     spoil_litres(number, litres, litres_len);
+    if (fault() == 38 && number == 0) { /* to the nearest account, though 9 is above it */
+        uint8_t other[WUMBYRA_MAX_TEXT_BYTES];
+        uint32_t all[WUMBYRA_ACCOUNTS], spare = put_other_account(other, text, text_len);
+        if (spare > 0) {
+            (void)__real_wumbyra_term_totals(other, text_len, code, code_len, count, start, first, last, all, WUMBYRA_ACCOUNTS);
+            put_nearest(all, spare, litres, litres_len);
+        }
+    }
     switch (fault()) {
     case 33: return number == 12 && are ? 0 : answer; /* a term backwards is one without days */
     case 34: return number == 11 && (!are || last < first) ? (uint64_t)12 << 32 : answer; /* 12 before 11 */

@@ -244,6 +244,8 @@ static void draw_dates(struct scene *s)
     uint32_t start = draw_day(&c->source), first, last;
     if (start + days >= DAYS && !chance(&c->source, 3))
         start = DAYS - 1 - days + draw(&c->source, 3); /* so that the last letters are about 31 December 2099 */
+    if (days > 0 && days_of(s->tape[s->letters - 1]) == 1 && chance(&c->source, 4))
+        start = DAYS - days; /* so that the tape's last letter, a `D`, ends 2099 */
     first = chance(&c->source, 4) ? draw_day(&c->source) : start + draw(&c->source, days + 3) - (start > 0);
     last = first + draw(&c->source, chance(&c->source, 4) ? DAYS : days + 3);
     if (chance(&c->source, 8))

@@ -34,8 +34,17 @@ EACH_ACCOUNT = text(
     "L - 0", *(f"L {d} {d}" for d in range(1, 10)), "A - 0 1", *(f"A - {9 + d} {d + 1}" for d in range(1, 9)), "K - 18"
 )
 
-# The node's own account goes before that of the nodes above it.
+# The node's own account goes before that of the nodes above it, where that is not 9.
 INNERMOST = text("R 2 0 9", "L - x", "S 3 1 0", "R - 0 9", "A - 2 3", "K 5 4")
+
+# The pattern of 01's section "A whole listing" with an account of its own for the digit behind `W`, under account 9.
+STALE = text("R 4 0 9", "L - W", "S 9 1 0", "R 1 0 9", "A - 2 3", "K - 4")
+
+# Account 9 between two others, and behind it a digit of the outer one.
+STALE_BETWEEN = text("R 4 0 9", "K 9 0", "L - x", "R - 0 9", "S - 2 3", "S 3 1 4")
+
+# Account 9 beside a digit and not above it.
+STALE_BESIDE = text("E 9", "R 3 0 9", "S - 0 1", "K - 2")
 
 # The pattern of 01's section "A whole listing" with a lazy star.
 LAZY_WORKED = text("R - 0 9", "L - W", "S 9 1 0", "R 1 0 9", "A - 2 3", "Z - 4")

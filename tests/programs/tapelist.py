@@ -151,11 +151,16 @@ def lengths_of_tapes():
 
 
 def litres_and_codes():
+    between = "tape\t4\t27\t1a8de640\naccount\t3\t2\naccount\t9\t12\nopen\t0\t3\nopen\t1\t3\nopen\t2\t4\nopen\t3\t1\nopen\t4\t0\n"
+    beside = "tape\t2\t19\t1a8ca0\naccount\t3\t7\nopen\t0\t4\nopen\t1\t4\nopen\t2\t1\n"
     return [
         plain("litres without an account", patterns.UNBILLED, b"12x\n"),
         plain("an account without litres", patterns.ANY, b"0x0\n"),
         plain("all ten accounts", patterns.EACH_ACCOUNT, b"0123456789987654321\n"),
         plain("account 0 beside others", patterns.INNERMOST, b"1x23\n"),
+        plain("an account under account 9", patterns.STALE, b"3W2\n", LISTED),
+        plain("account 9 between two others", patterns.STALE_BETWEEN, b"57x2\n", between),
+        plain("account 9 beside a digit", patterns.STALE_BESIDE, b"52\n", beside),
         plain("a code of 0 bits", patterns.NOTHING, b"", "tape\t0\t0\t\nopen\t0\t1\n"),
         plain("63 stars, one in the other", patterns.STARS, b"7" * 100 + b"\n"),
         plain("two rounds of 64 longest lines", patterns.LONGEST, b"5" * 64 + b"\n"),

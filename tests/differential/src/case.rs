@@ -10,7 +10,7 @@ use wumbyra_reference::hot;
 use wumbyra_reference::lazy;
 use wumbyra_reference::load::load;
 use wumbyra_reference::memo::preferred_reading;
-use wumbyra_reference::patterns::{random, text_of, LISTING, P1, P2, P3, P4, P5};
+use wumbyra_reference::patterns::{random, text_of, with_stale_part, LISTING, P1, P2, P3, P4, P5};
 use wumbyra_reference::prng::Prng;
 use wumbyra_reference::services::spelling::letters_of;
 use wumbyra_reference::services::terms::DAY_END;
@@ -61,6 +61,11 @@ pub fn random_case(rng: &mut Prng) -> Case {
         100..=299 => sampled(rng, nested),
         300..=549 => with_days(rng),
         _ => sampled(rng, sampled_pattern),
+    };
+    // Accounts have no part in reading, so the value is one of the changed pattern too.
+    let table = match rng.below(3) {
+        0 => with_stale_part(rng, &table),
+        _ => table,
     };
     let tape = tape_of(rng, &table, &value);
     let code = code_of(rng, &table, &value, &tape);
@@ -449,8 +454,10 @@ fn finished(rng: &mut Prng, text: Vec<u8>, tape: Vec<u8>, code: Code) -> Case {
 mod tests {
     use super::*;
     use wumbyra_reference::calendar::Date;
+    use wumbyra_reference::code::{decode, unpack};
     use wumbyra_reference::services::terms::term_totals;
     use wumbyra_reference::services::totals::totals;
+    use wumbyra_reference::stale::moves_litres;
     use wumbyra_reference::table::is_letter;
 
     /// The letters and bytes that the README names come up, and often enough for a run of 20,000 cases to meet each many times.
@@ -523,5 +530,35 @@ mod tests {
         ] {
             assert!(count >= 25, "{sort}: {count}");
         }
+    }
+
+    /// Account 9 stands above other accounts in one pattern of three, and that moves litres in many cases.
+    #[test]
+    fn cases_have_stale_litres() {
+        let mut rng = Prng::new(23);
+        let (mut nested, mut moved) = (0, 0);
+        for _ in 0..4_000 {
+            let case = random_case(&mut rng);
+            let Ok(table) = load(&case.text) else {
+                continue;
+            };
+            nested += usize::from(has_nested(&table, table.root(), false));
+            let bits = unpack(&case.code, u64::from(case.count));
+            let value = bits.and_then(|bits| decode(&table, &bits));
+            moved += usize::from(value.is_some_and(|value| moves_litres(&table, &value)));
+        }
+        assert!(nested >= 1_000, "{nested}");
+        assert!(moved >= 250, "{moved}");
+    }
+
+    /// Whether a node of account 9 is above one of another account.
+    fn has_nested(table: &Table, place: usize, stale: bool) -> bool {
+        let node = table.node(place);
+        if stale && node.account != 0 && node.account != 9 {
+            return true;
+        }
+        let stale = stale || node.account == 9;
+        let mut parts = node.parts().into_iter();
+        parts.any(|part| has_nested(table, part as usize, stale))
     }
 }

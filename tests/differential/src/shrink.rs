@@ -67,6 +67,9 @@ fn candidates(case: &Case) -> Vec<Case> {
     for code in shorter(&case.code) {
         add(&|smaller| smaller.code = code.clone());
     }
+    // A count of more bits than the bytes have is not shortened with them.
+    add(&|smaller| smaller.count /= 2);
+    add(&|smaller| smaller.count = smaller.count.saturating_sub(1));
     let fields: [fn(&mut Case) -> &mut usize; 6] = [
         |case| &mut case.parse_words,
         |case| &mut case.parse_bytes,
@@ -288,6 +291,7 @@ mod tests {
     use wumbyra_reference::prng::Prng;
     use wumbyra_reference::services::terms::term_totals;
     use wumbyra_reference::services::totals::totals;
+    use wumbyra_reference::stale::moves_litres;
     use wumbyra_reference::value::{has_empty_round, spell};
 
     /// A fault in codes with an empty round comes down to one star and one round.
@@ -440,6 +444,32 @@ mod tests {
                 seen += 1;
                 let small = shrink(&case, &fails);
                 assert_eq!(small.dates, [20_990_101, 0, 0]);
+            }
+        }
+    }
+
+    /// A fault in stale litres comes down to account 9, one other account below it, and one letter.
+    #[test]
+    fn stale_litres_are_shown_with_two_accounts() {
+        let read = |case: &Case| {
+            let table = load(&case.text).ok()?;
+            let bits = unpack(&case.code, u64::from(case.count))?;
+            decode(&table, &bits).map(|value| (table, value))
+        };
+        let fails =
+            |case: &Case| read(case).is_some_and(|(table, value)| moves_litres(&table, &value));
+        let mut rng = Prng::new(25);
+        let mut seen = 0;
+        while seen < 20 {
+            let case = random_case(&mut rng);
+            if case.code.len() < 100 && fails(&case) {
+                seen += 1;
+                let (table, value) = read(&shrink(&case, &fails)).expect("it is read");
+                let accounts = table.lines().iter().map(|node| node.account);
+                let accounts: Vec<u64> = accounts.filter(|&account| account != 0).collect();
+                assert_eq!((accounts.len(), accounts.last()), (2, Some(&9)));
+                assert_eq!(spell(&value).len(), 1);
+                assert!(table.lines().len() <= 5, "{table:?}");
             }
         }
     }

@@ -18,6 +18,7 @@ pub mod patterns;
 pub mod positions;
 pub mod prng;
 pub mod services;
+pub mod stale;
 pub mod table;
 pub mod tapes;
 pub mod terms;

@@ -1,7 +1,7 @@
 //! Good patterns: those of 01 and random ones, and their texts.
 
 use crate::prng::Prng;
-use crate::table::{Kind, Node, Table};
+use crate::table::{Kind, Node, Table, STALE_ACCOUNT};
 
 /// The text that loads as this table.
 pub fn text_of(table: &Table) -> Vec<u8> {
@@ -100,4 +100,39 @@ pub fn random(rng: &mut Prng, count: usize, taste: &Taste) -> Table {
 fn take(rng: &mut Prng, unnamed: &mut Vec<u64>) -> u64 {
     let index = rng.below(unnamed.len());
     unnamed.remove(index)
+}
+
+/// The table with account 9 at a random node that has letters below it, and
+/// with other accounts there: at one of the leaves that read them, and at half
+/// of the rest. As it is where it has no such node.
+pub fn with_stale_part(rng: &mut Prng, table: &Table) -> Table {
+    let reads = |place: &usize| matches!(table.node(*place).kind, Kind::Letter | Kind::Range);
+    let tops: Vec<usize> = (0..table.lines().len())
+        .filter(|&place| below(table, place).iter().any(reads))
+        .collect();
+    let mut changed = table.clone();
+    if tops.is_empty() {
+        return changed;
+    }
+    let top = *rng.pick(&tops);
+    changed.nodes[top].account = STALE_ACCOUNT;
+    let places = below(table, top);
+    let leaves: Vec<usize> = places.iter().copied().filter(reads).collect();
+    let chosen = *rng.pick(&leaves);
+    for place in places {
+        if place == chosen || rng.below(2) == 0 {
+            changed.nodes[place].account = 1 + rng.below(STALE_ACCOUNT as usize - 1) as u64;
+        }
+    }
+    changed
+}
+
+/// The places below a node, at any depth.
+fn below(table: &Table, place: usize) -> Vec<usize> {
+    let mut found: Vec<usize> = Vec::new();
+    for part in table.node(place).parts() {
+        found.push(part as usize);
+        found.extend(below(table, part as usize));
+    }
+    found
 }

@@ -4,6 +4,9 @@
 pub const MOST_LINES: usize = 64;
 /// "Account is `-` or a digit 1 to 9"; `-` is kept as 0.
 pub const MOST_ACCOUNT: u64 = 9;
+/// The account of stale litres (02, Job 5). That it is the greatest account too is
+/// chance: a later job has greater ones.
+pub const STALE_ACCOUNT: u64 = 9;
 
 /// The letters of texts, tables, tapes and codes. 01: "A letter is one byte,
 /// 33 to 126." 02, Job 3: "Combined meters write hot water events as bytes 161

@@ -1,7 +1,7 @@
 //! The cases for spelling, totalling and settling: answers set by hand, and
 //! their lines.
 
-use wumbyra_reference::codes;
+use wumbyra_reference::codes::{self, totals_line};
 use wumbyra_reference::services::spelling::letters_of;
 use wumbyra_reference::tapes::table_of;
 
@@ -14,6 +14,18 @@ fn answers_of_settling_set_by_hand() {
             assert!(answer.starts_with(&start), "{}: {answer}", case.name);
         }
     }
+}
+
+#[test]
+fn totals_set_by_hand() {
+    let mut set = 0;
+    for case in codes::all() {
+        if let Some(totals) = case.litres {
+            assert_eq!(case.answers()[1], totals_line(Ok(totals)), "{}", case.name);
+            set += 1;
+        }
+    }
+    assert!(set >= 250, "{set}");
 }
 
 /// Program `vectors` holds 20,480 bytes of a line.

@@ -270,7 +270,13 @@ fn answers_set_by_hand() {
 /// Each sort of random cases has answers of each sort: litres, none, 11, 12.
 #[test]
 fn random_cases_are_of_every_sort() {
-    for sort in ["random:", "mixed random:", "hot random:", "damaged:"] {
+    for sort in [
+        "random:",
+        "mixed random:",
+        "hot random:",
+        "stale random:",
+        "damaged:",
+    ] {
         let answers: Vec<String> = terms::all()
             .iter()
             .filter(|case| case.name.starts_with(sort))
@@ -296,7 +302,7 @@ fn random_cases_are_of_every_sort() {
 #[test]
 fn lines_are_short_and_names_differ() {
     let all = terms::all();
-    assert!(all.len() <= 750, "{}", all.len());
+    assert!(all.len() <= 900, "{}", all.len());
     let mut names = HashSet::new();
     for case in &all {
         assert!(case.line().len() <= 20_000, "{}", case.name);

@@ -4,6 +4,7 @@ use super::{just_enough, Case, Code, Lent};
 use crate::cases;
 use crate::load::load;
 use crate::patterns::{LISTING, P1, P2, P3, P4, P5};
+use crate::services::totals::Totals;
 use crate::tapes::by_hand::{NO_ROUND, ONE, RANGE, RANGES};
 use crate::tapes::table_of;
 
@@ -20,6 +21,7 @@ impl Hand {
             code: code.clone(),
             lent,
             expected: None,
+            litres: None,
         });
     }
 
@@ -27,6 +29,13 @@ impl Hand {
     pub fn gives(&mut self, number: u64, value: u64) {
         if let Some(last) = self.cases.last_mut() {
             last.expected = Some((number, value));
+        }
+    }
+
+    /// Sets the totals for the case added last.
+    pub fn totals(&mut self, litres: Totals) {
+        if let Some(last) = self.cases.last_mut() {
+            last.litres = Some(litres);
         }
     }
 

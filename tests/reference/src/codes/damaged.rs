@@ -53,6 +53,7 @@ fn drawn_letters(mut rng: Prng, count: usize) -> Vec<Case> {
             lent: just_enough(&table, &code),
             code,
             expected: None,
+            litres: None,
         });
     }
     cases
@@ -138,6 +139,7 @@ fn drawn(mut rng: Prng, sort: &str, tastes: &Tastes, count: usize) -> Vec<Case> 
             code,
             lent,
             expected: None,
+            litres: None,
         });
     }
     cases

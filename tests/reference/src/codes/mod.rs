@@ -7,6 +7,7 @@ mod hot;
 mod lazy;
 mod long;
 pub mod random;
+mod stale;
 
 use crate::code::{pack, MOST_CODE_BYTES};
 use crate::hex;
@@ -62,6 +63,8 @@ pub struct Case {
     pub lent: Lent,
     /// Number and value of settling set by hand, where they were.
     pub expected: Option<(u64, u64)>,
+    /// The totals set by hand, where they were.
+    pub litres: Option<Totals>,
 }
 
 pub fn all() -> Vec<Case> {
@@ -73,6 +76,8 @@ pub fn all() -> Vec<Case> {
     cases.extend(hot::cases());
     cases.extend(random::hot());
     cases.extend(damaged::hot());
+    cases.extend(stale::cases());
+    cases.extend(random::stale());
     cases
 }
 

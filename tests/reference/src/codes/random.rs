@@ -4,10 +4,11 @@
 
 use super::{just_enough, Case, Code, Lent};
 use crate::code::encode;
-use crate::patterns::{random, text_of};
+use crate::patterns::{random, text_of, with_stale_part};
 use crate::prng::Prng;
+use crate::stale::moves_litres;
 use crate::table::{Kind, Table};
-use crate::tapes::random::{Tastes, HOT, MIXED, WITHOUT_Z};
+use crate::tapes::random::{Tastes, HOT, HOT_METER, METER, MIXED, MIXED_METER, WITHOUT_Z};
 use crate::value::{has_empty_round, spell, Value};
 
 /// Rounds of a random value.
@@ -22,6 +23,27 @@ pub fn cases() -> Vec<Case> {
 /// The same with letters of the hot side.
 pub fn hot() -> Vec<Case> {
     drawn(Prng::new(247), "hot ", &HOT, [30, 12, 8])
+}
+
+/// Patterns with digits and accounts of each sort.
+const WITH_ACCOUNTS: Tastes = [&METER, &MIXED_METER, &HOT_METER];
+
+/// Codes with empty rounds, of patterns with account 9 above other accounts.
+/// Each has litres that are stale, and that their innermost account would get
+/// otherwise.
+pub fn stale() -> Vec<Case> {
+    let mut rng = Prng::new(547);
+    let rng = &mut rng;
+    let mut cases = Vec::new();
+    while cases.len() < 90 {
+        let index = cases.len();
+        let (table, value) = with_empty_round(rng, &WITH_ACCOUNTS, index);
+        let table = with_stale_part(rng, &table);
+        if moves_litres(&table, &value) {
+            cases.push(case(rng, "stale random", index, &table, &value));
+        }
+    }
+    cases
 }
 
 /// So many codes with empty rounds, pairs of one tape and pairs of two tapes.
@@ -84,6 +106,7 @@ fn case(rng: &mut Prng, sort: &str, index: usize, table: &Table, value: &Value) 
         code,
         lent,
         expected: None,
+        litres: None,
     }
 }
 

@@ -1,7 +1,7 @@
 //! Totalling litres.
 
 use super::judge_length;
-use crate::table::{judge, Refusal, Table};
+use crate::table::{judge, Refusal, Table, STALE_ACCOUNT};
 use crate::walk::{walk, NotWhole, Step};
 
 /// The litres of accounts 0 to 9.
@@ -24,19 +24,34 @@ impl Entry {
     }
 }
 
+/// Where litres in a node go: `around` is where those of the node above it go,
+/// and `own` its account, 0 where it has none.
+///
+/// 02, Job 5: "Litres at or under a node of account 9 are stale and go to
+/// account 9, however deep they stand, even if an inner node has another
+/// account." For all others 01 holds: "the account of the innermost node, the
+/// leaf included, that has one; without one, to account 0".
+fn account_in(around: u64, own: u64) -> u64 {
+    if around == STALE_ACCOUNT || own == 0 {
+        around
+    } else {
+        own
+    }
+}
+
 /// The entries of a whole code, in the order of its letters.
 pub fn entries(table: &Table, code: &[u8], bits: u64) -> Result<Vec<Entry>, NotWhole> {
     let mut entries = Vec::new();
-    // The accounts of the nodes around the present one, the innermost last.
+    // Where litres in the nodes around the present one go, the innermost last.
+    // A node that is left takes its account with it: what is beside it, in the
+    // other part, the other side or the next round, has nothing of it.
     let mut accounts: Vec<u64> = Vec::new();
     walk(table, code, bits, &mut |step| {
-        // "the account of the innermost node, the leaf included, that has
-        // one; without one, to account 0"
         let around = accounts.last().copied().unwrap_or(0);
         match step {
             Step::Enter(place) => {
                 let own = table.node(place).account;
-                accounts.push(if own == 0 { around } else { own });
+                accounts.push(account_in(around, own));
             }
             Step::Leave(_) => drop(accounts.pop()),
             Step::Letter(letter) => entries.push(Entry {

@@ -6,6 +6,7 @@ mod causes;
 mod dates;
 mod days;
 pub mod random;
+mod stale;
 
 use crate::calendar::Date;
 use crate::code::encode;
@@ -43,6 +44,8 @@ pub fn all() -> Vec<Case> {
     cases.extend(dates::cases());
     cases.extend(causes::cases());
     cases.extend(random::cases());
+    cases.extend(stale::cases());
+    cases.extend(random::stale());
     cases
 }
 

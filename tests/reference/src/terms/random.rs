@@ -8,10 +8,11 @@ use crate::code::encode;
 use crate::codes::damaged::damage;
 use crate::codes::random::{pattern, put_in, sample};
 use crate::codes::Code;
-use crate::patterns::{random, text_of, Taste};
+use crate::patterns::{random, text_of, with_stale_part, Taste};
 use crate::prng::Prng;
 use crate::services::terms::DAY_END;
 use crate::services::MOST_LETTERS;
+use crate::stale::moves_litres;
 use crate::table::{Kind, Node, Star, Table};
 use crate::tapes::random::Tastes;
 use crate::value::{spell, Value};
@@ -53,6 +54,29 @@ pub fn cases() -> Vec<Case> {
     cases.extend(drawn(Prng::new(362), "mixed random", &MIXED_DAYS, 80));
     cases.extend(drawn(Prng::new(363), "hot random", &HOT_DAYS, 80));
     cases.extend(drawn_damaged(Prng::new(364), 32));
+    cases
+}
+
+/// Patterns with account 9 above other accounts, as in the random codes.
+pub fn stale() -> Vec<Case> {
+    let mut rng = Prng::new(365);
+    let rng = &mut rng;
+    let mut cases = Vec::new();
+    while cases.len() < 60 {
+        let index = cases.len();
+        let tastes = [&WITH_DAYS, &MIXED_DAYS, &HOT_DAYS][index / 2 % 3];
+        let (table, value) = with_days(rng, tastes, index / 2);
+        let table = with_stale_part(rng, &table);
+        if !moves_litres(&table, &value) {
+            continue;
+        }
+        let code = Code::of_bits(&encode(&table, &value));
+        let days = day_ends(&spell(&value));
+        for _ in 0..2 {
+            let dates = random_dates(rng, days);
+            cases.push(case("stale random", cases.len(), &table, &code, dates));
+        }
+    }
     cases
 }
 
