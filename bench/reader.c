@@ -305,6 +305,9 @@ uint32_t spell(const Table *t, const uint8_t *code, uint8_t *tape) {
   return w.tape - tape;
 }
 
+// The account of stale litres. What stands under a node that has it goes there, whatever account is nearer.
+enum { STALE = 9 };
+
 typedef struct {
   const Node *node;
   const uint8_t *code;
@@ -318,7 +321,7 @@ static void add(const Charging *w, int account, unsigned c) {
 static uint32_t charge_node(const Charging *w, int l, int account, uint32_t at) {
   for (;;) {
     Node d = w->node[l];
-    if (d.account) account = d.account;
+    if (d.account && account != STALE) account = d.account;
     switch (d.kind) {
       case 'E': return at;
       case 'L': add(w, account, d.first); return at;

@@ -54,6 +54,12 @@
  *  range may run across the gap, and it takes its letters only: where the 8 bits of a range say a byte of the gap, the code is
  *  none (8), though that byte lies between the ends. Litres are bytes 48 to 57, the digits of ASCII, and no others.
  *
+ * Accounts
+ *  A line of a pattern has an account, 1 to 9, or none. The litres of a letter go to the innermost account: that of its leaf, else
+ *  that of the line which names the leaf, and so on up to the root; where there is none, to account 0. From 1.4.0 on account 9,
+ *  that of stale litres, outranks the others: what stands at or under a line of account 9 goes there, however deep, even if a line
+ *  further in has another account. What stands beside such a line, in another part, side or round, gets nothing of it.
+ *
  * Codes
  *  A code is bytes and a bit count. Bits fill bytes from the highest; the bytes are exactly enough for the count, unused bits
  *  are 0, and there are at most 65,536 bytes.
@@ -85,10 +91,10 @@ extern "C" {
 #endif
 
 /* The version of this header. wumbyra_version() tells that of the library that is linked: the two differ only where a program
- * was compiled with another header than its library's. What is added, a call, a kind of line or letters, raises the minor number;
- * a call that is changed or dropped raises the major number. */
+ * was compiled with another header than its library's. What is added, a call, a kind of line or letters, raises the minor number,
+ * and so does a rule that gives litres to other accounts; a call that is changed or dropped raises the major number. */
 #define WUMBYRA_VERSION_MAJOR 1
-#define WUMBYRA_VERSION_MINOR 3
+#define WUMBYRA_VERSION_MINOR 4
 #define WUMBYRA_VERSION_PATCH 0
 #define WUMBYRA_VERSION_NUMBER (WUMBYRA_VERSION_MAJOR * 10000 + WUMBYRA_VERSION_MINOR * 100 + WUMBYRA_VERSION_PATCH)
 

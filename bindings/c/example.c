@@ -67,6 +67,30 @@ static void try_hot_letters(void)
     expect("a range that ends in the gap", wumbyra_load((const uint8_t *)"0\tR\t-\t!\t\x80\n", 10), WUMBYRA_LINE_FORM, 0);
 }
 
+/* Digits of account 4 in a star of account 9, and behind it a 7, all in a sequence of account 3. Litres under account 9 go there, though
+ * account 4 is nearer to them; the 7 stands beside the star and goes to account 3. */
+static void try_stale(void)
+{
+    static const char stale[] = "0\tR\t4\t0\t9\n1\tK\t9\t0\n2\tL\t-\t7\n3\tS\t3\t1\t2\n";
+    static const uint8_t letters[] = {'5', '6', '7'}, due[] = {0x1a, 0x8d, 0xa0}; /* 0 00110101 0 00110110 1 */
+    const uint32_t day = WUMBYRA_DATE(2024, 2, 29);
+    const uint8_t *text = (const uint8_t *)stale;
+    const size_t len = sizeof stale - 1;
+    uint64_t words[2 * (3 + 1)];
+    uint8_t code[WUMBYRA_CODE_BYTES(3)];
+    uint32_t litres[WUMBYRA_ACCOUNTS], term[WUMBYRA_ACCOUNTS];
+    expect("stale litres: parse", wumbyra_parse(text, len, letters, 3, words, WUMBYRA_WORDS(3), code, sizeof code), WUMBYRA_OK, 19);
+    if (memcmp(code, due, 3) != 0)
+        failed = 1;
+    expect("stale litres: totals", wumbyra_totals(text, len, code, 3, 19, litres, WUMBYRA_ACCOUNTS), WUMBYRA_OK, 0);
+    if (litres[3] != 7 || litres[4] != 0 || litres[9] != 11)
+        failed = 1;
+    expect("stale litres: total", wumbyra_total(text, len, code, 3, 19, 9), WUMBYRA_OK, 11);
+    expect("stale litres: term", wumbyra_term_totals(text, len, code, 3, 19, day, day, day, term, WUMBYRA_ACCOUNTS), WUMBYRA_OK, 0);
+    if (memcmp(litres, term, sizeof litres) != 0)
+        failed = 1;
+}
+
 /* Three days of digits for account 1, parted by `D`, the first of them 28 February 2024. */
 static void try_terms(void)
 {
@@ -161,6 +185,7 @@ int main(void)
     expect("span of no node", wumbyra_span(text, len, read, letters, code, 3, bits, 6, 0), WUMBYRA_NO_SUCH_VISIT, 0);
     try_lazy_star();
     try_hot_letters();
+    try_stale();
     try_terms();
     expect("count past the bytes", wumbyra_total(text, len, code, 3, 25, 1), WUMBYRA_NOT_A_CODE, 0);
     return failed;

@@ -96,6 +96,16 @@ class Services(Case):
         self.refused(1, 0, Pattern, "0\tL\t-\tä\n".encode())
         self.assertEqual(Pattern(b"0\tR\t-\t~\t\xa1\n").lines, 1)
 
+    def test_stale_litres(self):
+        # Litres under a node of account 9 go there, though account 4 is nearer; the 7 stands beside it and goes to account 3.
+        pattern = Pattern(b"0\tR\t4\t0\t9\n1\tK\t9\t0\n2\tL\t-\t7\n3\tS\t3\t1\t2\n")
+        found, bits, _ = pattern.parse(b"567")
+        self.assertEqual((found, bits), code("0001101010001101101"))
+        due = [0, 0, 0, 7, 0, 0, 0, 0, 0, 11]
+        self.assertEqual(pattern.totals(found, bits), due)
+        self.assertEqual(pattern.total(found, bits, 9), 11)
+        self.assertEqual(pattern.term_totals(found, bits, *(3 * [FIRST_DAY])), due)
+
     def test_a_whole_listing(self):
         pattern = Pattern(LISTING)
         self.assertEqual(pattern.lines, 6)

@@ -27,7 +27,7 @@ from typing import TYPE_CHECKING, List, NamedTuple, Tuple, Union
 from ._library import LIBRARY
 from ._refused import CAUSES, Refused
 
-__version__ = "1.3.0"
+__version__ = "1.4.0"
 __all__ = ["ACCOUNTS", "CAUSES", "MAX_CODE_BYTES", "MAX_LETTERS", "Code", "Parsed", "Pattern", "Refused", "Span", "version"]
 
 MAX_LETTERS = 3600

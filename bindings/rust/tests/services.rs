@@ -259,6 +259,19 @@ fn terms() {
     );
 }
 
+/// Litres under a node of account 9 go there, though account 4 is nearer to them; the 7 stands beside it and goes to account 3.
+#[test]
+fn stale_litres() {
+    let stale = pattern(b"0\tR\t4\t0\t9\n1\tK\t9\t0\n2\tL\t-\t7\n3\tS\t3\t1\t2\n");
+    let read = stale.parse(b"567").expect("it is read").code;
+    assert_eq!(read, code("0001101010001101101"));
+    let due = Ok([0, 0, 0, 7, 0, 0, 0, 0, 0, 11]);
+    assert_eq!(stale.totals(&read), due);
+    assert_eq!(stale.total(&read, 9), Ok(11));
+    let day = date(2024, 2, 29);
+    assert_eq!(stale.term_totals(&read, day, day, day), due);
+}
+
 #[test]
 fn refused_dates() {
     let days = pattern(DAYS);
