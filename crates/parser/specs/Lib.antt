@@ -1,6 +1,7 @@
 pub mod Parse
 pub mod Writing
 pub mod ParseLaws
+pub mod Positions
 pub mod Rejected
 pub mod MarkLaws
 pub mod ChoiceLaws

@@ -228,11 +228,11 @@ module _ (p : Pattern) (tape ws : List ℕ) (h : First-swept p tape ws) where
             knows = rw e (knows table hc (root p) top);
             sweeps = rw e swept;
             within = omega arith;
+            limited = h .few;
             few = omega (arith, greedy-few p (h .good) tape (h .few) (h .reads));
           };
           enough = h .room;
         };
-        few = h .few;
         bound = greedy-bound p (h .good) tape (h .reads);
       }
 

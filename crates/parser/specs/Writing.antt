@@ -28,7 +28,6 @@ pub record First-swept (p : Pattern) (tape words : List ℕ) : Type 0 where
 -- node l of a table can be swept over the whole tape, and its bits are within 01's bound for 64 choices
 pub record Writable (table words tape : List ℕ) (l : ℕ) : Type 0 where
   pub ready : Ready table words tape l 0 true 0
-  pub few : length tape ≤ letter-limit
   pub bound : length (ready .it .bits) ≤ 136 * length tape + 64
 
 -- how many bytes so many bits need where a buffer has fewer, else 0

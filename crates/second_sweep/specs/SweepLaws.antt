@@ -60,6 +60,10 @@ module _ (above b : Bool) where
   pub passes-else : b ≡ false → {r : Bool} → r ≡ above → not r ≡ (not above || b)
   passes-else h e = rw h (ap not e ∙ sym (or-false (not above)))
 
+-- the flag behind a part, where it was not set before
+pub flag-else : (b x : Bool) → b ≡ false → {r : Bool} → r ≡ x → r ≡ (b || x)
+flag-else b x h e = rw h e
+
 pub not-ended : (b x : Bool) → b ≡ false → false ≡ (b && x)
 not-ended b x h = rw h
 
@@ -185,6 +189,7 @@ module _ (table words tape : List ℕ) (i : ℕ) (taken : Bool) (at : ℕ) where
               knows = c .knows .0;
               sweeps = b .one;
               within = w;
+              limited = c .limited;
               few = omega arith;
             };
             two = record {
@@ -194,6 +199,7 @@ module _ (table words tape : List ℕ) (i : ℕ) (taken : Bool) (at : ℕ) where
               knows = c .knows .1;
               sweeps = rw (← drop-drop (length (b .letters)) i tape) (b .two);
               within = s;
+              limited = c .limited;
               few = omega arith;
             };
             letters-are = b .letters-are;
@@ -228,6 +234,7 @@ module _ (table words tape : List ℕ) (i : ℕ) (taken : Bool) (at : ℕ) where
               knows = known left (c .after) (c .knows .1 .0) (c .knows .1 .1);
               sweeps = b .one;
               within = c .within;
+              limited = c .limited;
               few = omega arith;
             };
             letters-are = refl;
@@ -273,6 +280,7 @@ module _ (table words tape : List ℕ) (i : ℕ) (taken : Bool) (at : ℕ) where
                 knows = c .knows .1 .1;
                 sweeps = b .one;
                 within = w;
+                limited = c .limited;
                 few = omega arith;
               };
               full = nonempty-one (b .letters) (b .full);
@@ -283,6 +291,7 @@ module _ (table words tape : List ℕ) (i : ℕ) (taken : Bool) (at : ℕ) where
                 knows = c .knows;
                 sweeps = rw (← drop-drop (length (b .letters)) i tape) (b .more);
                 within = s;
+                limited = c .limited;
                 few = omega arith;
               };
               letters-are = b .letters-are;

@@ -7,6 +7,7 @@ use lib.Dec.{eqb, leb, ltb}
 use lib.ListN.{length, getD, drop}
 use Rattle.syntax.specs.declared.Leaf.{Leaf}
 use Rattle.syntax.specs.declared.Leaf.the-variants.{Nothing, Letter, Range}
+use Rattle.syntax.specs.Letter.{letter-limit}
 use Rattle.syntax.specs.Tree.{Label, Tree, nothing, letter, range, seq, alt, star, index}
 use Rattle.bits.specs.Bits.{bit, test-bit, write}
 use Rattle.table.specs.Cells.{tree-in, follower-in, loops-in}
@@ -74,7 +75,8 @@ pub record Wrote (i at : ℕ) (letters : List ℕ) (bits : List Bool) (code code
   pub written : at + length bits ≤ 8 * length code → code-now ≡ write 8 code at bits
   pub as-long : length code-now ≡ length code
 
--- a node of a tree t can be swept from position i on
+-- a node of a tree t can be swept from position i on. 01: "Tapes hold at most 3,600 letters": that no sum of a position and letters passes 16
+-- bits rests on this alone, so it is asked.
 pub record Can-sweep (table words tape : List ℕ) (t : Tree) (i : ℕ) (taken : Bool) (at : ℕ) : Type 0 where
   pub after : After
   pub letters : List ℕ
@@ -82,6 +84,7 @@ pub record Can-sweep (table words tape : List ℕ) (t : Tree) (i : ℕ) (taken :
   pub knows : Knows table words tape t after
   pub sweeps : Sweeps t after taken (drop i tape) letters bits
   pub within : i ≤ length tape
+  pub limited : length tape ≤ letter-limit
   pub few : at + length bits ≤ code-limit
 
 abbrev pub leaf-tree : Label → Leaf → Tree

@@ -41,6 +41,7 @@ moved i j b c at to ei eb ea s = record {
   knows = s .knows;
   sweeps = rw (ei, eb) (s .sweeps);
   within = rw ei (s .within);
+  limited = s .limited;
   few = rw ea (s .few);
 }
 
@@ -54,6 +55,7 @@ regrown t u e s = record {
   knows = rw e (s .knows);
   sweeps = rw e (s .sweeps);
   within = s .within;
+  limited = s .limited;
   few = s .few;
 }
 

@@ -2,6 +2,8 @@
 // Its promise speaks of the letters and bits of the best value, not of the value, whose type changes with the tree. It asks of the words only
 // that the bits of the nodes below are the first sweep's, and that a star's follower says whether the star may stop (`Knows`), so that no
 // place in the root's tree is carried through the recursion.
+// Positions on the tape have 16 bits: a sweep asks for a tape of at most 3,600 letters (`Can-sweep`), so none of them and no sum of them wraps.
+// Bits keep 32, since a code can have 478,801 of them.
 ghost use mathlib.Core.Path.{_≡_};
 ghost use mathlib.Core.Bool.{_&&_, _||_, not};
 ghost use lib.Dec.{eqb, ltb};
@@ -23,10 +25,10 @@ use table::node_at;
 // The number of the end as a follower (crate table).
 const END: usize = 64;
 
-// The position behind the letters read, and the bit behind the bits written.
+// The bit behind the bits written, and the position behind the letters read.
 pub struct Swept {
-    pub position: usize,
     pub at: u32,
+    pub position: u16,
 }
 
 // A bit is written where it fits. Over a buffer that is too short the sweep counts its bits all the same.
@@ -49,32 +51,41 @@ fn put_letter(code: &mut [u8], at: u32, value: u8)
     }
 }
 
-fn sweep_leaf(leaf: Leaf, tape: &[u8], i: usize, code: &mut [u8], at: u32) -> Swept
+fn sweep_leaf(leaf: Leaf, tape: &[u8], i: u16, code: &mut [u8], at: u32) -> Swept
     requires { ⌜ Leaf-ready leaf (now tape) i at ⌝ }
     ensures { λ r. ⌜ Leaf-swept leaf (now (tape .entry)) i at (now (code .entry)) (now (code .exit)) r ⌝ }
 {
+    // where a leaf ends that takes a letter
+    let next = i + 1;
     match leaf {
         Leaf::Nothing => Swept { position: i, at },
-        Leaf::Letter(_) => Swept {
-            position: i + 1,
-            at,
-        },
+        Leaf::Letter(_) => Swept { position: next, at },
         Leaf::Range(_, _) => {
-            put_letter(code, at, tape[i]);
+            let here = i as usize;
+            put_letter(code, at, tape[here]);
             Swept {
-                position: i + 1,
+                position: next,
                 at: at + 8,
             }
         }
     }
 }
 
+// Whether node l is open at position i with the flag. The index of a word, up to 7,201, is computed from the position as a usize.
+fn open_at(words: &[u64], i: u16, taken: bool, l: usize) -> bool
+    requires { ⌜ (2 * i + 1 < length (now words)) × (l < 64) ⌝ }
+    ensures { λ r. ⌜ r ≡ is-open (now (words .entry)) i taken l ⌝ }
+{
+    let here = i as usize;
+    is_open(words, here, taken, l)
+}
+
 // Writes which side of an alternative is read, and gives it: the left one where it can be.
-fn choose(words: &[u64], i: usize, taken: bool, p: u8, q: u8, code: &mut [u8], at: u32) -> u8
+fn choose(words: &[u64], i: u16, taken: bool, p: u8, q: u8, code: &mut [u8], at: u32) -> u8
     requires { ⌜ (2 * i + 1 < length (now words)) × (p < 64) × (at ≤ code-limit) ⌝ }
     ensures { λ r. ⌜ Chooses (is-open (now (words .entry)) i taken p) p q at (now (code .entry)) (now (code .exit)) r ⌝ }
 {
-    let left = is_open(words, i, taken, p as usize);
+    let left = open_at(words, i, taken, p as usize);
     put_bit(code, at, !left);
     if left { p } else { q }
 }
@@ -91,7 +102,7 @@ fn passes(table: &[u64; 64], l: usize, flag: bool) -> bool
 }
 
 // The end accepts behind the last letter, with flag 1.
-fn ends(i: usize, size: usize, flag: bool) -> bool
+fn ends(i: u16, size: u16, flag: bool) -> bool
     ensures { λ r. ⌜ r ≡ (flag && eqb i size) ⌝ }
 {
     if !flag {
@@ -102,7 +113,7 @@ fn ends(i: usize, size: usize, flag: bool) -> bool
 
 // Whether what follows node l can be read from position i on. A star's own bit in the state sets does not tell: it is set, too, where
 // only another round can be read.
-fn may_stop(table: &[u64; 64], words: &[u64], size: usize, l: usize, i: usize, flag: bool) -> bool
+fn may_stop(table: &[u64; 64], words: &[u64], size: u16, l: usize, i: u16, flag: bool) -> bool
     requires { ⌜ (l < 64) × (2 * i + 1 < length (now words)) ⌝ }
     ensures { λ r. ⌜ r ≡ may-stop (now (table .entry)) (now (words .entry)) size l i flag ⌝ }
 {
@@ -113,16 +124,16 @@ fn may_stop(table: &[u64; 64], words: &[u64], size: usize, l: usize, i: usize, f
     if END <= follower {
         return ends(i, size, flag);
     }
-    is_open(words, i, flag, follower)
+    open_at(words, i, flag, follower)
 }
 
 // Whether a star takes another round of its part p. The greedy one does wherever a round can be read, the lazy one only where it must.
 fn goes_on(
     table: &[u64; 64],
     words: &[u64],
-    size: usize,
+    size: u16,
     l: usize,
-    i: usize,
+    i: u16,
     flag: bool,
     again: bool,
     p: u8,
@@ -133,11 +144,11 @@ fn goes_on(
     if again {
         return !may_stop(table, words, size, l, i, flag);
     }
-    is_open(words, i, false, p as usize)
+    open_at(words, i, false, p as usize)
 }
 
 // Writes that a star ends at position i: the other bit than that of another round.
-fn stop(i: usize, code: &mut [u8], at: u32, again: bool) -> Swept
+fn stop(i: u16, code: &mut [u8], at: u32, again: bool) -> Swept
     requires { ⌜ at ≤ code-limit ⌝ }
     ensures { λ r. ⌜ Stops again i at (now (code .entry)) (now (code .exit)) r ⌝ }
 {
@@ -149,7 +160,7 @@ fn stop(i: usize, code: &mut [u8], at: u32, again: bool) -> Swept
 }
 
 // The flag behind a part: whether it, or what was before it in the round, took a letter.
-fn flag_behind(taken: bool, from: usize, to: usize) -> bool
+fn flag_behind(taken: bool, from: u16, to: u16) -> bool
     ensures { λ r. ⌜ r ≡ (taken || ltb from to) ⌝ }
 {
     if taken {
@@ -166,7 +177,7 @@ pub fn sweep(
     words: &[u64],
     tape: &[u8],
     l: usize,
-    i: usize,
+    i: u16,
     taken: bool,
     code: &mut [u8],
     at: u32,
@@ -194,31 +205,20 @@ pub fn sweep(
         }
         Node::Star(again, p) => {
             here = Swept { position: i, at };
-            while goes_on(table, words, tape.len(), l, here.position, flag, again, p) {
+            let size = tape.len() as u16;
+            while goes_on(table, words, size, l, here.position, flag, again, p) {
                 put_bit(code, here.at, again);
-                here = sweep(
-                    table,
-                    words,
-                    tape,
-                    p as usize,
-                    here.position,
-                    false,
-                    code,
-                    here.at + 1,
-                );
+                let part = p as usize;
+                let next = here.at + 1;
+                here = sweep(table, words, tape, part, here.position, false, code, next);
                 flag = true;
             }
             return stop(here.position, code, here.at, again);
         }
     };
-    sweep(
-        table,
-        words,
-        tape,
-        last as usize,
-        here.position,
-        flag,
-        code,
-        here.at,
-    )
+    let from = here.position;
+    // by way of `here`: else the result lies in memory on every way, and a leaf's is read whole right behind the writes of its two parts,
+    // which takes as long as the leaf itself
+    here = sweep(table, words, tape, last as usize, from, flag, code, here.at);
+    here
 }

@@ -55,11 +55,11 @@ given t = (
 )
 
 abbrev sweep-Inv-loop : sweep-lts.InvT-loop
-sweep-Inv-loop table words tape l i taken code₀ at again p here₀ flag₀ code here flag =
+sweep-Inv-loop table words tape l i taken code₀ at here₀ flag₀ again p size code here flag =
     (s : Ready table words tape l i taken at) → Going s code₀ code (here .position) (here .at) flag
 
 abbrev sweep-μ-loop : sweep-lts.MeasureT-loop
-sweep-μ-loop table words tape l i taken code₀ at again p here₀ flag₀ code here flag = length tape - here .position
+sweep-μ-loop table words tape l i taken code₀ at here₀ flag₀ again p size code here flag = length tape - here .position
 
 -- the line's node
 abbrev line : (t : ℕ) (c : sweep-lts.After-node-at (given t) (sweep-at t) sweep.Post sweep-Inv-loop sweep-μ-loop) →
@@ -140,13 +140,19 @@ sweep-choose-requires t c κs =
     let h = lower n (kind .p2 .given .1) in
     (omega (arith, s .enough, s .it .within), omega (arith, n .low), omega (arith, s .it .few))
 
-sweep-add-t26 : (t : ℕ) → sweep-lts.Need-add-t26 (given t) (sweep-at t) sweep.Post sweep-Inv-loop sweep-μ-loop
-sweep-add-t26 t c =
+sweep-add-t30 : (t : ℕ) → sweep-lts.Need-add-t30 (given t) (sweep-at t) sweep.Post sweep-Inv-loop sweep-μ-loop
+sweep-add-t30 t c =
     let start = c .before .before .before .before .before .before .before in
     omega (arith, start .pre .1 .2 .it .few)
 
 sweep-enum-known-again : (t : ℕ) → sweep-lts.Need-enum-known-again (given t) (sweep-at t) sweep.Post sweep-Inv-loop sweep-μ-loop
 sweep-enum-known-again t c = search needs
+
+-- the tape's size has 16 bits
+sweep-cast-size : (t : ℕ) → sweep-lts.Need-cast-size (given t) (sweep-at t) sweep.Post sweep-Inv-loop sweep-μ-loop
+sweep-cast-size t c =
+    let start = c .before .before .before .before .before .before .before in
+    omega (arith, start .pre .1 .2 .it .limited)
 
 sweep-loop-holds : (t : ℕ) → sweep-lts.Need-loop-holds (given t) (sweep-at t) sweep.Post sweep-Inv-loop sweep-μ-loop
 sweep-loop-holds t c = λ s. going-start s _
@@ -160,13 +166,13 @@ sweep-goes-on-requires t c κs =
 sweep-put-bit-requires : (t : ℕ) → sweep-lts.Need-put-bit-requires (given t) (sweep-at t) sweep.Post sweep-Inv-loop sweep-μ-loop
 sweep-put-bit-requires t c κs = omega (arith, going t (c .before .before .before) .now .few)
 
-sweep-cast-sweep-2 : (t : ℕ) → sweep-lts.Need-cast-sweep-2 (given t) (sweep-at t) sweep.Post sweep-Inv-loop sweep-μ-loop
-sweep-cast-sweep-2 t c =
+sweep-cast-part : (t : ℕ) → sweep-lts.Need-cast-part (given t) (sweep-at t) sweep.Post sweep-Inv-loop sweep-μ-loop
+sweep-cast-part t c =
     let kind = c .before .before .before .before .before .before .before .before in
     omega (arith, child-lower t kind, line t (kind .before .before) .low)
 
-sweep-add-sweep : (t : ℕ) → sweep-lts.Need-add-sweep (given t) (sweep-at t) sweep.Post sweep-Inv-loop sweep-μ-loop
-sweep-add-sweep t c = omega (arith, going t (c .before .before .before .before .before .before .before .before) .now .few)
+sweep-add-next : (t : ℕ) → sweep-lts.Need-add-next (given t) (sweep-at t) sweep.Post sweep-Inv-loop sweep-μ-loop
+sweep-add-next t c = omega (arith, going t (c .before .before .before .before .before .before .before) .now .few)
 
 sweep-sweep-requires-2 : (t : ℕ) → sweep-lts.Need-sweep-requires-2 (given t) (sweep-at t) sweep.Post sweep-Inv-loop sweep-μ-loop
 sweep-sweep-requires-2 t c κs =
@@ -269,14 +275,15 @@ pub +sweep-spec : {M : Type 1} → statement M
     (sweep-sweep-requires t)
     (sweep-flag-behind-requires t)
     (sweep-enum-known-p-2 t)
-    (sweep-add-t26 t)
+    (sweep-add-t30 t)
     (sweep-choose-requires t)
     (sweep-enum-known-again t)
+    (sweep-cast-size t)
     (sweep-loop-holds t)
     (sweep-goes-on-requires t)
     (sweep-put-bit-requires t)
-    (sweep-cast-sweep-2 t)
-    (sweep-add-sweep t)
+    (sweep-cast-part t)
+    (sweep-add-next t)
     (sweep-sweep-requires-2 t)
     (sweep-loop-less t)
     (sweep-loop-again t)

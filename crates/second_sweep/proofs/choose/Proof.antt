@@ -5,8 +5,8 @@ use borrow.Author.Needs.{needs}
 use Rattle.second_sweep.proofs.choose.Statement.{statement}
 use Rattle.second_sweep.proofs.choose.Tie as tie
 
-is-open-requires : tie.Need-is-open-requires
-is-open-requires c κs = search needs
+open-at-requires : tie.Need-open-at-requires
+open-at-requires c κs = search needs
 
 put-bit-requires : tie.Need-put-bit-requires
 put-bit-requires c κs = search needs
@@ -19,7 +19,7 @@ returns c =
     let put = c .before .before .before in
     let asked = put .before .before in
     let args = asked .before .before .before .args in
-    chose _ _ true (args .p) (args .q) (args .at) (args .code .now) _ (asked .is-open .ensures) (c .if1 .taken) (put .put-bit .ensures)
+    chose _ _ true (args .p) (args .q) (args .at) (args .code .now) _ (asked .open-at .ensures) (c .if1 .taken) (put .put-bit .ensures)
 
 same-length-2 : tie.Need-same-length-2
 same-length-2 c = search needs
@@ -29,9 +29,9 @@ returns-2 c =
     let put = c .before .before .before in
     let asked = put .before .before in
     let args = asked .before .before .before .args in
-    chose _ _ false (args .p) (args .q) (args .at) (args .code .now) _ (asked .is-open .ensures) (c .if1 .left) (put .put-bit .ensures)
+    chose _ _ false (args .p) (args .q) (args .at) (args .code .now) _ (asked .open-at .ensures) (c .if1 .left) (put .put-bit .ensures)
 
 pub choose-spec : {M : Type 1} → statement M
 choose-spec =
     tie.close
-    (tie.spec is-open-requires put-bit-requires same-length returns same-length-2 returns-2)
+    (tie.spec open-at-requires put-bit-requires same-length returns same-length-2 returns-2)

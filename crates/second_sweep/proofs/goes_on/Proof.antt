@@ -12,13 +12,13 @@ returns c =
     let a = c .before .before .before .args in
     on-lazy (a .table .now) (a .words .now) (a .size) (a .l) (a .i) (a .flag) (a .again) (a .p) (c .before .if1 .taken) (c .may-stop .ensures)
 
-is-open-requires : tie.Need-is-open-requires
-is-open-requires c κs = search needs
+open-at-requires : tie.Need-open-at-requires
+open-at-requires c κs = search needs
 
 returns-2 : tie.Need-returns-2
 returns-2 c =
     let a = c .before .before .before .args in
-    on-greedy (a .table .now) (a .words .now) (a .size) (a .l) (a .i) (a .flag) (a .again) (a .p) (c .before .if1 .left) (c .is-open .ensures)
+    on-greedy (a .table .now) (a .words .now) (a .size) (a .l) (a .i) (a .flag) (a .again) (a .p) (c .before .if1 .left) (c .open-at .ensures)
 
 pub goes-on-spec : {M : Type 1} → statement M
-goes-on-spec = tie.close (tie.spec may-stop-requires returns is-open-requires returns-2)
+goes-on-spec = tie.close (tie.spec may-stop-requires returns open-at-requires returns-2)

@@ -30,8 +30,8 @@ returns-2 c =
     stop-end (a .table .now) (a .words .now) (a .size) (a .l) (a .i) (a .flag) (test .before .passes .ensures) (not-false _ (test .if1 .left))
     (follower .follower-at .ensures) (c .before .if2 .taken) (c .ends .ensures)
 
-is-open-requires : tie.Need-is-open-requires
-is-open-requires c κs = search needs
+open-at-requires : tie.Need-open-at-requires
+open-at-requires c κs = search needs
 
 returns-3 : tie.Need-returns-3
 returns-3 c =
@@ -39,7 +39,7 @@ returns-3 c =
     let test = follower .before in
     let a = test .before .before .before .args in
     stop-open (a .table .now) (a .words .now) (a .size) (a .l) (a .i) (a .flag) (test .before .passes .ensures) (not-false _ (test .if1 .left))
-    (follower .follower-at .ensures) (c .before .if2 .left) (c .is-open .ensures)
+    (follower .follower-at .ensures) (c .before .if2 .left) (c .open-at .ensures)
 
 pub may-stop-spec : {M : Type 1} → statement M
-may-stop-spec = tie.close (tie.spec passes-requires returns follower-at-requires cast-follower ends-requires returns-2 is-open-requires returns-3)
+may-stop-spec = tie.close (tie.spec passes-requires returns follower-at-requires cast-follower ends-requires returns-2 open-at-requires returns-3)

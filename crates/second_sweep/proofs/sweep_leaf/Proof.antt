@@ -1,17 +1,21 @@
 -- `second_sweep::sweep_leaf` meets its contract.
+use native.Mathlib.Omega.{arith}
 use Rattle.second_sweep.specs.SweepLaws.{leaf-nothing, leaf-letter, leaf-range, range-few}
 use borrow.Author.Needs.{needs}
 use Rattle.second_sweep.proofs.sweep_leaf.Statement.{statement}
 use Rattle.second_sweep.proofs.sweep_leaf.Tie as tie
+
+-- the position behind a letter has 16 bits
+add-next : tie.Need-add-next
+add-next c =
+    let ready = c .before .before .pre .it in
+    omega (arith, ready .within, ready .limited)
 
 enum-told : tie.Need-enum-told
 enum-told c = search needs
 
 enum-told-2 : tie.Need-enum-told-2
 enum-told-2 c = search needs
-
-add-t7 : tie.Need-add-t7
-add-t7 c = search needs
 
 enum-told-3 : tie.Need-enum-told-3
 enum-told-3 c = search needs
@@ -25,9 +29,6 @@ shared-slice-read-put-letter c =
 
 put-letter-requires : tie.Need-put-letter-requires
 put-letter-requires c κs = search needs
-
-add-t13 : tie.Need-add-t13
-add-t13 c = search needs
 
 add-t14 : tie.Need-add-t14
 add-t14 c = search needs
@@ -53,13 +54,12 @@ pub sweep-leaf-spec : {M : Type 1} → statement M
 sweep-leaf-spec =
     tie.close
     (tie.spec
+    add-next
     enum-told
     enum-told-2
-    add-t7
     enum-told-3
     shared-slice-read-put-letter
     put-letter-requires
-    add-t13
     add-t14
     returns
     returns-2
