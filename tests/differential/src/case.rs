@@ -1,6 +1,7 @@
 //! Random cases: a pattern text, a tape, a code, dates and the buffers lent.
 
 use crate::dates::random_numbers;
+use crate::full;
 use wumbyra_reference::cases::mutated::{change, LIKELY_HOT_BYTES, LIKELY_MIXED_BYTES};
 use wumbyra_reference::code::{encode, pack};
 use wumbyra_reference::codes::damaged::{damage, damage_letter, other_byte};
@@ -52,14 +53,30 @@ const MOST_SAMPLED: usize = 60;
 const STAR: &str = "0\tL\t4\t7\n1\tK\t-\t0\n";
 const LAZY_STAR: &str = "0\tL\t4\t7\n1\tZ\t-\t0\n";
 
+/// Of so many cases one has a tape of about 3,600 letters.
+pub const FULL_TAPES: usize = 10;
+
+/// What a case is about is its first random number.
+fn sort_of_case(rng: &mut Prng) -> usize {
+    rng.below(100 * FULL_TAPES)
+}
+
+/// Whether the case of this seed has a tape of about 3,600 letters.
+pub fn has_full_tape(seed: u64) -> bool {
+    sort_of_case(&mut Prng::new(seed)) < 100
+}
+
 pub fn random_case(rng: &mut Prng) -> Case {
-    let sort = rng.below(1_000);
-    let (table, value) = match sort {
+    let (table, value) = match sort_of_case(rng) {
         0..=4 => return long_case(rng),
-        5..=14 => deep(rng),
-        15..=99 => sampled(rng, by_hand),
-        100..=299 => sampled(rng, nested),
-        300..=549 => with_days(rng),
+        5..=99 => {
+            let (text, tape, code) = full::random_parts(rng);
+            return finished(rng, text, tape, code);
+        }
+        100..=109 => deep(rng),
+        110..=189 => sampled(rng, by_hand),
+        190..=374 => sampled(rng, nested),
+        375..=599 => with_days(rng),
         _ => sampled(rng, sampled_pattern),
     };
     // Accounts have no part in reading, so the value is one of the changed pattern too.
@@ -412,18 +429,20 @@ fn finished(rng: &mut Prng, text: Vec<u8>, tape: Vec<u8>, code: Code) -> Case {
     let (mut parse_bytes, mut letters, mut bytes, mut days) = (0, 0, 0, 0);
     if let Ok(table) = load(&case.text) {
         nodes = table.count as usize;
-        let needed = |tape: &[u8]| match preferred_reading(&table, tape) {
-            Some(reading) if tape.len() <= 3_600 => encode(&table, &reading).len().div_ceil(8),
+        let needed = |tape: &[u8]| match tape.len() {
+            0..=3_600 => preferred_reading(&table, tape)
+                .map_or(0, |reading| encode(&table, &reading).len().div_ceil(8)),
             _ => 0,
         };
         parse_bytes = needed(&case.tape);
         if let Ok(spelled) = letters_of(&table, &case.code, u64::from(case.count)) {
             letters = spelled.len();
             days = day_ends(&spelled);
-            bytes = if letters <= 3_600 {
-                needed(&spelled)
-            } else {
-                0
+            // The reference is slow on long tapes, so none is read twice.
+            bytes = match letters {
+                0..=3_600 if spelled == case.tape => parse_bytes,
+                0..=3_600 => needed(&spelled),
+                _ => 0,
             };
         }
     }
@@ -529,6 +548,43 @@ mod tests {
             ("term", term),
         ] {
             assert!(count >= 25, "{sort}: {count}");
+        }
+    }
+
+    /// A tenth of the tapes have about 3,600 letters. Of these many are read, some are one letter too long, and codes of all letters
+    /// that a tape may have are settled, under stars of either kind. A case's seed tells which they are.
+    #[test]
+    fn cases_have_full_tapes() {
+        let mut seeds = Prng::new(29);
+        let [mut about, mut longer, mut most, mut greedy, mut lazy] = [0; 5];
+        for _ in 0..1_000 {
+            let own = seeds.number();
+            let case = random_case(&mut Prng::new(own));
+            let full = (3_575..=3_610).contains(&case.tape.len());
+            assert_eq!(has_full_tape(own), full, "seed {own}");
+            if !full {
+                continue;
+            }
+            about += 1;
+            longer += usize::from(case.tape.len() > 3_600);
+            let table = load(&case.text).expect("a good pattern");
+            let spelled = letters_of(&table, &case.code, u64::from(case.count));
+            most += usize::from(spelled.is_ok_and(|letters| letters.len() == 3_600));
+            if case.tape.len() == 3_600 && preferred_reading(&table, &case.tape).is_some() {
+                match table.node(table.root()).kind {
+                    Kind::Rounds(Star::Lazy) => lazy += 1,
+                    _ => greedy += 1,
+                }
+            }
+        }
+        assert!((70..=130).contains(&about), "{about}");
+        for (sort, count) in [
+            ("longer", longer),
+            ("most", most),
+            ("greedy", greedy),
+            ("lazy", lazy),
+        ] {
+            assert!(count >= 8, "{sort}: {count}");
         }
     }
 

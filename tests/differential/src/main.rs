@@ -1,15 +1,16 @@
 //! Every date, then random calls of the C interface, each compared with the reference.
-//! Arguments: the number of cases, the seed, and the folder for a failing case.
+//! Arguments: the number of cases, the seed, of how many cases one has a full tape, and the folder for a failing case.
 
 mod calls;
 mod case;
 mod compare;
 mod dates;
 mod every_date;
+mod full;
 mod letters;
 mod shrink;
 
-use case::{random_case, Case};
+use case::{has_full_tape, random_case, Case, FULL_TAPES};
 use compare::{compare, Counts, CALLS, LAST_CAUSE};
 use std::path::Path;
 use wumbyra_reference::prng::Prng;
@@ -29,13 +30,18 @@ fn header_version() -> u32 {
 
 fn main() {
     let words: Vec<String> = std::env::args().skip(1).collect();
-    let [cases, seed, folder] = &words[..] else {
-        eprintln!("usage: wumbyra-differential CASES SEED FOLDER");
+    let [cases, seed, full, folder] = &words[..] else {
+        eprintln!("usage: wumbyra-differential CASES SEED FULL FOLDER");
         std::process::exit(2);
     };
     let cases: u64 = cases.parse().expect("a number of cases");
     let seed: u64 = seed.parse().expect("a seed, in decimal");
-    println!("cases {cases}, seed {seed}");
+    let full: usize = full.parse().expect("of how many cases one is full");
+    assert!(
+        full >= FULL_TAPES,
+        "at most one case in {FULL_TAPES} has a full tape"
+    );
+    println!("cases {cases}, one in {full} with a full tape, seed {seed}");
     if calls::version() != header_version() {
         println!(
             "version: answered {}, the header has {}",
@@ -55,7 +61,10 @@ fn main() {
     let mut seeds = Prng::new(seed);
     for index in 0..cases {
         // Each case has a seed of its own: with it, and 1 for the number of cases, it is made again alone.
-        let own = if cases == 1 { seed } else { seeds.number() };
+        let own = match cases {
+            1 => seed,
+            _ => next_seed(&mut seeds, full),
+        };
         let case = random_case(&mut Prng::new(own));
         if let Err(words) = compare(&case, &mut counts) {
             println!("case {index} (seed {own}): {words}");
@@ -68,6 +77,16 @@ fn main() {
         "{cases} cases, {} calls, seed {seed}: all equal",
         counts.calls()
     );
+}
+
+/// A seed for a case. Those of full tapes are passed over but for so many that one case in `full` has such a tape.
+fn next_seed(seeds: &mut Prng, full: usize) -> u64 {
+    loop {
+        let own = seeds.number();
+        if !has_full_tape(own) || seeds.below(full) < FULL_TAPES {
+            return own;
+        }
+    }
 }
 
 /// How often each call answered each number.

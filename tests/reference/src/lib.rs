@@ -8,6 +8,7 @@ pub mod calendar;
 pub mod cases;
 pub mod code;
 pub mod codes;
+pub mod full;
 pub mod hex;
 pub mod hot;
 pub mod lazy;

@@ -3,6 +3,7 @@
 
 mod by_hand;
 pub mod damaged;
+mod full;
 mod hot;
 mod lazy;
 mod long;
@@ -78,6 +79,7 @@ pub fn all() -> Vec<Case> {
     cases.extend(damaged::hot());
     cases.extend(stale::cases());
     cases.extend(random::stale());
+    cases.extend(full::cases());
     cases
 }
 

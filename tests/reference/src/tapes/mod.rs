@@ -2,6 +2,7 @@
 //! with tapes that they read and tapes that they do not.
 
 pub mod by_hand;
+mod full;
 mod hot;
 mod lazy;
 mod long;
@@ -45,6 +46,7 @@ pub fn all() -> Vec<Case> {
     cases.extend(lazy::cases());
     cases.extend(hot::cases());
     cases.extend(random::hot());
+    cases.extend(full::cases());
     cases
 }
 
