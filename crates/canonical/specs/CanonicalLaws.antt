@@ -21,7 +21,7 @@ use Rattle.refusals.specs.RefusalLaws.{number-positive}
 use Rattle.refusals.specs.Checks.{Check, First, Clear}
 use Rattle.refusals.specs.CheckLaws.{first-answered, first-positive, first-more, clear-success, clear-more}
 use Rattle.refusals.specs.CheckLaws.{clear-parts, zero-clear, refused-first}
-use Rattle.syntax.specs.Table.{obeys, line-at, node-at, line-good, node-good}
+use Rattle.syntax.specs.Table.{obeys, line-at, node-at, line-good, node-good, account-limit}
 use Rattle.syntax.specs.Tree.{Label, Tree}
 use Rattle.syntax.specs.Trees.{made, tree-of, root}
 use Rattle.syntax.specs.TreeLaws.{Below, Rules, obeys-iff, tree-line}
@@ -113,7 +113,7 @@ module _ (p : Pattern) (r : Rules p) where
 
   node-formed : (l : ℕ) → l < p .count → node-good (node-at p l) ≡ true
   unfolding line-good
-  node-formed l h = and-snd (leb (line-at p l .account) 9) (node-good (node-at p l)) (r .formed l h)
+  node-formed l h = and-snd (leb (line-at p l .account) account-limit) (node-good (node-at p l)) (r .formed l h)
 
   lettered : (n l : ℕ) → l < n → l < p .count → Lettered (tree-of (line-at p) l)
   lettered zero l h k = absurd (omega arith)

@@ -1,13 +1,15 @@
 -- A text read field by field: the computed form of its first line.
 use mathlib.Core.Path.{_≡_, refl, ap}
-use mathlib.Core.Bool.{Bool, true, false, _||_, cond}
+use mathlib.Core.Bool.{Bool, true, false, _&&_, _||_, cond}
 use mathlib.Core.List.{List, [], _∷_}
-use Prim.Native.Nat.{ℕ, zero, suc, _+_, _≤_, _<_}
+use Prim.Native.Nat.{ℕ, zero, suc, _+_, _*_, _≤_, _<_}
 use native.Mathlib.Omega.{arith}
-use lib.Dec.{eqb}
+use lib.Dec.{eqb, ltb, leb}
 use lib.ListN.{length, getD}
+use Rattle.syntax.specs.Table.{account-limit}
 use Rattle.fields.specs.declared.Field.{Field}
-use Rattle.fields.specs.Text.{place, single}
+use Rattle.fields.specs.declared.AccountField.{AccountField}
+use Rattle.fields.specs.Text.{digit, place, single, no-account, account}
 
 -- whether a byte ends a field; 256 stands for the text's end
 unfoldable pub stops : ℕ → Bool
@@ -96,6 +98,22 @@ module _ (f : Field) where
       go (suc (suc zero)) h k = absurd (k refl)
       go (suc (suc (suc n))) h k = refl
 
+-- ── the field of an account ──
+-- a number with one digit more behind it, while it is an account
+unfoldable pub longer : (n b : ℕ) → ℕ
+longer n b = cond (ltb (digit b) 10 && leb (10 * n + digit b) account-limit) (10 * n + digit b) no-account
+
+abbrev pub account-made : (account size stop : ℕ) → AccountField
+account-made a n s = record { account = a; size = n; stop = s }
+
+-- a first byte that is none of what ends a field, and the field behind it
+abbrev pub account-behind : (a : ℕ) → (rest : Field) → AccountField
+account-behind a f = account-made (account (a ∷ word f)) (f .size + 1) (f .stop)
+
+unfoldable pub account-at : (text : List ℕ) → (at : ℕ) → AccountField
+account-at s i = cond (stops (getD s i 256)) (account-made no-account 0 (getD s i 256)) (account-behind (getD s i 256) (field-at s (i + 1)))
+
+-- ── elements of a list ──
 -- an element of a list does not depend on what stands for those past its end
 pub getD-inside : {A : Type 0} (l : List A) (i : ℕ) (d e : A) → i < length l → getD l i d ≡ getD l i e
 getD-inside [] i d e h = absurd (omega arith)

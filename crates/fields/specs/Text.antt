@@ -9,6 +9,7 @@ use Rattle.syntax.specs.declared.Node.{Node}
 use Rattle.syntax.specs.declared.Node.the-variants.{Leaf as Leaf-node, Sequence, Alternative, Star}
 use Rattle.syntax.specs.declared.Line.{Line}
 use Rattle.syntax.specs.Letter.{is-letter}
+use Rattle.syntax.specs.Table.{account-limit}
 
 -- a line of a text: its fields, and whether byte 10 ends it
 pub record Row : Type 0 where
@@ -49,15 +50,37 @@ place (a ∷ []) = one-digit (digit a)
 place (a ∷ b ∷ []) = two-digits (digit a) (digit b)
 place (a ∷ b ∷ c ∷ more) = 64
 
--- the byte of a field of one byte; 0, which is neither letter, kind nor account, for any other field
+-- the byte of a field of one byte; 0, which is neither letter nor kind, for any other field
 unfoldable pub single : (field : List ℕ) → ℕ
 single [] = 0
 single (a ∷ []) = a
 single (a ∷ b ∷ more) = 0
 
--- 01: "Account is `-` or a digit 1 to 9." `-` is stored as 0; 10 where the byte is none.
-unfoldable pub account : ℕ → ℕ
-account b = cond (eqb b 45) 0 (cond (leb 49 b && leb b 57) (b - 48) 10)
+-- whether each byte is a decimal digit
+unfoldable pub all-digits : List ℕ → Bool
+all-digits [] = true
+all-digits (b ∷ bs) = ltb (digit b) 10 && all-digits bs
+
+-- the number that n and the digits behind it write
+unfoldable pub decimal : (n : ℕ) → List ℕ → ℕ
+decimal n [] = n
+decimal n (b ∷ bs) = decimal (10 * n + digit b) bs
+
+-- stands for a field that writes no account; accounts are below it
+abbrev pub no-account : ℕ
+no-account = account-limit + 1
+
+-- the number of a first byte `1` to `9` and the digits behind it, if it is not above the limit
+unfoldable pub account-number : (first : ℕ) → (more : List ℕ) → ℕ
+account-number a more =
+    cond ((leb 49 a && leb a 57) && (all-digits more && leb (decimal (digit a) more) account-limit)) (decimal (digit a) more) no-account
+
+-- 02, Job 7: "The account field grows to 1 to 200, one to three digits without leading zeros"; or it is `-` (01), which is stored as 0.
+-- No number to 200 has more than three digits (law `account-long`).
+unfoldable pub account : (field : List ℕ) → ℕ
+account [] = no-account
+account (a ∷ []) = cond (eqb a 45) 0 (account-number a [])
+account (a ∷ b ∷ more) = account-number a (b ∷ more)
 
 abbrev pub when : {A : Type 0} → Bool → A → Option A
 when true x = some x
@@ -98,14 +121,14 @@ node-of k (x ∷ y ∷ z ∷ more) = none
 
 abbrev pub with-account : ℕ → Option Node → Option Line
 with-account a none = none
-with-account a (some n) = when (ltb a 10) (record { account = a; node = n })
+with-account a (some n) = when (leb a account-limit) (record { account = a; node = n })
 
 -- what the fields of line i say: "the first field is the line's own [place], counted from 0"
 unfoldable pub line-of : (i : ℕ) → (fields : List (List ℕ)) → Option Line
 line-of i [] = none
 line-of i (p ∷ []) = none
 line-of i (p ∷ k ∷ []) = none
-line-of i (p ∷ k ∷ a ∷ more) = cond (eqb (place p) i) (with-account (account (single a)) (node-of (single k) more)) none
+line-of i (p ∷ k ∷ a ∷ more) = cond (eqb (place p) i) (with-account (account a) (node-of (single k) more)) none
 
 -- the line of the table that row i writes, none where its form is at fault
 unfoldable pub row-line : (i : ℕ) → Row → Option Line

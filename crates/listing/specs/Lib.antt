@@ -9,3 +9,5 @@ pub mod Examples
 -- Files that are cut off.
 pub mod Shortened
 pub mod Unique
+-- Patterns of 01's accounts: the listing is as it was.
+pub mod OldListing

@@ -18,7 +18,7 @@ use Rattle.refusals.specs.declared.Refusal.the-variants.{Unreadable}
 use Rattle.refusals.specs.Refusals.{answer, refused}
 use Rattle.refusals.specs.RefusalLaws.{number-positive}
 use Rattle.refusals.specs.CheckLaws.{zero-clear}
-use Rattle.syntax.specs.Table.{obeys}
+use Rattle.syntax.specs.Table.{obeys, account-limit}
 use Rattle.syntax.specs.Trees.{root}
 use Rattle.loading.specs.Load.{outcome-answer, load-answer, Loads}
 use Rattle.bits.specs.Bits.{cell-count, pack, in-front, byte-limit}
@@ -33,6 +33,7 @@ use Rattle.steps.specs.StateSets.{words as state-sets}
 use Rattle.first_sweep.specs.Meaning.{words-length}
 use Rattle.totals.specs.declared.Totalled.{Totalled}
 use Rattle.totals.specs.Totals.{entries-by, entries-of, totals-answer, totals-litres, Totals}
+use Rattle.totals.specs.TotalsLaws.{totalled-many}
 use Rattle.canonical.specs.RoundTrip.{canonical-whole, canonical-spells}
 use Rattle.parser.specs.declared.Parsed.{Parsed}
 use Rattle.parser.specs.declared.Parsed.the-variants.{Bits, Refused}
@@ -44,7 +45,7 @@ use Rattle.text.specs.Text.{Puts, refused-line}
 use Rattle.text.specs.Putting.{puts-then, puts-front}
 use Rattle.listing.specs.Listing.{listing, read-listing, early-cause, pattern-listing, closed, tape-of, listing-of, word-limit, room, Lists}
 use Rattle.listing_lines.specs.LineBytes.{tape-line, account-lines, open-lines}
-use Rattle.listing_lines.specs.Lines.{tape-length, open-length}
+use Rattle.listing_lines.specs.Lines.{tape-length, account-line-limit, open-length}
 
 -- ── a listing put in front of a buffer, where there is room for it ──
 pub record Shows (old bytes now : List ℕ) (end : ℕ) : Type 0 where
@@ -94,18 +95,15 @@ module _ (p : Pattern) (tape ws code : List ℕ) (count : ℕ) (h : Read p tape 
   pub litres-are : (r : Totalled) → Totals p code count r → r .litres ≡ totals (entries-by (root p) (value-of (root p) (greedy (root p) tape)))
   litres-are r t = t .gives ∙ ap₂ (totals-litres p) (h .coded) (h .counted) ∙ own-litres
 
-  pub litres-ten : (r : Totalled) → Totals p code count r → length (r .litres) ≤ 10
-  unfolding totals
-  litres-ten r t = omega (arith, ap length (litres-are r t))
-
   listing-is : (n : ℕ) → n ≡ length tape → (ns : List ℕ) → ns ≡ totals (entries-by (root p) (value-of (root p) (greedy (root p) tape)))
       → tape-line n count code ++ (account-lines 0 ns ++ open-lines ws 0 (suc n)) ≡ listing p tape (greedy (root p) tape)
   unfolding listing
   listing-is n e ns f = rw (e, h .coded, h .counted, f, same-open ws (state-sets p tape) 0 (suc (length tape)) (λ j l. h .filled j (omega arith)))
 
-  fits-room : (n : ℕ) → n ≡ length tape → (ns : List ℕ) → length (account-lines 0 ns) ≤ 300
+  fits-room : (n : ℕ) → n ≡ length tape → (ns : List ℕ) → length ns ≡ account-limit + 1
+      → length (account-lines 0 ns) ≤ account-line-limit * length ns
       → length (tape-line n count code ++ (account-lines 0 ns ++ open-lines ws 0 (suc n))) ≤ room
-  fits-room n e ns l =
+  fits-room n e ns many l =
       let few = h .few in
       let (short, count-short) = code-short in
       simp length-append
@@ -113,12 +111,12 @@ module _ (p : Pattern) (tape ws code : List ℕ) (count : ℕ) (h : Read p tape 
 
   pub listed : (n : ℕ) → n ≡ length tape → (r : Totalled) → Totals p code count r → (old m₁ m₂ now : List ℕ) (e₁ e₂ end : ℕ)
       → Puts old 0 (tape-line n count code) m₁ e₁
-      → Puts m₁ e₁ (account-lines 0 (r .litres)) m₂ e₂ × (length (account-lines 0 (r .litres)) ≤ 300)
+      → Puts m₁ e₁ (account-lines 0 (r .litres)) m₂ e₂ × (length (account-lines 0 (r .litres)) ≤ account-line-limit * length (r .litres))
       → Puts m₂ e₂ (open-lines ws 0 (suc n)) now end
       → Shows old (listing p tape (greedy (root p) tape)) now end
   listed n e r t old m₁ m₂ now e₁ e₂ end a (b, l) c =
       shows-as old _ _ now end (listing-is n e (r .litres) (litres-are r t))
-      (record { puts = puts-then _ _ _ _ _ _ _ _ a (puts-then _ _ _ _ _ _ _ _ b c); fits = fits-room n e (r .litres) l })
+      (record { puts = puts-then _ _ _ _ _ _ _ _ a (puts-then _ _ _ _ _ _ _ _ b c); fits = fits-room n e (r .litres) (totalled-many p code count r t) l })
 
 -- ── what reading answers ──
 -- nothing before the sweeps refuses

@@ -1,5 +1,5 @@
--- A program need not hold the whole of its files: the first 1,025 bytes of a pattern's text and the first 3,602 bytes of a tape
--- give the listing of the whole. A text that has 64 good lines has them in 64 × 16 bytes, since a good line has at most 14 bytes.
+-- A program need not hold the whole of its files: the first `text-bytes` bytes of a pattern's text and the first 3,602 bytes of a tape
+-- give the listing of the whole. A text that has 64 good lines has them in 64 times `line-bytes` bytes.
 use mathlib.Core.Path.{_≡_, refl, sym, ap, ap₂, _∙_}
 use mathlib.Core.Bool.{Bool, true, false, not, cond}
 use mathlib.Core.List.{List, [], _∷_}
@@ -37,6 +37,15 @@ use Rattle.text.specs.Text.{refused-line}
 use Rattle.listing.specs.Listing.{read-listing, early-cause, pattern-listing, closed, tape-of, listing-of}
 
 -- ── a good line is short ──
+-- No good line has more bytes, its end among them. The longest has 15: a place of two bytes, a kind of one, an account of three, two parts of two each,
+-- and five bytes between and behind them. It is not asked whether a kind of two bytes is one, which makes it 16.
+abbrev pub line-bytes : ℕ
+line-bytes = 16
+
+-- the bytes of a pattern's text that decide its loading: 64 good lines, and the byte behind them, which begins a line too many
+abbrev pub text-bytes : ℕ
+text-bytes = line-bytes * 64 + 1
+
 -- the bytes of fields, each with the tab or the line's end behind it
 abbrev total : List (List ℕ) → ℕ
 total [] = 0
@@ -57,47 +66,39 @@ total-line (b ∷ bs) = go (eqb b 10) (eqb b 9) (total-line bs)
     go false true e = omega arith
     go false false e = total-front b (first-size bs) (first-fields bs) e
 
--- a field has at most two bytes, or three and more
-by-length : (P : List ℕ → Type 0) → ((f : List ℕ) → length f ≤ 2 → P f) → ((a b c : ℕ) (x : List ℕ) → P (a ∷ b ∷ c ∷ x)) → (f : List ℕ) → P f
-by-length P s l [] = s [] (omega arith)
-by-length P s l (a ∷ []) = s (a ∷ []) (omega arith)
-by-length P s l (a ∷ b ∷ []) = s (a ∷ b ∷ []) (omega arith)
-by-length P s l (a ∷ b ∷ c ∷ x) = l a b c x
+-- a field has at most n bytes, or more
+by-length : {A : Type 0} (n : ℕ) (f : List ℕ) → (length f ≤ n → A) → (suc n ≤ length f → A) → A
+by-length {A} n f s l = go (ltb n (length f)) refl
+  where
+    go : (b : Bool) → ltb n (length f) ≡ b → A
+    go true e = l (ltb-true n (length f) e)
+    go false e = s (ltb-false n (length f) e)
 
 parts-none : (a k : ℕ) (more : List (List ℕ)) → 7 ≤ total more → parts-say a k more ≡ none
 parts-none a k [] h = absurd (omega arith)
-parts-none a k (x ∷ []) h =
-    by-length (λ x. 7 ≤ total (x ∷ []) → parts-say a k (x ∷ []) ≡ none) (λ x l h. absurd (omega arith))
-    (λ b c d x h. parts-no-long a k b c d x []) x h
+parts-none a k (x ∷ []) h = by-length 2 x (λ s. absurd (omega arith)) (λ l. parts-no-long a k x [] l)
 parts-none a k (x ∷ y ∷ []) h =
-    by-length (λ x. 7 ≤ total (x ∷ y ∷ []) → parts-say a k (x ∷ y ∷ []) ≡ none)
-    (λ x l h. by-length (λ y. 7 ≤ total (x ∷ y ∷ []) → parts-say a k (x ∷ y ∷ []) ≡ none) (λ y m h. absurd (omega arith))
-    (λ b c d y h. parts-no-second a k x b c d y []) y h)
-    (λ b c d x h. parts-no-long a k b c d x (y ∷ [])) x h
+    by-length 2 x (λ s. by-length 2 y (λ t. absurd (omega arith)) (λ l. parts-no-second a k x y [] l)) (λ l. parts-no-long a k x (y ∷ []) l)
 parts-none a k (x ∷ y ∷ z ∷ more) h = parts-no-more a k x y z more
 
-account-none : (k : ℕ) (a : List ℕ) (more : List (List ℕ)) → 10 ≤ total (a ∷ more) → account-says k (a ∷ more) ≡ none
+account-none : (k : ℕ) (a : List ℕ) (more : List (List ℕ)) → 11 ≤ total (a ∷ more) → account-says k (a ∷ more) ≡ none
 unfolding account-says
-account-none k a more h =
-    by-length (λ a. 10 ≤ total (a ∷ more) → account-says k (a ∷ more) ≡ none)
-    (λ a l h. parts-none (account (single a)) k more (omega arith)) (λ b c d a h. account-no-long k b c d a more) a h
+account-none k a more h = by-length 3 a (λ s. parts-none (account a) k more (omega arith)) (λ l. account-no-long k a more l)
 
 module _ (i : ℕ) (l : i < 64) where
-  line-none : (fs : List (List ℕ)) → 16 ≤ total fs → line-of i fs ≡ none
+  line-none : (fs : List (List ℕ)) → line-bytes < total fs → line-of i fs ≡ none
   line-none [] h = absurd (omega arith)
   line-none (p ∷ []) h = line-alone i p
   line-none (p ∷ k ∷ []) h = line-short i p k
   line-none (p ∷ k ∷ a ∷ more) h =
-      by-length (λ p. 16 ≤ total (p ∷ k ∷ a ∷ more) → line-of i (p ∷ k ∷ a ∷ more) ≡ none)
-      (λ p lp h. by-length (λ k. 16 ≤ total (p ∷ k ∷ a ∷ more) → line-of i (p ∷ k ∷ a ∷ more) ≡ none)
-      (λ k lk h. own p k (eqb (place p) i) refl (omega arith)) (λ x y z k h. line-no-kind i p x y z k (a ∷ more)) k h)
-      (λ x y z p h. line-no-long i l x y z p (k ∷ a ∷ more)) p h
+      by-length 2 p (λ s. by-length 2 k (λ t. own (eqb (place p) i) refl (omega arith)) (λ m. line-no-kind i p k (a ∷ more) m))
+      (λ m. line-no-long i l p (k ∷ a ∷ more) m)
     where
-      own : (p k : List ℕ) (b : Bool) → eqb (place p) i ≡ b → 10 ≤ total (a ∷ more) → line-of i (p ∷ k ∷ a ∷ more) ≡ none
-      own p k true e h = sym (line-account i p k (eqb-true (place p) i e) (a ∷ more)) ∙ account-none (single k) a more h
-      own p k false e h = line-no-place i p (eqb-false (place p) i e) (k ∷ a ∷ more)
+      own : (b : Bool) → eqb (place p) i ≡ b → 11 ≤ total (a ∷ more) → line-of i (p ∷ k ∷ a ∷ more) ≡ none
+      own true e h = sym (line-account i p k (eqb-true (place p) i e) (a ∷ more)) ∙ account-none (single k) a more h
+      own false e h = line-no-place i p (eqb-false (place p) i e) (k ∷ a ∷ more)
 
-  long-none : (fs : List (List ℕ)) (c : Bool) → 16 ≤ total fs → row-line i (record { fields = fs; closed = c }) ≡ none
+  long-none : (fs : List (List ℕ)) (c : Bool) → line-bytes < total fs → row-line i (record { fields = fs; closed = c }) ≡ none
   unfolding row-line
   long-none fs true h = line-none fs h
   long-none fs false h = refl
@@ -152,7 +153,7 @@ forms-over : (i b : ℕ) (bs : List ℕ) → 64 ≤ i → forms i (rows (b ∷ b
 unfolding forms
 forms-over i b bs l = rw (rows-first b bs, le-ltb i 64 l)
 
-forms-long : (i b : ℕ) (bs : List ℕ) → i < 64 → 15 ≤ first-size (b ∷ bs) → forms i (rows (b ∷ bs)) ≡ fault i
+forms-long : (i b : ℕ) (bs : List ℕ) → i < 64 → line-bytes ≤ first-size (b ∷ bs) → forms i (rows (b ∷ bs)) ≡ fault i
 forms-long i b bs l h =
     let n : row-line i (first-line (b ∷ bs)) ≡ none = long-none i l (first-fields (b ∷ bs)) (first-closed (b ∷ bs)) (omega (arith, total-line (b ∷ bs))) in
     forms-first i b bs l ∙ ap (λ o. line-front i o (forms (suc i) (rows (drop (suc (first-size (b ∷ bs))) (b ∷ bs))))) n
@@ -173,27 +174,27 @@ last-forms i l [] m h = ap (λ w. forms i (rows w)) (take-nil {A = ℕ} m)
 last-forms i l (b ∷ bs) zero h = absurd (omega arith)
 last-forms i l (b ∷ bs) (suc m) h = forms-over i b (take m bs) l ∙ sym (forms-over i b bs l)
 
-next-forms : (k i : ℕ) → i < 64 → ((text : List ℕ) (m : ℕ) → 16 * k + 1 ≤ m → forms (suc i) (rows (take m text)) ≡ forms (suc i) (rows text))
-    → (text : List ℕ) (m : ℕ) → 16 * k + 17 ≤ m → forms i (rows (take m text)) ≡ forms i (rows text)
+next-forms : (k i : ℕ) → i < 64 → ((text : List ℕ) (m : ℕ) → line-bytes * k + 1 ≤ m → forms (suc i) (rows (take m text)) ≡ forms (suc i) (rows text))
+    → (text : List ℕ) (m : ℕ) → line-bytes * suc k + 1 ≤ m → forms i (rows (take m text)) ≡ forms i (rows text)
 next-forms k i l ih [] m h = ap (λ w. forms i (rows w)) (take-nil {A = ℕ} m)
 next-forms k i l ih (b ∷ bs) zero h = absurd (omega arith)
-next-forms k i l ih (b ∷ bs) (suc m) h = go (ltb (first-size (b ∷ bs)) 15) refl
+next-forms k i l ih (b ∷ bs) (suc m) h = go (ltb (first-size (b ∷ bs)) line-bytes) refl
   where
-    go : (x : Bool) → ltb (first-size (b ∷ bs)) 15 ≡ x → forms i (rows (b ∷ take m bs)) ≡ forms i (rows (b ∷ bs))
+    go : (x : Bool) → ltb (first-size (b ∷ bs)) line-bytes ≡ x → forms i (rows (b ∷ take m bs)) ≡ forms i (rows (b ∷ bs))
     go true q =
-        let s : first-size (b ∷ bs) < 15 = ltb-true (first-size (b ∷ bs)) 15 q in
+        let s : first-size (b ∷ bs) < line-bytes = ltb-true (first-size (b ∷ bs)) line-bytes q in
         forms-same i b m bs l (same-line (b ∷ bs) (suc m) (omega arith))
         (ap (λ w. forms (suc i) (rows w)) (drop-of-take (suc (first-size (b ∷ bs))) (m - first-size (b ∷ bs)) (suc m) (b ∷ bs) (omega arith))
         ∙ ih (drop (suc (first-size (b ∷ bs))) (b ∷ bs)) (m - first-size (b ∷ bs)) (omega arith))
     go false q =
-        let s : 15 ≤ first-size (b ∷ bs) = ltb-false (first-size (b ∷ bs)) 15 q in
-        forms-long i b (take m bs) l (still-long (b ∷ bs) (suc m) 15 (omega arith) s) ∙ sym (forms-long i b bs l s)
+        let s : line-bytes ≤ first-size (b ∷ bs) = ltb-false (first-size (b ∷ bs)) line-bytes q in
+        forms-long i b (take m bs) l (still-long (b ∷ bs) (suc m) line-bytes (omega arith) s) ∙ sym (forms-long i b bs l s)
 
-pub short-forms : (k i : ℕ) → i + k ≡ 64 → (text : List ℕ) (m : ℕ) → 16 * k + 1 ≤ m → forms i (rows (take m text)) ≡ forms i (rows text)
+pub short-forms : (k i : ℕ) → i + k ≡ 64 → (text : List ℕ) (m : ℕ) → line-bytes * k + 1 ≤ m → forms i (rows (take m text)) ≡ forms i (rows text)
 short-forms zero i e text m h = last-forms i (omega arith) text m (omega arith)
 short-forms (suc k) i e text m h = next-forms k i (omega arith) (λ t n g. short-forms k (suc i) (omega arith) t n g) text m (omega arith)
 
-module _ (text : List ℕ) (m : ℕ) (h : 1025 ≤ m) where
+module _ (text : List ℕ) (m : ℕ) (h : text-bytes ≤ m) where
   pub load-answer-short : load-answer (take m text) ≡ load-answer text
   load-answer-short =
       load-answer-is (take m text) ∙ ap forms-answer (short-forms 64 0 (omega arith) text m (omega arith)) ∙ sym (load-answer-is text)
@@ -237,6 +238,6 @@ tape-short p file n h = go (ltb n (length file)) refl
         over-listing p (tape-of (take n file)) (omega (arith, tape-long (take n file))) ∙ sym (over-listing p (tape-of file) (omega (arith, tape-long file)))
 
 -- ── the listing ──
-pub listing-short : (text file : List ℕ) (m n : ℕ) → 1025 ≤ m → 3602 ≤ n → listing-of (take m text) (take n file) ≡ listing-of text file
+pub listing-short : (text file : List ℕ) (m n : ℕ) → text-bytes ≤ m → 3602 ≤ n → listing-of (take m text) (take n file) ≡ listing-of text file
 unfolding listing-of
 listing-short text file m n hm hn = rw (load-answer-short text m hm, load-table-short text m hm, tape-short (load-table text) file n hn)

@@ -17,7 +17,7 @@ use syntax::Pattern;
 use text::put_refused;
 use totals::totals;
 
-// Bytes that hold every listing: at most 131,100 for the first line, 30 for each account, 27 for each position.
+// Bytes that hold every listing: at most 131,100 for the first line, 30 for each of 201 accounts, 27 for each of 3,601 positions.
 pub const MAX_LISTING: usize = 262144;
 
 // Mark words for the longest tape: two for each position, and one position more than letters.

@@ -1,5 +1,5 @@
 -- Laws of the lines of a listing: as the code puts them, and how long they can be.
-use mathlib.Core.Path.{_≡_, sym, ap, ap₂, _∙_}
+use mathlib.Core.Path.{_≡_, refl, sym, ap, ap₂, _∙_}
 use mathlib.Core.Bool.{Bool, true, false, cond}
 use mathlib.Core.List.{List, [], _∷_, _++_}
 use Prim.Native.Nat.{ℕ, zero, suc, _+_, _*_, _-_, _≤_, _<_, min}
@@ -7,8 +7,9 @@ use native.Mathlib.Numerals.{add-one}
 use native.Mathlib.Omega.{arith}
 use borrow.Author.Tests.{eq-eqb, ne-eqb}
 use lib.Dec.{eqb}
-use lib.ListN.{length, drop, getD, length-append}
+use lib.ListN.{length, drop, getD, replicate, length-append}
 use lib.Seq.{sets}
+use Rattle.syntax.specs.Table.{account-limit}
 use Rattle.bits.specs.Bits.{bit, test-bit, count-below}
 use Rattle.text.specs.Text.{Puts, hex, entry, line}
 use Rattle.text.specs.Putting.{puts-as, puts-then, drop-next, drop-done}
@@ -39,9 +40,13 @@ account-nothing out at a n r z e = record {
   ends = omega (arith, e, ap length (account-none a n z));
 }
 
-pub account-some : (a n : ℕ) → (n ≡ 0 → ⊥) → line account-word a n ≡ account-line a n
+account-some : (a n : ℕ) → (n ≡ 0 → ⊥) → line account-word a n ≡ account-line a n
 unfolding account-line
 account-some a n e = sym (rw (ne-eqb n 0 e))
+
+pub account-done : (out : List ℕ) (at a n x y : ℕ) (after : List ℕ) (r : ℕ) → (n ≡ 0 → ⊥) → Puts out at (line account-word x y) after r
+    → x ≡ a → y ≡ n → Puts out at (account-line a n) after r
+account-done out at a n x y after r h p ex ey = puts-as out at _ _ after r (ap₂ (line account-word) ex ey ∙ account-some a n h) p
 
 module _ (i : ℕ) (xs : List ℕ) where
   pub accounts-turn : i < length xs
@@ -55,23 +60,39 @@ module _ (i : ℕ) (xs : List ℕ) where
   unfolding account-lines
   accounts-over l = ap (account-lines i) (drop-done i xs l)
 
-account-length : (a n : ℕ) → Short a → Short n → length (account-line a n) ≤ 30
+-- accounts without litres behind the others change nothing
+none-listed : (m a : ℕ) → account-lines a (replicate m 0) ≡ []
+unfolding account-lines account-line
+none-listed zero a = refl
+none-listed (suc m) a = none-listed m (suc a)
+
+pub zeros-behind : (m a : ℕ) (xs : List ℕ) → account-lines a (xs ++ replicate m 0) ≡ account-lines a xs
+unfolding account-lines
+zeros-behind m a [] = none-listed m a
+zeros-behind m a (x ∷ xs) = ap (λ l. account-line a x ++ l) (zeros-behind m (suc a) xs)
+
+-- no line of an account is longer: its word, two tabs, two numbers of ten digits at most and byte 10
+abbrev pub account-line-limit : ℕ
+account-line-limit = 30
+
+account-length : (a n : ℕ) → Short a → Short n → length (account-line a n) ≤ account-line-limit
 unfolding account-line
 account-length a n ha hn = go (eqb n 0)
   where
-    go : (b : Bool) → length (cond b [] (line account-word a n)) ≤ 30
+    go : (b : Bool) → length (cond b [] (line account-word a n)) ≤ account-line-limit
     go true = omega arith
     go false = omega (arith, line-length account-word a n ha hn)
 
 accounts-each : (i : ℕ) (xs : List ℕ) → i + length xs ≤ 4294967296 → ((k : ℕ) → Short (getD xs k 0))
-    → length (account-lines i xs) ≤ 30 * length xs
+    → length (account-lines i xs) ≤ account-line-limit * length xs
 unfolding account-lines
 accounts-each i [] h f = omega arith
 accounts-each i (x ∷ xs) h f = simp length-append
     (omega (arith, account-length i x (omega arith) (f 0), accounts-each (suc i) xs (omega arith) (λ k. f (suc k))))
 
-pub accounts-length : (xs : List ℕ) → length xs ≤ 10 → ((k : ℕ) → Short (getD xs k 0)) → length (account-lines 0 xs) ≤ 300
-accounts-length xs h f = omega (arith, accounts-each 0 xs (omega arith) f)
+pub accounts-length : (xs : List ℕ) → length xs ≤ account-limit + 1 → ((k : ℕ) → Short (getD xs k 0))
+    → length (account-lines 0 xs) ≤ account-line-limit * length xs
+accounts-length xs h f = accounts-each 0 xs (omega arith) f
 
 -- ── open nodes: position i of n, whose word's ones are counted ──
 module _ (ws : List ℕ) (n : ℕ) where

@@ -2,7 +2,9 @@
 ghost use Prim.Native.Nat.{suc, _+_, _*_, _≤_};
 ghost use lib.ListN.{length};
 ghost use Rattle.text.specs.Text.{Puts};
+ghost use Rattle.syntax.specs.Table.{account-limit};
 ghost use Rattle.listing_lines.specs.LineBytes.{tape-line, account-line, account-lines, open-lines};
+ghost use Rattle.listing_lines.specs.Lines.{account-line-limit};
 use bits::open_nodes;
 use text::least;
 use text::put_byte;
@@ -30,11 +32,11 @@ fn put_account(out: &mut [u8], at: usize, account: u64, litres: u32) -> usize
     put_line(out, at, b"account", account, litres as u64)
 }
 
-// A line has at most 30 bytes.
+// The accounts from 0 on, rising. A bound on their number bounds the digits of an account, and so the bytes of all lines.
 pub fn put_accounts(out: &mut [u8], at: usize, litres: &[u32]) -> usize
-    requires { ⌜ length (now litres) ≤ 10 ⌝ }
+    requires { ⌜ length (now litres) ≤ account-limit + 1 ⌝ }
     ensures { λ r. ⌜ Puts (now (out .entry)) at (account-lines 0 (now (litres .entry))) (now (out .exit)) r ⌝ }
-    ensures { λ r. ⌜ length (account-lines 0 (now (litres .entry))) ≤ 300 ⌝ }
+    ensures { λ r. ⌜ length (account-lines 0 (now (litres .entry))) ≤ account-line-limit * length (now (litres .entry)) ⌝ }
 {
     let mut end = least(at, out.len());
     let mut i = 0;

@@ -5,7 +5,7 @@ use mathlib.Core.List.{List, [], _∷_}
 use mathlib.Core.Option.{Option, none, some}
 use Prim.Native.Nat.{ℕ, zero, suc, _+_, _-_, _≤_, _<_}
 use native.Mathlib.Omega.{arith}
-use borrow.Author.Tests.{ltb-true, le-leb, ne-eqb}
+use borrow.Author.Tests.{ne-eqb}
 use lib.Dec.{eqb, ltb, leb}
 use lib.ListN.{length, getD, replicate, List·getD-append}
 use Rattle.syntax.specs.declared.Leaf.the-variants.{Nothing, Letter, Range}
@@ -15,7 +15,7 @@ use Rattle.syntax.specs.declared.Line.{Line}
 use Rattle.syntax.specs.Letter.{is-letter}
 use Rattle.fields.specs.Text.{place, single, account, when, node-of-none, star-of, node-of-one, range-of, parts-of, node-of-two, node-of, with-account}
 use Rattle.fields.specs.Text.{Row, line-of, row-line, rows, Forms, good, fault, line-front, forms}
-use Rattle.syntax.specs.Table.{blank, no-lines, line-at, node-good, line-good, badly-formed, lowest, tree-fault, is-none, obeys}
+use Rattle.syntax.specs.Table.{blank, no-lines, line-at, node-good, account-limit, line-good, badly-formed, lowest, tree-fault, is-none, obeys}
 use Rattle.syntax.specs.Lowest.{none-lowest}
 use Rattle.refusals.specs.declared.Refusal.{Refusal}
 use Rattle.refusals.specs.Refusals.{answer}
@@ -28,11 +28,11 @@ use Rattle.syntax.specs.TableTest.{good-table}
 use Rattle.loading.specs.Loading.{forms-few}
 
 -- ── what a line says is of good form ──
-when-yes : {A : Type 0} (b : Bool) (x y : A) → when b x ≡ some y → b ≡ true
+pub when-yes : {A : Type 0} (b : Bool) (x y : A) → when b x ≡ some y → b ≡ true
 when-yes true x y e = refl
 when-yes false x y e = absurd (let z : _≡_ {A = ℕ} 0 1 = (cc) in omega arith)
 
-when-is : {A : Type 0} (b : Bool) (x y : A) → when b x ≡ some y → x ≡ y
+pub when-is : {A : Type 0} (b : Bool) (x y : A) → when b x ≡ some y → x ≡ y
 when-is true x y e = (cc)
 when-is false x y e = absurd (let z : _≡_ {A = ℕ} 0 1 = (cc) in omega arith)
 
@@ -72,13 +72,12 @@ line-formed i (p ∷ []) x e = absurd (let z : _≡_ {A = ℕ} 0 1 = (cc) in ome
 line-formed i (p ∷ k ∷ []) x e = absurd (let z : _≡_ {A = ℕ} 0 1 = (cc) in omega arith)
 line-formed i (p ∷ k ∷ a ∷ more) x e = go (eqb (place p) i) (node-of (single k) more) refl e
   where
-    go : (b : Bool) (o : Option Node) → node-of (single k) more ≡ o → cond b (with-account (account (single a)) o) none ≡ some x
-        → (leb (x .account) 9 && node-good (x .node)) ≡ true
+    go : (b : Bool) (o : Option Node) → node-of (single k) more ≡ o → cond b (with-account (account a) o) none ≡ some x
+        → (leb (x .account) account-limit && node-good (x .node)) ≡ true
     go true none q e = absurd (let z : _≡_ {A = ℕ} 0 1 = (cc) in omega arith)
     go true (some n) q e =
-        let s : record { account = account (single a); node = n } ≡ x = when-is (ltb (account (single a)) 10) _ x e in
-        let l : account (single a) < 10 = ltb-true (account (single a)) 10 (when-yes (ltb (account (single a)) 10) _ x e) in
-        rw (← s, le-leb (account (single a)) 9 (omega arith)) (node-formed (single k) more n q)
+        let s : record { account = account a; node = n } ≡ x = when-is (leb (account a) account-limit) _ x e in
+        rw (← s, when-yes (leb (account a) account-limit) _ x e) (node-formed (single k) more n q)
     go false o q e = absurd (let z : _≡_ {A = ℕ} 0 1 = (cc) in omega arith)
 
 row-formed : (i : ℕ) (r : Row) (x : Line) → row-line i r ≡ some x → line-good x ≡ true
@@ -148,11 +147,11 @@ pub record Says-lines (text : List ℕ) : Type 0 where
   pub count-is : load-table text .count ≡ length (rows text)
   pub says : (i : ℕ) → i < load-table text .count → row-line i (getD (rows text) i no-row) ≡ some (line-at (load-table text) i)
 
-table-line : (xs : List Line) (i : ℕ) → i < length xs → line-at (table xs) i ≡ getD xs i blank
+pub table-line : (xs : List Line) (i : ℕ) → i < length xs → line-at (table xs) i ≡ getD xs i blank
 unfolding table
 table-line xs i h = List·getD-append xs (replicate (64 - length xs) blank) blank i h
 
-table-count : (xs : List Line) → table xs .count ≡ length xs
+pub table-count : (xs : List Line) → table xs .count ≡ length xs
 unfolding table
 table-count xs = refl
 

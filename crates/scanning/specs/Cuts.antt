@@ -1,8 +1,8 @@
 -- How a field that was read cuts the first line of a text, and what that says of the line.
-use mathlib.Core.Path.{_≡_, refl, sym, ap, _∙_}
+use mathlib.Core.Path.{_≡_, refl, sym, ap, subst, _∙_}
 use mathlib.Core.Bool.{Bool, true, false, _||_, cond, true≢false}
 use mathlib.Core.List.{List, [], _∷_}
-use Prim.Native.Nat.{ℕ, suc, _+_, _<_}
+use Prim.Native.Nat.{ℕ, suc, _+_, _≤_, _<_}
 use native.Mathlib.Nat.{add-zero}
 use native.Mathlib.Omega.{arith}
 use borrow.Author.Tests.{eqb-true, ne-eqb}
@@ -10,8 +10,9 @@ use lib.Dec.{eqb}
 use lib.ListN.{length, getD, drop}
 use lib.Seq.{getD-drop}
 use Rattle.fields.specs.declared.Field.{Field}
-use Rattle.fields.specs.Text.{byte-front}
-use Rattle.fields.specs.Fields.{stops, made, field-of, field-at, word}
+use Rattle.fields.specs.declared.AccountField.{AccountField}
+use Rattle.fields.specs.Text.{byte-front, no-account, account}
+use Rattle.fields.specs.Fields.{stops, made, field-of, field-at, word, account-made, account-behind, account-at}
 use Rattle.scanning.specs.Scans.{first-fields, first-closed, first-size}
 
 -- the line w begins with the field x of n bytes, which ends with s
@@ -77,10 +78,26 @@ cut-stop a bs l h = go (eqb a 9) (eqb a 10) refl refl h
 abbrev pub Bytes : List ℕ → Type 0
 Bytes w = (k : ℕ) → getD w k 0 < 256
 
--- what a field f that was read from the front of w tells of w
-pub data Reads (w : List ℕ) (f : Field) : Type 0 where
-  cut : Cut w (word f) (f .size) (f .stop) → Reads w f
-  long : f .stop ≡ 0 → (a b c : ℕ) (x : List ℕ) (more : List (List ℕ)) → first-fields w ≡ (a ∷ b ∷ c ∷ x) ∷ more → Reads w f
+-- what reading a field from the front of w tells of w, where no byte past the k-th is looked at: it is x of n bytes and ends with s, or has k bytes
+-- and more, and 0 stands for s
+pub data Reads-to (k : ℕ) (w x : List ℕ) (n s : ℕ) : Type 0 where
+  cut : Cut w x n s → Reads-to k w x n s
+  long : s ≡ 0 → (y : List ℕ) (more : List (List ℕ)) → k ≤ length y → first-fields w ≡ y ∷ more → Reads-to k w x n s
+
+-- a field that is no account
+abbrev pub Reads : (w : List ℕ) → (f : Field) → Type 0
+Reads w f = Reads-to 3 w (word f) (f .size) (f .stop)
+
+-- an account's field, and its bytes where they are few
+pub record Reads-account (w : List ℕ) (f : AccountField) : Type 0 where
+  pub bytes : List ℕ
+  pub says : f .account ≡ account bytes
+  pub read : Reads-to 4 w bytes (f .size) (f .stop)
+
+-- one byte more in front, and one more is looked at
+reads-step : {k n s : ℕ} {x : List ℕ} (a : ℕ) (bs : List ℕ) → stops a ≡ false → Reads-to k bs x n s → Reads-to (suc k) (a ∷ bs) (a ∷ x) (suc n) s
+reads-step a bs h (cut c) = cut (cut-step a bs h c)
+reads-step a bs h (long e y more l i) = long e (a ∷ y) more (omega arith) (plain-fields a bs h ∙ ap (byte-front a) i)
 
 -- a line has a first field
 pub record Some-field (w : List ℕ) : Type 0 where
@@ -100,7 +117,7 @@ some-field (b ∷ bs) = go (eqb b 10) refl (eqb b 9) refl (some-field bs)
 
 long-field : (a b c : ℕ) (w : List ℕ) → stops a ≡ false → stops b ≡ false → stops c ≡ false → Some-field w → Reads (a ∷ b ∷ c ∷ w) (made 3 0 0 0)
 long-field a b c w p q r s =
-    long refl a b c (s .front) (s .more)
+    long refl (a ∷ b ∷ c ∷ s .front) (s .more) (omega arith)
     (plain-fields a (b ∷ c ∷ w) p ∙ ap (byte-front a) (plain-fields b (c ∷ w) q ∙ ap (byte-front b) (plain-fields c w r ∙ ap (byte-front c) (s .is))))
 
 reads : (w : List ℕ) → Bytes w → Reads w (field-of (getD w 0 256) (getD w 1 256) (getD w 2 256))
@@ -144,3 +161,32 @@ reads-at s at f h e =
     let q : at + 0 ≡ at = add-zero at in
     let r : field-of (getD (drop at s) 0 256) (getD (drop at s) 1 256) (getD (drop at s) 2 256) ≡ f = simp (getD-drop, q) (sym e) in
     rw r at (reads (drop at s) (bytes-drop s at h))
+
+-- an account's first byte, and the field behind it
+reads-account : (w : List ℕ) → Bytes w → Reads-account w (account-at w 0)
+unfolding account account-at field-at stops
+reads-account [] h = record { bytes = []; says = refl; read = cut cut-end }
+reads-account (a ∷ bs) h = go (stops a) refl
+  where
+    rest : Field
+    rest = field-of (getD bs 0 256) (getD bs 1 256) (getD bs 2 256)
+
+    go : (t : Bool) → stops a ≡ t → Reads-account (a ∷ bs) (cond t (account-made no-account 0 a) (account-behind a rest))
+    go true p = record { bytes = []; says = refl; read = cut (cut-stop a bs (h 0) p) }
+    go false p =
+        let n : suc (rest .size) ≡ rest .size + 1 = omega arith in
+        record {
+          bytes = a ∷ word rest;
+          says = refl;
+          read = subst (λ n. Reads-to 4 (a ∷ bs) (a ∷ word rest) n (rest .stop)) n (reads-step a bs p (reads bs (λ k. h (suc k))));
+        }
+
+-- the account at a position, told of the text from there on
+pub reads-account-at : (s : List ℕ) (at : ℕ) (f : AccountField) → Bytes s → f ≡ account-at s at → Reads-account (drop at s) f
+unfolding account-at field-at
+reads-account-at s at f h e =
+    let q : at + 0 ≡ at = add-zero at in
+    let two : at + 2 ≡ at + 1 + 1 = omega arith in
+    let three : at + 3 ≡ at + 1 + 2 = omega arith in
+    let r : account-at (drop at s) 0 ≡ f = simp (getD-drop, q, two, three) (sym e) in
+    rw r at (reads-account (drop at s) (bytes-drop s at h))

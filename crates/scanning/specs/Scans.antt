@@ -10,7 +10,7 @@ use Rattle.scanning.specs.declared.Parsed.{Parsed}
 use Rattle.scanning.specs.declared.Parsed.the-variants.{Node as Parsed-node, Fault as No-node}
 use Rattle.scanning.specs.declared.Scanned.{Scanned}
 use Rattle.scanning.specs.declared.Scanned.the-variants.{Line as Scan-line, Fault as No-line}
-use Rattle.fields.specs.Text.{byte-front, single, account, node-of, with-account, line-of}
+use Rattle.fields.specs.Text.{byte-front, account, node-of, with-account, line-of}
 
 -- the first line of a text: its fields, whether byte 10 ends it, and its size
 unfoldable pub first-fields : List ℕ → List (List ℕ)
@@ -46,7 +46,7 @@ parts-say a k fs = with-account a (node-of k fs)
 
 unfoldable pub account-says : (kind : ℕ) → List (List ℕ) → Option Line
 account-says k [] = none
-account-says k (a ∷ more) = parts-say (account (single a)) k more
+account-says k (a ∷ more) = parts-say (account a) k more
 
 abbrev pub parts-scanned : (account kind at : ℕ) → List ℕ → Scanned
 parts-scanned a k at w = scan-by (parts-say a k) at w

@@ -3,6 +3,7 @@ ghost use mathlib.Core.Path.{_≡_};
 ghost use Prim.Native.Nat.{_≤_, _<_};
 ghost use lib.ListN.{length, drop};
 ghost use Rattle.syntax.specs.Letter.{is-letter};
+ghost use Rattle.syntax.specs.Table.{account-limit};
 ghost use Rattle.fields.specs.Text.{place, node-of-none, star-of, node-of-one, range-of, node-of-two};
 ghost use Rattle.fields.specs.Fields.{word};
 ghost use Rattle.scanning.specs.Scans.{parsed, finished, parts-scanned, account-scanned, scanned};
@@ -10,7 +11,7 @@ use fields::Field;
 use fields::NEWLINE;
 use fields::NO_PLACE;
 use fields::TAB;
-use fields::account_of;
+use fields::account_from;
 use fields::field_from;
 use fields::place_of;
 use fields::single_of;
@@ -145,7 +146,7 @@ fn finish(account: u8, what: Parsed, next: usize) -> Scanned
 
 // The fields from position `at` on are those that the kind needs.
 fn scan_parts(text: &[u8], at: usize, kind: u16, account: u8) -> Scanned
-    requires { ⌜ (at ≤ length (now text)) × (account < 10) ⌝ }
+    requires { ⌜ (at ≤ length (now text)) × (account ≤ account-limit) ⌝ }
     ensures { λ r. ⌜ r ≡ parts-scanned account kind at (drop at (now (text .entry))) ⌝ }
 {
     let x = field_from(text, at);
@@ -168,8 +169,8 @@ fn scan_account(text: &[u8], at: usize, kind: u16) -> Scanned
     requires { ⌜ at ≤ length (now text) ⌝ }
     ensures { λ r. ⌜ r ≡ account-scanned kind at (drop at (now (text .entry))) ⌝ }
 {
-    let a = field_from(text, at);
-    let account = account_of(single_of(a));
+    let a = account_from(text, at);
+    let account = a.account;
     if Pattern::MAX_ACCOUNT < account {
         return Scanned::Fault;
     }

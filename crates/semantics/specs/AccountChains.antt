@@ -8,7 +8,7 @@ use Prim.Native.Nat.{ℕ}
 use Rattle.syntax.specs.Letter.{is-letter, in-range}
 use Rattle.syntax.specs.Tree.{Label, Tree, nothing, letter, range, seq, alt, star}
 use Rattle.semantics.specs.Value.{Value}
-use Rattle.semantics.specs.Accounts.{join-rounds, accounts, litres, total, totals}
+use Rattle.semantics.specs.Accounts.{join-rounds, accounts, litres, total, totals-to}
 
 -- a node of account a, 0 for none; no place matters here
 abbrev of : (account : ℕ) → Label
@@ -68,6 +68,21 @@ pub stale-chains :
 unfolding accounts
 stale-chains = refl
 
+-- 02, Job 7: "Account 9 keeps Job 5's meaning", and no account that is new has it: 90, 99, 109, 19, 20 and 200 above another account hand down
+-- that one, below it they hide it, and under account 9 they are stale
+abbrev far : Parsed
+far = round false 99 (both 200 (digit 0) (digit 100))
+
+abbrev new-ones : List ℕ
+new-ones = 90 ∷ 99 ∷ 109 ∷ 19 ∷ 20 ∷ 200 ∷ []
+
+pub nine-alone :
+    join-rounds (λ a. charged (round false a (digit 3))) new-ones ∷ join-rounds (λ a. charged (both 3 (empty 0) (digit a))) new-ones
+    ∷ join-rounds (λ a. charged (round true 9 (digit a))) new-ones ∷ charged far ∷ []
+    ≡ (3 ∷ 3 ∷ 3 ∷ 3 ∷ 3 ∷ 3 ∷ []) ∷ (90 ∷ 99 ∷ 109 ∷ 19 ∷ 20 ∷ 200 ∷ []) ∷ (9 ∷ 9 ∷ 9 ∷ 9 ∷ 9 ∷ 9 ∷ []) ∷ (200 ∷ 100 ∷ []) ∷ []
+unfolding accounts
+nine-alone = refl
+
 -- 9 beside a part does nothing: an `E` of account 9 before or behind it, or a repetition of account 9 without rounds
 pub stale-beside :
     join-rounds charged
@@ -98,6 +113,12 @@ unfolding accounts
 stale-rounds = refl
 
 -- its totals: 10 litres for account 3, 5 for account 9, none for account 4
-pub stale-totals : totals (accounts (rounds false .0) (rounds false .1)) ≡ 0 ∷ 0 ∷ 0 ∷ 10 ∷ 0 ∷ 0 ∷ 0 ∷ 0 ∷ 0 ∷ 5 ∷ []
-unfolding accounts totals total litres
+pub stale-totals : totals-to 10 (accounts (rounds false .0) (rounds false .1)) ≡ 0 ∷ 0 ∷ 0 ∷ 10 ∷ 0 ∷ 0 ∷ 0 ∷ 0 ∷ 0 ∷ 5 ∷ []
+unfolding accounts totals-to total litres
 stale-totals = refl
+
+-- a digit 5 each for accounts 200 and 100, and nothing for accounts whose numbers are near or begin like these
+pub far-totals : map (λ a. total a (accounts (far .0) (far .1))) (0 ∷ 1 ∷ 2 ∷ 9 ∷ 10 ∷ 20 ∷ 99 ∷ 100 ∷ 199 ∷ 200 ∷ [])
+    ≡ 0 ∷ 0 ∷ 0 ∷ 0 ∷ 0 ∷ 0 ∷ 0 ∷ 5 ∷ 0 ∷ 5 ∷ []
+unfolding accounts total litres
+far-totals = refl

@@ -6,12 +6,12 @@ use mathlib.Core.List.{_++_, _∷_, List, [], map, map-append}
 use Prim.Native.Nat.{_*_, _+_, _-_, _<_, _≤_, suc, zero, ℕ}
 use native.Mathlib.Omega.{arith}
 use lib.Dec.{eqb, leb}
-use lib.ListN.{length}
-use Rattle.syntax.specs.Table.{stale}
+use lib.ListN.{length, getD, replicate}
+use Rattle.syntax.specs.Table.{account-limit, one-digit-limit, stale}
 use Rattle.syntax.specs.Tree.{Label, Tree, nothing, letter, range, seq, alt, star}
 use Rattle.semantics.specs.Value.{Value, flat-rounds, flat}
 use Rattle.semantics.specs.Visits.{label}
-use Rattle.semantics.specs.Accounts.{handed-down, owner, join-rounds, entries, accounts, litres, total, digits}
+use Rattle.semantics.specs.Accounts.{handed-down, owner, join-rounds, entries, accounts, litres, total, count-from, totals-to, totals, digits}
 use Rattle.semantics.specs.Innermost.{innermost, entries-with}
 use Rattle.semantics.specs.Basics.{and-snd, eqb-eq, eqb-no, leb-le}
 use Rattle.semantics.specs.VisitLaws.{All, all-append}
@@ -231,7 +231,63 @@ totals-add n (e ∷ es) h =
     sum-add n (λ a. cond (eqb (e .1) a) (litres (e .0)) 0) (λ a. total a es)
     ∙ ap₂ (λ x y. x + y) (pick-one n (e .1) (litres (e .0)) (h .0)) (totals-add n es (h .1))
 
--- 01: the ten totals "add up to the tape's digits"
+-- the total of each account stands at the account's own place
+totals-from : (n i a : ℕ) (es : List (ℕ × ℕ)) → a < n → getD (map (λ b. total b es) (count-from i n)) a 0 ≡ total (i + a) es
+totals-from zero i a es h = absurd (omega arith)
+totals-from (suc n) i zero es h = let e : i + 0 ≡ i = omega arith in ap (λ b. total b es) (sym e)
+totals-from (suc n) i (suc a) es h =
+    let e : suc i + a ≡ i + suc a = omega arith in
+    totals-from n (suc i) a es (omega arith) ∙ ap (λ b. total b es) e
+
+pub getD-totals : (n a : ℕ) (es : List (ℕ × ℕ)) → a < n → getD (totals-to n es) a 0 ≡ total a es
+unfolding totals-to
+getD-totals n a es h = let e : 0 + a ≡ a = omega arith in totals-from n 0 a es h ∙ ap (λ b. total b es) e
+
+pub totals-length : (n : ℕ) (es : List (ℕ × ℕ)) → length (totals-to n es) ≡ n
+unfolding totals-to
+totals-length n es = go n 0
+  where
+    go : (n i : ℕ) → length (map (λ b. total b es) (count-from i n)) ≡ n
+    go zero i = refl
+    go (suc n) i = ap suc (go n (suc i))
+
+-- 02, Job 7: "There are 201 totals", the last of them of account 200
+pub totals-many : (es : List (ℕ × ℕ)) → length (totals es) ≡ 201
+unfolding totals
+totals-many es = totals-length (account-limit + 1) es
+
+-- an account that no entry has is without litres
+pub total-none : (n a : ℕ) (es : List (ℕ × ℕ)) → All (λ e. e .1 < n) es → n ≤ a → total a es ≡ 0
+unfolding total
+total-none n a [] h k = refl
+total-none n a (e ∷ es) h k = go (eqb (e .1) a) refl (total-none n a es (h .1) k)
+  where
+    go : (b : Bool) → eqb (e .1) a ≡ b → total a es ≡ 0 → cond b (litres (e .0)) 0 + total a es ≡ 0
+    go true q z = absurd (omega (arith, eqb-eq (e .1) a q, h .0))
+    go false q z = omega arith
+
+-- 02, Job 7: an old pattern's totals are "the old ten followed by zeros"; so for any two counts
+pub totals-longer : (n m : ℕ) (es : List (ℕ × ℕ)) → All (λ e. e .1 < n) es → totals-to (n + m) es ≡ totals-to n es ++ replicate m 0
+unfolding totals-to
+totals-longer n m es h = go n 0 (omega arith)
+  where
+    zeros : (k i : ℕ) → n ≤ i → map (λ b. total b es) (count-from i k) ≡ replicate k 0
+    zeros zero i l = refl
+    zeros (suc k) i l = ap₂ (λ x xs. x ∷ xs) (total-none n i es h l) (zeros k (suc i) (omega arith))
+
+    go : (k i : ℕ) → i + k ≡ n → map (λ b. total b es) (count-from i (k + m)) ≡ map (λ b. total b es) (count-from i k) ++ replicate m 0
+    go zero i e = let z : 0 + m ≡ m = omega arith in ap (λ j. map (λ b. total b es) (count-from i j)) z ∙ zeros m i (omega arith)
+    go (suc k) i e =
+        let z : suc k + m ≡ suc (k + m) = omega arith in
+        ap (λ j. map (λ b. total b es) (count-from i j)) z ∙ ap (λ xs. total i es ∷ xs) (go k (suc i) (omega arith))
+
+-- of entries of 01's accounts the totals are the old ten, and 0 for each account that is new
+pub totals-old : (es : List (ℕ × ℕ)) → All (λ e. e .1 < one-digit-limit + 1) es
+    → totals es ≡ totals-to (one-digit-limit + 1) es ++ replicate (account-limit - one-digit-limit) 0
+unfolding totals
+totals-old es h = totals-longer (one-digit-limit + 1) (account-limit - one-digit-limit) es h
+
+-- 01: the totals "add up to the tape's digits"
 pub totals-digits : (n : ℕ) (t : Tree) (v : Value t) → Accounts n t → 0 < n → sum-below n (λ a. total a (accounts t v)) ≡ digits (flat t v)
 unfolding accounts
 totals-digits n t v h k = totals-add n (entries t 0 v) (entries-below n t 0 v h k) ∙ ap digits (entries-flat t 0 v)

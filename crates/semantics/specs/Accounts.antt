@@ -2,9 +2,9 @@
 use mathlib.Core.Bool.{_&&_, cond}
 use mathlib.Core.Logic.{inl, inr}
 use mathlib.Core.List.{_++_, _∷_, List, [], map}
-use Prim.Native.Nat.{_+_, _-_, ℕ}
+use Prim.Native.Nat.{_+_, _-_, suc, zero, ℕ}
 use lib.Dec.{eqb, leb}
-use Rattle.syntax.specs.Table.{stale}
+use Rattle.syntax.specs.Table.{account-limit, stale}
 use Rattle.syntax.specs.Tree.{Label, Tree, nothing, letter, range, seq, alt, star}
 use Rattle.semantics.specs.Value.{Value}
 
@@ -44,9 +44,18 @@ unfoldable pub total : (account : ℕ) → List (ℕ × ℕ) → ℕ
 total a [] = 0
 total a (e ∷ es) = cond (eqb (e .1) a) (litres (e .0)) 0 + total a es
 
--- 01: "The ten totals"
+-- the n numbers from i on
+abbrev pub count-from : (i n : ℕ) → List ℕ
+count-from i zero = []
+count-from i (suc n) = i ∷ count-from (suc i) n
+
+-- the totals of the accounts below n
+unfoldable pub totals-to : (n : ℕ) → List (ℕ × ℕ) → List ℕ
+totals-to n es = map (λ a. total a es) (count-from 0 n)
+
+-- 02, Job 7: "There are 201 totals", of accounts 0 to 200
 unfoldable pub totals : List (ℕ × ℕ) → List ℕ
-totals es = map (λ a. total a es) (0 ∷ 1 ∷ 2 ∷ 3 ∷ 4 ∷ 5 ∷ 6 ∷ 7 ∷ 8 ∷ 9 ∷ [])
+totals es = totals-to (account-limit + 1) es
 
 -- 01: "the tape's digits", added up
 unfoldable pub digits : List ℕ → ℕ

@@ -13,7 +13,7 @@ use Rattle.bits.specs.Bits.{bits-of}
 use Rattle.semantics.specs.Value.{Value, flat}
 use Rattle.semantics.specs.Code.{IsCode, Spells, Canonical}
 use Rattle.semantics.specs.Visits.{Visit, visit}
-use Rattle.semantics.specs.Accounts.{accounts, litres, total, totals}
+use Rattle.semantics.specs.Accounts.{accounts, litres, total, totals-to}
 use Rattle.semantics.specs.Decode.{value-of, is-code, spelled}
 use Rattle.semantics.specs.Sweeps.{readable, greedy}
 use Rattle.semantics.specs.Basics.{not-both}
@@ -194,10 +194,10 @@ across-values v = go (across-gap (v .0) (v .1))
 -- ── the listing's accounts: 3 litres to account 1, 2 to account 9; and visit 1 of node 4, which covers `W2` ──
 abbrev totals-of : Option (Value Listing) → List ℕ
 totals-of none = []
-totals-of (some v) = totals (accounts Listing v)
+totals-of (some v) = totals-to 10 (accounts Listing v)
 
 pub listing-totals : totals-of (value-of Listing listing-code) ≡ 0 ∷ 3 ∷ 0 ∷ 0 ∷ 0 ∷ 0 ∷ 0 ∷ 0 ∷ 0 ∷ 2 ∷ []
-unfolding value-of totals accounts total litres in-range is-letter
+unfolding value-of totals-to accounts total litres in-range is-letter
 listing-totals = refl
 
 abbrev span-of : Option Visit → List ℕ

@@ -39,9 +39,13 @@ node-good (Sequence p q) = true
 node-good (Alternative p q) = true
 node-good (Star again p) = true
 
--- 01: "Account is `-` or a digit 1 to 9"; in code `Pattern::MAX_ACCOUNT`
+-- 02, Job 7: "The account field grows to 1 to 200"; in code `Pattern::MAX_ACCOUNT`
 abbrev pub account-limit : ℕ
-account-limit = 9
+account-limit = 200
+
+-- 01: "Account is `-` or a digit 1 to 9". The limit before 02's Job 7: nothing is tested by it, and laws say by it what an old text still gives.
+abbrev pub one-digit-limit : ℕ
+one-digit-limit = 9
 
 -- 02, Job 5: litres "at or under a node of account 9 are stale"; in code `Pattern::STALE_ACCOUNT`
 abbrev pub stale : ℕ

@@ -50,7 +50,10 @@ impl Pattern {
     pub const MAX_CODE_BITS: u32 = 524288;
 
     // Accounts are 1 to this; 0 stands for none.
-    pub const MAX_ACCOUNT: u8 = 9;
+    pub const MAX_ACCOUNT: u8 = 200;
+
+    // How many totals there are: of accounts 0 to `MAX_ACCOUNT`.
+    pub const ACCOUNTS: usize = 201;
 
     // The account of litres that are "stale" (02): what is at or under a node of it stays in it.
     pub const STALE_ACCOUNT: u8 = 9;

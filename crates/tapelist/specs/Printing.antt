@@ -5,10 +5,11 @@ use mathlib.Core.List.{List}
 use Prim.Native.Nat.{ℕ, _≤_, _<_}
 use lib.ListN.{take}
 use Rattle.listing.specs.Listing.{listing-of}
+use Rattle.listing.specs.Shortened.{text-bytes}
 
 -- bytes of a pattern's text and of a tape that decide the listing (`listing-short` of crate listing)
 abbrev pub text-least : ℕ
-text-least = 1025
+text-least = text-bytes
 
 abbrev pub tape-least : ℕ
 tape-least = 3602

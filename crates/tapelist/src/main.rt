@@ -9,8 +9,8 @@ use listing::Listed;
 use listing::MAX_LISTING;
 use listing::list;
 
-// Bytes held of each file. The first 1,025 bytes of a pattern's text and the first 3,602 of a tape give the listing of the
-// whole files: law `listing-short` of crate listing.
+// Bytes held of each file. The first `text-bytes` bytes of a pattern's text, 1,025, and the first 3,602 of a tape give the listing
+// of the whole files: law `listing-short` of crate listing.
 const MAX_TEXT: usize = 4096;
 
 const MAX_TAPE: usize = 4096;

@@ -7,3 +7,4 @@ pub mod Orders
 pub mod Along
 pub mod TermLaws
 pub mod TermTable
+pub mod OldTerms

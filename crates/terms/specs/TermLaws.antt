@@ -5,7 +5,7 @@ use mathlib.Core.List.{List, [], _∷_, _++_}
 use Prim.Native.Nat.{ℕ, _+_, _*_, _<_}
 use native.Mathlib.Omega.{arith}
 use lib.Dec.{eqb}
-use lib.ListN.{getD}
+use lib.ListN.{length, getD}
 use borrow.Author.Tests.{not-false}
 use Rattle.syntax.specs.declared.Pattern.{Pattern}
 use Rattle.syntax.specs.Bools.{and-fst, and-snd}
@@ -15,17 +15,15 @@ use Rattle.refusals.specs.Checks.{Clear}
 use Rattle.calendar.specs.declared.Date.{Date}
 use Rattle.calendar.specs.Dates.{is-date, is-after}
 use Rattle.calendar.specs.DateLaws.{first-date, last-date, first-of-all, last-of-all}
-use Rattle.semantics.specs.Accounts.{accounts, litres, total, totals, digits}
-use Rattle.semantics.specs.AccountLaws.{letters, entries-below, totals-add}
+use Rattle.semantics.specs.Accounts.{litres, total, totals, digits}
+use Rattle.semantics.specs.AccountLaws.{letters, totals-add, getD-totals}
 use Rattle.semantics.specs.VisitLaws.{All}
-use Rattle.walks.specs.Whole.{whole-code}
-use Rattle.walks.specs.WholeLaws.{whole-value}
 use Rattle.entries.specs.Entries.{Entries}
 use Rattle.totals.specs.declared.Totalled.{Totalled}
 use Rattle.totals.specs.declared.TotalsOutcome.the-variants.{Added as All-added}
-use Rattle.totals.specs.Totals.{entries-by, entries-of, totals-order, totals-answer, totals-litres, no-litres, Totals}
-use Rattle.totals.specs.Sums.{charge-totals, sum-total}
-use Rattle.totals.specs.TotalsLaws.{root-accounts, totals-added, sum-list}
+use Rattle.totals.specs.Totals.{entries-of, totals-order, totals-answer, totals-litres, no-litres, Totals}
+use Rattle.totals.specs.Sums.{charge-totals}
+use Rattle.totals.specs.TotalsLaws.{root-accounts, entries-few, totals-added, many-or-none, sum-list, sum-totals}
 use Rattle.totals.specs.Unique.{totals-one}
 use Rattle.terms.specs.declared.TermOutcome.{TermOutcome}
 use Rattle.terms.specs.declared.TermOutcome.the-variants.{Added}
@@ -40,7 +38,7 @@ outside-none : (f l : Date) (xs : List Dated) → Outside f l xs → within f l 
 outside-none f l [] k = refl
 outside-none f l (x ∷ xs) k = rw (k .0) (outside-none f l xs (k .1))
 
-within-all : (P : ℕ × ℕ → Type 0) (f l : Date) (xs : List Dated) → All P (entry-list xs) → All P (within f l xs)
+pub within-all : (P : ℕ × ℕ → Type 0) (f l : Date) (xs : List Dated) → All P (entry-list xs) → All P (within f l xs)
 within-all P f l [] h = tt
 within-all P f l (x ∷ xs) h = go (in-term f l (x .date)) (within-all P f l xs (h .1))
   where
@@ -111,21 +109,14 @@ sum-account a [] = 0
 sum-account a (r ∷ rs) = getD (r .litres) a 0 + sum-account a rs
 
 -- ── accounts ──
-getD-totals : (es : Entries) (a : ℕ) → a < account-limit + 1 → getD (totals es) a 0 ≡ total a es
-getD-totals es a h = ap (λ s. getD s a 0) (sym (charge-totals es)) ∙ sum-total es a h
+total-at : (es : Entries) (a : ℕ) → a < account-limit + 1 → getD (totals es) a 0 ≡ total a es
+unfolding totals
+total-at es a h = getD-totals (account-limit + 1) a es h
 
 -- over known accounts the totals add up to the digits
 sum-digits : (es : Entries) → All (λ e. e .1 < account-limit + 1) es → sum-list (totals es) ≡ digits (letters es)
 unfolding totals
-sum-digits es h = omega (arith, totals-add (account-limit + 1) es h)
-
-entries-few : (p : Pattern) (code : List ℕ) (count : ℕ) → Clear (totals-order p code count)
-    → All (λ e. e .1 < account-limit + 1) (entries-of (root p) code count)
-unfolding entries-of accounts
-entries-few p code count c =
-    let (v, e) = whole-value (root p) code count (not-false (whole-code (root p) code count) (c .1 .0)) in
-    subst (λ o. All (λ x. x .1 < account-limit + 1) (entries-by (root p) o)) (sym e)
-    (entries-below (account-limit + 1) (root p) 0 v (root-accounts p (not-false (obeys p) (c .0))) (omega arith))
+sum-digits es h = sum-totals (account-limit + 1) es ∙ totals-add (account-limit + 1) es h
 
 clear-litres : (p : Pattern) (code : List ℕ) (count : ℕ) → Clear (totals-order p code count) → (t : Totalled) → Totals p code count t
     → t .litres ≡ totals (entries-of (root p) code count)
@@ -133,10 +124,16 @@ clear-litres p code count c t g =
     let es = entries-of (root p) code count in
     totals-one p code count t (record { outcome = All-added; litres = totals es }) g (totals-added p code count c (totals es) refl) .1
 
+-- 02, Job 7: "There are 201 totals", refused or not
+pub term-litres-many : (p : Pattern) (code : List ℕ) (count : ℕ) (start first last : Date)
+    → length (terms-litres p code count start first last) ≡ account-limit + 1
+unfolding terms-litres
+term-litres-many p code count start first last =
+    many-or-none (eqb (terms-answer p code count start first last .number) 0) (within first last (dated start (entries-of (root p) code count)))
+
 -- the litres of no letters
 no-entries : totals [] ≡ no-litres
-unfolding totals total
-no-entries = refl
+no-entries = sym (charge-totals [])
 
 zeros : (b : Bool) → cond b (totals []) no-litres ≡ no-litres
 zeros true = no-entries
@@ -190,7 +187,7 @@ module _ (p : Pattern) (code : List ℕ) (count : ℕ) (start : Date) where
         ap sum-list (k .sums)
         ∙ sum-digits (within first last (dated start es))
         (within-all (λ x. x .1 < account-limit + 1) first last (dated start es)
-        (subst (All (λ x. x .1 < account-limit + 1)) (sym (dated-entries es start)) (entries-few p code count (k .clear))))
+        (subst (All (λ x. x .1 < account-limit + 1)) (sym (dated-entries es start)) (entries-few (account-limit + 1) (root p) (root-accounts p (not-false (obeys p) (k .clear .0))) (omega arith) code count)))
 
   -- the term of all days has the totals of the whole tape
   pub term-of-all : (r : TermTotalled) → Term-totals p code count start first-date last-date r → r .outcome ≡ Added
@@ -218,7 +215,7 @@ module _ (p : Pattern) (code : List ℕ) (count : ℕ) (start : Date) where
   each-over a h (t ∷ ts) [] k = absurd k
   each-over a h (t ∷ ts) (r ∷ rs) k =
       let one = ap (λ s. getD s a 0) (cleared (t .0) (t .1) r (k .0) (k .1) .sums)
-      ∙ getD-totals (within (t .0) (t .1) tape-dated) a h in
+      ∙ total-at (within (t .0) (t .1) tape-dated) a h in
       let more = each-over a h ts rs (k .2) in
       omega arith
 
@@ -240,4 +237,4 @@ module _ (p : Pattern) (code : List ℕ) (count : ℕ) (start : Date) where
   terms-part ts rs k d t g a h =
       let es = entries-of (root p) code count in
       each-over a h ts rs k ∙ terms-add-up a ts (dated start es) d ∙ ap (total a) (dated-entries es start)
-      ∙ sym (ap (λ s. getD s a 0) (whole-litres ts rs k d t g) ∙ getD-totals es a h)
+      ∙ sym (ap (λ s. getD s a 0) (whole-litres ts rs k d t g) ∙ total-at es a h)

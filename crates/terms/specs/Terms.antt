@@ -1,4 +1,4 @@
--- Totals within a billing term: the date of each letter, the answer and the ten totals, for every input. Definitions only.
+-- Totals within a billing term: the date of each letter, the answer and the totals, for every input. Definitions only.
 use mathlib.Core.Path.{_≡_}
 use mathlib.Core.Bool.{Bool, true, _&&_, not, cond}
 use mathlib.Core.List.{List, [], _∷_}

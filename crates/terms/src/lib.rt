@@ -21,7 +21,6 @@ use refusals::value_of;
 use sums::add_term;
 use syntax::Pattern;
 use totals::Gathered;
-use totals::Totalled;
 use totals::gather;
 
 // Why totalling within a term refuses: as totalling does, or for its dates.
@@ -37,10 +36,10 @@ pub enum TermOutcome {
     Refused(TermRefusal),
 }
 
-// The answer, and the litres of accounts 0 to 9.
+// The answer, and the litres of accounts 0 to `Pattern::MAX_ACCOUNT`.
 pub struct TermTotalled {
     pub outcome: TermOutcome,
-    pub litres: [u32; 10],
+    pub litres: [u32; Pattern::ACCOUNTS],
 }
 
 // The number of a cause: 02 gives 11 and 12, 01's table the others.
@@ -70,7 +69,7 @@ fn no_term_totals(why: TermRefusal) -> TermTotalled
 {
     TermTotalled {
         outcome: TermOutcome::Refused(why),
-        litres: [0; Totalled::ACCOUNTS],
+        litres: [0; Pattern::ACCOUNTS],
     }
 }
 

@@ -10,7 +10,7 @@ ghost use Rattle.terms.specs.Terms.{dated, within};
 use crate::days::day_of;
 use crate::days::next_day;
 use calendar::Date;
-use totals::Totalled;
+use syntax::Pattern;
 use totals::sums::charge_letter;
 
 // Adds a letter's litres to the sum of its account where its date lies in the term.
@@ -31,11 +31,11 @@ pub(crate) fn add_term(
     start: Date,
     first: Date,
     last: Date,
-) -> [u32; 10]
+) -> [u32; Pattern::ACCOUNTS]
     requires { ⌜ (n ≤ length (now letters)) × (n ≤ letter-limit) × Owned (now accounts) n ⌝ }
     ensures { λ r. ⌜ r ≡ totals (within first last (dated start (pairs n (now (letters .entry)) (now (accounts .entry))))) ⌝ }
 {
-    let mut sums: [u32; 10] = [0; Totalled::ACCOUNTS];
+    let mut sums: [u32; Pattern::ACCOUNTS] = [0; Pattern::ACCOUNTS];
     let mut day = day_of(first, last, start);
     let mut i = 0;
     while i < n {

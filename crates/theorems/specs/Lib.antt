@@ -6,11 +6,13 @@ pub mod Passed
 -- What reading answers and leaves, handed on to the other services; for tables and for the calls from C.
 pub mod RoundTrip
 pub mod RoundTripText
+-- What a text of 01's accounts still gives.
+pub mod OldTexts
 -- The third demand for pattern texts and the call from C.
 pub mod ThirdDemand
 pub mod ThirdDemanded
 -- The statements of document 03 over pattern texts, under 03's names, by the definitions of this repository. 03's own definitions stand here
--- word for word but for kind `Z` of 02, Job 2.
+-- word for word but for kind `Z`, the letters of the hot side and accounts above 9 (02, Jobs 2, 3 and 7).
 pub mod Paper03Pattern
 pub mod Paper03Codes
 pub mod Numbers
@@ -28,6 +30,6 @@ pub mod Paper03Promise
 pub mod Paper03Promised
 pub mod Paper03Entry
 pub mod Paper03Spell
--- Where a text has no line of kind `Z` they are 03's as 03 has them.
+-- Where a text has none of these three they are 03's as 03 has them.
 pub mod Paper03Plain
 pub mod Paper03PlainLaws

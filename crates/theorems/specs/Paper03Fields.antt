@@ -10,7 +10,10 @@ use lib.Dec.{ltb, leb, eqb}
 use lib.ListN.{length, getD}
 use Rattle.syntax.specs.Bools.{and-fst, and-snd}
 use Rattle.syntax.specs.Letter.{is-letter}
-use Rattle.fields.specs.Text.{Row, byte-front, row-front, rows, digit, one-digit, two-digits, place, single, account}
+use Rattle.syntax.specs.Table.{account-limit}
+use Rattle.fields.specs.Text.{Row, byte-front, row-front, rows, digit, one-digit, two-digits, place, single}
+use Rattle.fields.specs.Text.{all-digits, decimal, no-account, account-number, account}
+use Rattle.fields.specs.AccountLaws.{digit-is, account-long}
 use Rattle.theorems.specs.Paper03Pattern.{Line as Text-line, put-front, closed-empty, lines, put-piece, fields, is-digit, place-value, is-place}
 use Rattle.theorems.specs.Paper03Pattern.{letter-byte, is-letter as is-letter-field, account-value}
 
@@ -94,11 +97,76 @@ is-place-same w h = let e = place-same w (ltb-true (place-value w) 64 h) in (e, 
 pub long : (more : List ℕ) → eqb (suc (suc (length more))) 1 ≡ false
 long more = ne-eqb (suc (suc (length more))) 1 (λ z. omega arith)
 
-pub account-same : (w : List ℕ) → account-value w ≡ account (single w)
-unfolding account-value account single
+-- a byte that is a digit, and one that is none
+byte-digit : (b : ℕ) → is-digit b ≡ true → digit b ≡ b - 48
+unfolding is-digit digit
+byte-digit b h = rw h
+
+byte-other : (b : ℕ) → is-digit b ≡ false → digit b ≡ 10
+unfolding is-digit digit
+byte-other b h = rw h
+
+pub byte-small : (b : ℕ) → is-digit b ≡ true → b ≤ 57
+unfolding is-digit
+byte-small b h = leb-true b 57 (and-snd (leb 48 b) (leb b 57) h)
+
+pub account-same : (w : List ℕ) → account-value w ≡ account w
+unfolding account-value account account-number all-digits decimal
 account-same [] = refl
-account-same (a ∷ []) = refl
-account-same (a ∷ b ∷ more) = rw (long more) refl
+account-same (a ∷ []) = go (eqb a 45) (leb 49 a) refl (leb a 57) refl
+  where
+    go : (dash x : Bool) → leb 49 a ≡ x → (y : Bool) → leb a 57 ≡ y
+        → cond dash 0 (cond (x && y) (a - 48) 201) ≡ cond dash 0 (cond ((x && y) && (true && leb (digit a) account-limit)) (digit a) no-account)
+    go true x p y q = refl
+    go false true p true q =
+        let l = leb-true 49 a p in
+        let u = leb-true a 57 q in
+        rw (digit-is a (omega arith) u, le-leb (a - 48) account-limit (omega arith)) refl
+    go false true p false q = refl
+    go false false p y q = refl
+account-same (a ∷ b ∷ []) = go (leb 49 a) refl (leb a 57) refl (is-digit b) refl
+  where
+    go : (x : Bool) → leb 49 a ≡ x → (y : Bool) → leb a 57 ≡ y → (z : Bool) → is-digit b ≡ z
+        → cond ((x && y) && z) (10 * (a - 48) + (b - 48)) 201
+        ≡ cond ((x && y) && ((ltb (digit b) 10 && true) && leb (10 * digit a + digit b) account-limit)) (10 * digit a + digit b) no-account
+    go true p true q true r =
+        let l = leb-true 49 a p in
+        let u = leb-true a 57 q in
+        let s = byte-small b r in
+        rw (
+          digit-is a (omega arith) u,
+          byte-digit b r,
+          lt-ltb (b - 48) 10 (omega arith),
+          le-leb (10 * (a - 48) + (b - 48)) account-limit (omega arith),
+        ) refl
+    go true p true q false r = rw (byte-other b r) refl
+    go true p false q z r = refl
+    go false p y q z r = refl
+account-same (a ∷ b ∷ c ∷ []) = go (leb 49 a) refl (leb a 57) refl (is-digit b) refl (is-digit c) refl
+  where
+    go : (x : Bool) → leb 49 a ≡ x → (y : Bool) → leb a 57 ≡ y → (z : Bool) → is-digit b ≡ z → (w : Bool) → is-digit c ≡ w
+        → cond ((x && y) && (z && (w && leb (10 * (10 * (a - 48) + (b - 48)) + (c - 48)) 200))) (10 * (10 * (a - 48) + (b - 48)) + (c - 48)) 201
+        ≡ cond ((x && y) && ((ltb (digit b) 10 && (ltb (digit c) 10 && true)) && leb (10 * (10 * digit a + digit b) + digit c) account-limit))
+        (10 * (10 * digit a + digit b) + digit c) no-account
+    go true p true q true r true t =
+        let l = leb-true 49 a p in
+        let u = leb-true a 57 q in
+        let s = byte-small b r in
+        let m = byte-small c t in
+        rw (
+          digit-is a (omega arith) u,
+          byte-digit b r,
+          byte-digit c t,
+          lt-ltb (b - 48) 10 (omega arith),
+          lt-ltb (c - 48) 10 (omega arith),
+        ) refl
+    go true p true q true r false t =
+        let s = byte-small b r in
+        rw (byte-digit b r, byte-other c t, lt-ltb (b - 48) 10 (omega arith)) refl
+    go true p true q false r w t = rw (byte-other b r) refl
+    go true p false q z r w t = refl
+    go false p y q z r w t = refl
+account-same (a ∷ b ∷ c ∷ d ∷ more) = sym (account-long (a ∷ b ∷ c ∷ d ∷ more) (omega arith))
 
 pub letter-same : (w : List ℕ) → is-letter-field w ≡ true → (is-letter (single w) ≡ true) × (getD w 0 0 ≡ single w)
 unfolding is-letter-field letter-byte is-letter single

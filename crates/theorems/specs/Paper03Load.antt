@@ -5,7 +5,7 @@ use mathlib.Core.Option.{none, some}
 use mathlib.Core.List.{List, [], _∷_, map}
 use Prim.Native.Nat.{ℕ, suc, _-_, _≤_, _<_}
 use native.Mathlib.Omega.{arith}
-use borrow.Author.Tests.{leb-false, ltb-true, lt-ltb, eqb-true, eq-eqb}
+use borrow.Author.Tests.{leb-false, le-leb, ltb-true, lt-ltb, eqb-true, eq-eqb}
 use lib.Dec.{ltb, leb, eqb}
 use lib.ListN.{length, getD}
 use Rattle.syntax.specs.declared.Leaf.the-variants.{Nothing, Letter, Range}
@@ -13,6 +13,7 @@ use Rattle.syntax.specs.declared.Node.{Node as Own-node}
 use Rattle.syntax.specs.declared.Node.the-variants.{Leaf as Leaf-node, Sequence, Alternative, Star}
 use Rattle.syntax.specs.declared.Line.{Line}
 use Rattle.syntax.specs.Bools.{and-fst, and-snd, and-intro}
+use Rattle.syntax.specs.Table.{account-limit}
 use Rattle.fields.specs.Text.{place, single, account, when, star-of}
 use Rattle.fields.specs.Text.{node-of-none, node-of-one, range-of, parts-of, node-of-two, node-of, with-account, line-of, row-line}
 use Rattle.fields.specs.Text.{good, fault, line-front, forms}
@@ -195,8 +196,11 @@ five p q u x y k c (is-L e z) l h = absurd (never k (p ∷ q ∷ u ∷ x ∷ y �
 five p q u x y k c (is-star s e z) l h = absurd (never k (p ∷ q ∷ u ∷ x ∷ y ∷ []) (star-kind s) z (star-five s p q u x y) h)
 five p q u x y k c (no-kind z) l h = absurd (too-many k z l)
 
+account-few : (c : ℕ) → ltb c 201 ≡ true → leb c account-limit ≡ true
+account-few c h = let l = ltb-true c 201 h in le-leb c account-limit (omega arith)
+
 -- the fields of a line, from the first on
-by-fields : (i : ℕ) (ws : List (List ℕ)) → i < 64 → eqb (place-value (field ws 0)) i ≡ true → ltb (account-value (field ws 2)) 10 ≡ true
+by-fields : (i : ℕ) (ws : List (List ℕ)) → i < 64 → eqb (place-value (field ws 0)) i ≡ true → ltb (account-value (field ws 2)) 201 ≡ true
     → ltb (kind-value (field ws 1)) 7 ≡ true → needs (kind-value (field ws 1)) ws ≡ true
     → (l : Line) × (line-of i ws ≡ some l) × (node-by (kind-value (field ws 1)) (account-value (field ws 2)) ws ≡ line-as l)
 unfolding line-of field
@@ -219,12 +223,12 @@ by-fields i (p ∷ q ∷ u ∷ more) s a b c h = done (node more h)
     own = let e = eqb-true (place-value p) i a in place-same p (omega arith) ∙ e
 
     done : Says (single q) more (kind-value q) (account-value u) (p ∷ q ∷ u ∷ more)
-        → (l : Line) × (cond (eqb (place p) i) (with-account (account (single u)) (node-of (single q) more)) none ≡ some l)
+        → (l : Line) × (cond (eqb (place p) i) (with-account (account u) (node-of (single q) more)) none ≡ some l)
         × (node-by (kind-value q) (account-value u) (p ∷ q ∷ u ∷ more) ≡ line-as l)
     done (n, e, f) = (
       record { account = account-value u; node = n },
-      ap (λ y. cond y (with-account (account (single u)) (node-of (single q) more)) none) (eq-eqb (place p) i own)
-          ∙ ap₂ with-account (sym (account-same u)) e ∙ ap (λ y. when y (record { account = account-value u; node = n })) b,
+      ap (λ y. cond y (with-account (account u) (node-of (single q) more)) none) (eq-eqb (place p) i own)
+          ∙ ap₂ with-account (sym (account-same u)) e ∙ ap (λ y. when y (record { account = account-value u; node = n })) (account-few (account-value u) b),
       f,
     )
 
@@ -239,13 +243,13 @@ line-in i x s h =
     let ws = fields (x .text) in
     let k = kind-value (field ws 1) in
     let placed = x .closed && eqb (place-value (field ws 0)) i in
-    let known = ltb (account-value (field ws 2)) 10 && ltb k 7 in
+    let known = ltb (account-value (field ws 2)) 201 && ltb k 7 in
     let first = and-fst (placed && known) (needs k ws) h in
     let front = and-fst placed known first in
     let back = and-snd placed known first in
     let (l, e, f) =
-    by-fields i ws s (and-snd (x .closed) (eqb (place-value (field ws 0)) i) front) (and-fst (ltb (account-value (field ws 2)) 10) (ltb k 7) back)
-    (and-snd (ltb (account-value (field ws 2)) 10) (ltb k 7) back) (and-snd (placed && known) (needs k ws) h) in
+    by-fields i ws s (and-snd (x .closed) (eqb (place-value (field ws 0)) i) front) (and-fst (ltb (account-value (field ws 2)) 201) (ltb k 7) back)
+    (and-snd (ltb (account-value (field ws 2)) 201) (ltb k 7) back) (and-snd (placed && known) (needs k ws) h) in
     (l, ended i (fields (x .text)) l (x .closed) (and-fst (x .closed) (eqb (place-value (field ws 0)) i) front) e, f)
 
 -- and so are all lines

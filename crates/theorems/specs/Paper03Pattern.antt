@@ -1,5 +1,5 @@
--- Document 03's specs/Pattern.antt, word for word but for kind `Z` of 02, Job 2, and the letters of 02, Job 3: pattern texts, nodes, and
--- refusals 1 and 2 with their lines.
+-- Document 03's specs/Pattern.antt, word for word but for kind `Z` of 02, Job 2, the letters of 02, Job 3, and the accounts of 02, Job 7: pattern
+-- texts, nodes, and refusals 1 and 2 with their lines.
 -- Above each line that is not 03's a comment names the job; Paper03Plain has 03's own of these. Definitions only.
 use mathlib.Core.Bool.{Bool, true, false, _&&_, _||_, not, cond}
 use mathlib.Core.List.{List, [], _∷_, _++_}
@@ -67,8 +67,14 @@ unfoldable pub is-letter : List ℕ → Bool
 -- 02, Job 3: a letter of either side, where 03 has 33 to 126
 is-letter w = eqb (length w) 1 && letter-byte (getD w 0 0)
 
+-- 02, Job 7: "The account field grows to 1 to 200, one to three digits without leading zeros"; 201 is no account, where 03 has 10
 unfoldable pub account-value : List ℕ → ℕ
-account-value w = cond (eqb (length w) 1) (cond (eqb (getD w 0 0) 45) 0 (cond (leb 49 (getD w 0 0) && leb (getD w 0 0) 57) (getD w 0 0 - 48) 10)) 10
+account-value [] = 201
+account-value (a ∷ []) = cond (eqb a 45) 0 (cond (leb 49 a && leb a 57) (a - 48) 201)
+account-value (a ∷ b ∷ []) = cond ((leb 49 a && leb a 57) && is-digit b) (10 * (a - 48) + (b - 48)) 201
+account-value (a ∷ b ∷ c ∷ []) =
+    let v = 10 * (10 * (a - 48) + (b - 48)) + (c - 48) in cond ((leb 49 a && leb a 57) && (is-digit b && (is-digit c && leb v 200))) v 201
+account-value (a ∷ b ∷ c ∷ d ∷ more) = 201
 
 unfoldable pub kind-value : List ℕ → ℕ
 kind-value w =
@@ -89,8 +95,8 @@ line-good i x =
     let l4 = is-letter (field ws 4) in
     let p3 = is-place (field ws 3) in
     let p4 = is-place (field ws 4) in
-    -- 02, Job 2: kinds are below 7, where 03 has 6
-    let first = (x .closed && eqb (place-value (field ws 0)) i) && (ltb (account-value (field ws 2)) 10 && ltb k 7) in
+    -- 02, Job 2: kinds are below 7, where 03 has 6; Job 7: accounts are below 201, where 03 has 10
+    let first = (x .closed && eqb (place-value (field ws 0)) i) && (ltb (account-value (field ws 2)) 201 && ltb k 7) in
     first
     && cond (eqb k 0) (eqb (length ws) 3)
     (cond (eqb k 1) (eqb (length ws) 4 && l3)

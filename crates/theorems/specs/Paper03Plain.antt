@@ -1,12 +1,12 @@
--- Document 03's own definitions, word for word, where kind `Z` of 02, Job 2, or the letters of 02, Job 3, change them or what they rest on:
--- kinds 0 to 5, and 6 for none; letters 33 to 126. Paper03PlainLaws says that nothing has changed where no line is of kind `Z` and none names a
--- letter of the hot side. Definitions only.
+-- Document 03's own definitions, word for word, where kind `Z` of 02, Job 2, the letters of 02, Job 3, or the accounts of 02, Job 7, change them or
+-- what they rest on: kinds 0 to 5, and 6 for none; letters 33 to 126; accounts 0 to 9, and 10 for none. Paper03PlainLaws says that nothing has
+-- changed where no line is of kind `Z`, names a letter of the hot side or has an account above 9. Definitions only.
 use mathlib.Core.Bool.{Bool, true, false, _&&_, _||_, not, cond}
 use mathlib.Core.List.{List, [], _∷_, _++_}
 use Prim.Native.Nat.{ℕ, zero, suc, _+_, _-_}
 use lib.Dec.{ltb, leb, eqb}
 use lib.ListN.{length, getD, take, drop}
-use Rattle.theorems.specs.Paper03Pattern.{Node, Line, lines, fields, place-value, is-place, account-value, field, Refusal, refusal}
+use Rattle.theorems.specs.Paper03Pattern.{Node, Line, lines, fields, place-value, is-place, field, Refusal, refusal}
 use Rattle.theorems.specs.Paper03Pattern.{part-bad, unnamed-from, or-else, root}
 use Rattle.theorems.specs.Paper03Codes.{Read, read, bad, joined, with-hollow, value-from, side-read}
 
@@ -19,6 +19,9 @@ node t l = getD t l no-node
 
 unfoldable pub is-letter : List ℕ → Bool
 is-letter w = eqb (length w) 1 && (leb 33 (getD w 0 0) && leb (getD w 0 0) 126)
+
+unfoldable pub account-value : List ℕ → ℕ
+account-value w = cond (eqb (length w) 1) (cond (eqb (getD w 0 0) 45) 0 (cond (leb 49 (getD w 0 0) && leb (getD w 0 0) 57) (getD w 0 0 - 48) 10)) 10
 
 unfoldable pub kind-value : List ℕ → ℕ
 kind-value w =

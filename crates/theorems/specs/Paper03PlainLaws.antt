@@ -1,23 +1,25 @@
--- Kind `Z` of 02, Job 2, and the letters of 02, Job 3, change nothing of document 03 where a pattern has none: a text none of whose lines is of
--- that kind or names such a letter is refused as 03 refuses it, with the same line; and if it is accepted, its nodes and their count of choices
--- are 03's, and all bits are read as 03 reads them. A tape without such a letter is good where 03 says so.
+-- Kind `Z` of 02, Job 2, the letters of 02, Job 3, and the accounts of 02, Job 7, change nothing of document 03 where a pattern has none: a text none
+-- of whose lines is of that kind, names such a letter or has an account above 9 is refused as 03 refuses it, with the same line; and if it is
+-- accepted, its nodes and their count of choices are 03's, and all bits are read as 03 reads them. A tape without such a letter is good where 03
+-- says so.
 use mathlib.Core.Path.{_≡_, refl, sym, ap, ap₂, subst, fun-ext, _∙_}
 use mathlib.Core.Bool.{Bool, true, false, _&&_, _||_, not, cond, false≢true}
 use mathlib.Core.Logic.{_⊎_, inl, inr}
 use mathlib.Core.List.{List, [], _∷_, _++_}
-use Prim.Native.Nat.{ℕ, zero, suc, _-_, _≤_, _<_}
+use Prim.Native.Nat.{ℕ, zero, suc, _+_, _*_, _-_, _≤_, _<_}
 use native.Mathlib.Omega.{arith}
-use borrow.Author.Tests.{lt-ltb, leb-true, le-leb, lt-leb, eqb-true, ne-eqb, not-true, eqb-false}
+use borrow.Author.Tests.{lt-ltb, ltb-true, leb-true, le-leb, lt-leb, eqb-true, ne-eqb, not-true, eqb-false}
 use lib.Dec.{ltb, leb, eqb}
 use lib.ListN.{length, getD, take, drop}
 use Rattle.syntax.specs.Bools.{and-fst, and-snd, and-intro}
 use Rattle.theorems.specs.Paper03Pattern.{Node, no-node, node, Line, lines, fields, place-value, is-place, letter-byte}
-use Rattle.theorems.specs.Paper03Pattern.{is-letter, account-value, kind-value, field}
+use Rattle.theorems.specs.Paper03Pattern.{is-letter, is-digit, account-value, kind-value, field}
 use Rattle.theorems.specs.Paper03Pattern.{line-good, node-in, nodes-in, refusal, forms-from, parts, tree-from, all-parts, unnamed-from, or-else}
 use Rattle.theorems.specs.Paper03Pattern.{tree-refusal, load-refusal, loaded, root}
 use Rattle.theorems.specs.Paper03Codes.{Read, read, bad, value-from, range-read, rounds-read, read-node, read-code}
 use Rattle.theorems.specs.Paper03.{letters-good, tape-good}
 use Rattle.theorems.specs.Paper03Promise.{choices}
+use Rattle.theorems.specs.Paper03Fields.{byte-small, long}
 use Rattle.theorems.specs.Paper03Plain as plain
 
 -- ── kinds ──
@@ -106,6 +108,82 @@ module _ (w : List ℕ) (h : plain.is-letter w ≡ true) where
   unfolding is-hot
   plain-cold = let b = leb-true (getD w 0 0) 126 plain-high in rw (lt-leb 161 (getD w 0 0) (omega arith)) (and-no (eqb (length w) 1))
 
+-- ── accounts ──
+-- an account against 03's: one of 03's, one above 9, or none
+data Owners (c old : ℕ) : Type 0 where
+  is-one-digit : c ≡ old → old < 10 → Owners c old
+  is-new : 10 ≤ c → c < 201 → old ≡ 10 → Owners c old
+  is-no-account : c ≡ 201 → old ≡ 10 → Owners c old
+
+owners : (w : List ℕ) → Owners (account-value w) (plain.account-value w)
+unfolding account-value plain.account-value
+owners [] = is-no-account refl refl
+owners (a ∷ []) = go (eqb a 45) (leb 49 a) refl (leb a 57) refl
+  where
+    go : (dash x : Bool) → leb 49 a ≡ x → (y : Bool) → leb a 57 ≡ y
+        → Owners (cond dash 0 (cond (x && y) (a - 48) 201)) (cond dash 0 (cond (x && y) (a - 48) 10))
+    go true x p y q = is-one-digit refl (omega arith)
+    go false true p true q = let u = leb-true a 57 q in is-one-digit refl (omega arith)
+    go false true p false q = is-no-account refl refl
+    go false false p y q = is-no-account refl refl
+owners (a ∷ b ∷ []) = go (leb 49 a) refl (leb a 57) refl (is-digit b) refl
+  where
+    go : (x : Bool) → leb 49 a ≡ x → (y : Bool) → leb a 57 ≡ y → (z : Bool) → is-digit b ≡ z
+        → Owners (cond ((x && y) && z) (10 * (a - 48) + (b - 48)) 201) (plain.account-value (a ∷ b ∷ []))
+    go true p true q true r =
+        let l = leb-true 49 a p in
+        let u = leb-true a 57 q in
+        let s = byte-small b r in
+        is-new (omega arith) (omega arith) refl
+    go true p true q false r = is-no-account refl refl
+    go true p false q z r = is-no-account refl refl
+    go false p y q z r = is-no-account refl refl
+owners (a ∷ b ∷ c ∷ []) = go (leb 49 a) refl (leb a 57) (is-digit b) (is-digit c) (leb (10 * (10 * (a - 48) + (b - 48)) + (c - 48)) 200) refl
+  where
+    go : (x : Bool) → leb 49 a ≡ x → (y z w few : Bool) → leb (10 * (10 * (a - 48) + (b - 48)) + (c - 48)) 200 ≡ few
+        → Owners (cond ((x && y) && (z && (w && few))) (10 * (10 * (a - 48) + (b - 48)) + (c - 48)) 201) (plain.account-value (a ∷ b ∷ c ∷ []))
+    go true p true true true true r =
+        let l = leb-true 49 a p in
+        let u = leb-true (10 * (10 * (a - 48) + (b - 48)) + (c - 48)) 200 r in
+        is-new (omega arith) (omega arith) refl
+    go true p true true true false r = is-no-account refl refl
+    go true p true true false few r = is-no-account refl refl
+    go true p true false w few r = is-no-account refl refl
+    go true p false z w few r = is-no-account refl refl
+    go false p y z w few r = is-no-account refl refl
+owners (a ∷ b ∷ c ∷ d ∷ more) = is-no-account refl (rw (long (c ∷ d ∷ more)) refl)
+
+-- a field that says an account above 9
+unfoldable pub above-nine : List ℕ → Bool
+above-nine w = leb 10 (account-value w) && ltb (account-value w) 201
+
+-- of any other an account is good where 03 says so
+known-same : (w : List ℕ) → above-nine w ≡ false → ltb (account-value w) 201 ≡ ltb (plain.account-value w) 10
+unfolding above-nine
+known-same w h = go (owners w)
+  where
+    go : Owners (account-value w) (plain.account-value w) → ltb (account-value w) 201 ≡ ltb (plain.account-value w) 10
+    go (is-one-digit e l) = lt-ltb (account-value w) 201 (omega arith) ∙ sym (lt-ltb (plain.account-value w) 10 l)
+    go (is-new l u o) =
+        absurd (false≢true (sym h ∙ and-intro (le-leb 10 (account-value w) l) (lt-ltb (account-value w) 201 u)))
+    go (is-no-account e o) = rw (e, o) refl
+
+-- an account that is good by 03 is the same
+owner-same : (w : List ℕ) → ltb (plain.account-value w) 10 ≡ true → (account-value w ≡ plain.account-value w) × (not (above-nine w) ≡ true)
+unfolding above-nine
+owner-same w h = go (ltb-true (plain.account-value w) 10 h) (owners w)
+  where
+    go : plain.account-value w < 10 → Owners (account-value w) (plain.account-value w)
+        → (account-value w ≡ plain.account-value w) × (not (above-nine w) ≡ true)
+    go l (is-one-digit e k) = (e, rw (lt-leb 10 (account-value w) (omega arith)) refl)
+    go l (is-new k u o) = absurd (omega arith)
+    go l (is-no-account e o) = absurd (omega arith)
+
+-- no line of a text has one above 9
+unfoldable pub no-new-account : List Line → Bool
+no-new-account [] = true
+no-new-account (x ∷ xs) = not (above-nine (field (fields (x .text)) 2)) && no-new-account xs
+
 -- whether a line of a kind names a letter of the hot side
 abbrev hot-fields : (kind : ℕ) → List (List ℕ) → Bool
 hot-fields k ws = cond (eqb k 1) (is-hot (field ws 3)) (cond (eqb k 2) (is-hot (field ws 3) || is-hot (field ws 4)) false)
@@ -140,7 +218,7 @@ module _ (i : ℕ) (x : Line) where
   -- the form of a line of 03's kinds, by its letters
   abbrev form : (one two l3 l4 : Bool) → Bool
   form one two l3 l4 =
-      ((x .closed && eqb (place-value (field ws 0)) i) && (ltb (account-value (field ws 2)) 10 && true))
+      ((x .closed && eqb (place-value (field ws 0)) i) && (ltb (plain.account-value (field ws 2)) 10 && true))
       && cond (eqb old 0) (eqb (length ws) 3)
       (cond one (eqb (length ws) 4 && l3)
       (cond two (eqb (length ws) 5 && ((l3 && l4) && leb (getD (field ws 3) 0 0) (getD (field ws 4) 0 0)))
@@ -158,21 +236,23 @@ module _ (i : ℕ) (x : Line) where
   unfolding hot-line
   hot-old e h = subst (λ k. hot-fields k ws ≡ false) e h
 
-line-same : (i : ℕ) (x : Line) → eqb (kind-value (field (fields (x .text)) 1)) 6 ≡ false → hot-line x ≡ false → line-good i x ≡ plain.line-good i x
+line-same : (i : ℕ) (x : Line) → eqb (kind-value (field (fields (x .text)) 1)) 6 ≡ false → hot-line x ≡ false
+    → above-nine (field (fields (x .text)) 2) ≡ false → line-good i x ≡ plain.line-good i x
 unfolding line-good plain.line-good
-line-same i x h cold = go (kinds (kind-in x))
+line-same i x h cold few = go (kinds (kind-in x))
   where
     go : Kinds (kind-value (kind-in x)) (plain.kind-value (kind-in x)) → line-good i x ≡ plain.line-good i x
     go (is-lazy e o) = absurd (eqb-false (kind-value (kind-in x)) 6 h e)
     go (is-old e l) =
         rw (
           e,
+          known-same (field (fields (x .text)) 2) few,
           lt-ltb (plain.kind-value (kind-in x)) 7 (omega arith),
           lt-ltb (plain.kind-value (kind-in x)) 6 l,
           ne-eqb (plain.kind-value (kind-in x)) 6 (λ z. omega arith),
           or-false (eqb (plain.kind-value (kind-in x)) 5),
         ) (form-same i x (eqb (plain.kind-value (kind-in x)) 1) (eqb (plain.kind-value (kind-in x)) 2) (hot-old i x e cold))
-    go (is-none e o) = rw (e, o) refl
+    go (is-none e o) = rw (e, o, known-same (field (fields (x .text)) 2) few) refl
 
 -- a line of good form by 03 has one of its kinds
 not-six : (a b c : Bool) → ((a && (b && false)) && c) ≡ true → ⊥
@@ -185,7 +265,7 @@ module _ (i : ℕ) (x : Line) (h : plain.line-good i x ≡ true) where
   unfolding plain.line-good
   old-kind o =
       let ws = fields (x .text) in
-      not-six (x .closed && eqb (place-value (field ws 0)) i) (ltb (account-value (field ws 2)) 10)
+      not-six (x .closed && eqb (place-value (field ws 0)) i) (ltb (plain.account-value (field ws 2)) 10)
       (eqb (length ws) 5 && (is-place (field ws 3) && is-place (field ws 4))) (rw o at h)
 
   same-kind : (kind-value (kind-in x) ≡ plain.kind-value (kind-in x)) × (not (eqb (plain.kind-value (kind-in x)) 6) ≡ true)
@@ -197,9 +277,19 @@ module _ (i : ℕ) (x : Line) (h : plain.line-good i x ≡ true) where
       go (is-lazy e o) = absurd (old-kind o)
       go (is-none e o) = absurd (old-kind o)
 
+  same-owner : (account-value (field (fields (x .text)) 2) ≡ plain.account-value (field (fields (x .text)) 2))
+      × (not (above-nine (field (fields (x .text)) 2)) ≡ true)
+  unfolding plain.line-good
+  same-owner =
+      let ws = fields (x .text) in
+      let placed = x .closed && eqb (place-value (field ws 0)) i in
+      let known = ltb (plain.account-value (field ws 2)) 10 in
+      let kind = ltb (plain.kind-value (kind-in x)) 6 in
+      owner-same (field ws 2) (and-fst known kind (and-snd placed (known && kind) (and-fst (placed && (known && kind)) _ h)))
+
   same-node : node-in x ≡ plain.node-in x
   unfolding node-in plain.node-in
-  same-node = rw (same-kind .0) refl
+  same-node = rw (same-kind .0, same-owner .0) refl
 
   not-lazy : (not (eqb (kind-value (kind-in x)) 6) ≡ true) × (not (eqb (node-in x .kind) 6) ≡ true)
   unfolding node-in
@@ -219,7 +309,7 @@ module _ (i : ℕ) (x : Line) (h : plain.line-good i x ≡ true) where
   unfolding plain.line-good
   says =
       let ws = fields (x .text) in
-      and-snd ((x .closed && eqb (place-value (field ws 0)) i) && (ltb (account-value (field ws 2)) 10 && ltb (plain.kind-value (kind-in x)) 6))
+      and-snd ((x .closed && eqb (place-value (field ws 0)) i) && (ltb (plain.account-value (field ws 2)) 10 && ltb (plain.kind-value (kind-in x)) 6))
       (form-by (plain.kind-value (kind-in x))) h
 
   says-at : (k : ℕ) → eqb (plain.kind-value (kind-in x)) k ≡ true → form-by k ≡ true
@@ -263,17 +353,18 @@ module _ (i : ℕ) (x : Line) (h : plain.line-good i x ≡ true) where
   cold-range : cold-node (node-in x) ≡ true
   cold-range = ap cold-node same-node ∙ cold-in (eqb (plain.kind-value (kind-in x)) 2) refl
 
--- lines that 03 accepts: none is of kind `Z` or names a letter of the hot side, and they are the same nodes
+-- lines that 03 accepts: none is of kind `Z`, names a letter of the hot side or has an account above 9, and they are the same nodes
 pub record Plain-lines (ls : List Line) : Type 0 where
   pub said : no-lazy-line ls ≡ true
   pub cold : no-hot-line ls ≡ true
+  pub few : no-new-account ls ≡ true
   pub nodes : nodes-in ls ≡ plain.nodes-in ls
   pub kept : no-lazy (nodes-in ls) ≡ true
   pub ranges : cold-ranges (nodes-in ls) ≡ true
 
 formed : (i : ℕ) (ls : List Line) → plain.forms-from i ls .number ≡ 0 → Plain-lines ls
-unfolding plain.forms-from no-lazy-line no-hot-line no-lazy cold-ranges nodes-in plain.nodes-in refusal
-formed i [] h = record { said = refl; cold = refl; nodes = refl; kept = refl; ranges = refl }
+unfolding plain.forms-from no-lazy-line no-hot-line no-new-account no-lazy cold-ranges nodes-in plain.nodes-in refusal
+formed i [] h = record { said = refl; cold = refl; few = refl; nodes = refl; kept = refl; ranges = refl }
 formed i (x ∷ ls) h = go (leb 64 i) (plain.line-good i x) refl h (formed (suc i) ls)
   where
     go : (b c : Bool) → plain.line-good i x ≡ c → cond b (refusal 1 64) (cond c (plain.forms-from (suc i) ls) (refusal 1 i)) .number ≡ 0
@@ -286,20 +377,24 @@ formed i (x ∷ ls) h = go (leb 64 i) (plain.line-good i x) refl h (formed (suc 
         record {
           said = and-intro (z .0) (r .said);
           cold = and-intro (cold-line i x e) (r .cold);
+          few = and-intro (same-owner i x e .1) (r .few);
           nodes = ap₂ (λ y ys. y ∷ ys) (same-node i x e) (r .nodes);
           kept = and-intro (z .1) (r .kept);
           ranges = and-intro (cold-range i x e) (r .ranges);
         }
 
-forms-same : (i : ℕ) (ls : List Line) → no-lazy-line ls ≡ true → no-hot-line ls ≡ true → forms-from i ls ≡ plain.forms-from i ls
-unfolding forms-from plain.forms-from no-lazy-line no-hot-line
-forms-same i [] h cold = refl
-forms-same i (x ∷ ls) h cold =
+forms-same : (i : ℕ) (ls : List Line) → no-lazy-line ls ≡ true → no-hot-line ls ≡ true → no-new-account ls ≡ true
+    → forms-from i ls ≡ plain.forms-from i ls
+unfolding forms-from plain.forms-from no-lazy-line no-hot-line no-new-account
+forms-same i [] h cold few = refl
+forms-same i (x ∷ ls) h cold few =
+    let own = above-nine (field (fields (x .text)) 2) in
     let a = and-fst (not (eqb (kind-value (kind-in x)) 6)) (no-lazy-line ls) h in
     let b = and-snd (not (eqb (kind-value (kind-in x)) 6)) (no-lazy-line ls) h in
     ap₂ (λ c r. cond (leb 64 i) (refusal 1 64) (cond c r (refusal 1 i)))
-    (line-same i x (not-true (eqb (kind-value (kind-in x)) 6) a) (not-true (hot-line x) (and-fst (not (hot-line x)) (no-hot-line ls) cold)))
-    (forms-same (suc i) ls b (and-snd (not (hot-line x)) (no-hot-line ls) cold))
+    (line-same i x (not-true (eqb (kind-value (kind-in x)) 6) a) (not-true (hot-line x) (and-fst (not (hot-line x)) (no-hot-line ls) cold))
+    (not-true own (and-fst (not own) (no-new-account ls) few)))
+    (forms-same (suc i) ls b (and-snd (not (hot-line x)) (no-hot-line ls) cold) (and-snd (not own) (no-new-account ls) few))
 
 -- ── the tree ──
 parts-same : (x : Node) → not (eqb (x .kind) 6) ≡ true → parts x ≡ plain.parts x
@@ -332,9 +427,10 @@ unfolding tree-refusal plain.tree-refusal
 tree-same t h = ap₂ or-else (from-same 0 [] t h) (ap (unnamed-from (length t - 1) 0) (all-same t h))
 
 -- ── loading ──
-load-same : (text : List ℕ) → no-lazy-line (lines text) ≡ true → no-hot-line (lines text) ≡ true → load-refusal text ≡ plain.load-refusal text
+load-same : (text : List ℕ) → no-lazy-line (lines text) ≡ true → no-hot-line (lines text) ≡ true → no-new-account (lines text) ≡ true
+    → load-refusal text ≡ plain.load-refusal text
 unfolding load-refusal plain.load-refusal or-else
-load-same text h cold = rw (forms-same 0 (lines text) h cold) (go (eqb (plain.forms-from 0 (lines text) .number) 0) refl)
+load-same text h cold few = rw (forms-same 0 (lines text) h cold few) (go (eqb (plain.forms-from 0 (lines text) .number) 0) refl)
   where
     go : (b : Bool) → eqb (plain.forms-from 0 (lines text) .number) 0 ≡ b
         → cond (eqb (length (lines text)) 0) (refusal 1 0) (cond b (tree-refusal (nodes-in (lines text))) (plain.forms-from 0 (lines text)))
@@ -460,17 +556,18 @@ pub tape-same : (cs : List ℕ) → no-hot cs ≡ true → tape-good cs ≡ plai
 unfolding tape-good plain.tape-good
 tape-same cs h = ap (λ b. leb (length cs) 3600 && b) (letters-same cs h)
 
--- WHERE NO LINE IS OF KIND `Z` AND NONE NAMES A LETTER OF THE HOT SIDE NOTHING HAS CHANGED
+-- WHERE NO LINE IS OF KIND `Z`, NAMES A LETTER OF THE HOT SIDE OR HAS AN ACCOUNT ABOVE 9 NOTHING HAS CHANGED
 pub record Unchanged (text : List ℕ) : Type 0 where
   pub refused : load-refusal text ≡ plain.load-refusal text
   pub nodes : plain.load-refusal text .number ≡ 0 → loaded text ≡ plain.loaded text
   pub counts : plain.load-refusal text .number ≡ 0 → choices (loaded text) ≡ plain.choices (plain.loaded text)
   pub reads : plain.load-refusal text .number ≡ 0 → (bits : List ℕ) → read-code (loaded text) bits ≡ plain.read-code (plain.loaded text) bits
 
-pub unchanged : (text : List ℕ) → no-lazy-line (lines text) ≡ true → no-hot-line (lines text) ≡ true → Unchanged text
+pub unchanged : (text : List ℕ) → no-lazy-line (lines text) ≡ true → no-hot-line (lines text) ≡ true → no-new-account (lines text) ≡ true
+    → Unchanged text
 unfolding loaded plain.loaded read-code plain.read-code
-unchanged text h cold = record {
-  refused = load-same text h cold;
+unchanged text h cold few = record {
+  refused = load-same text h cold few;
   nodes = λ k. accepted text k .nodes;
   counts = λ k. let r = accepted text k in choices-same (nodes-in (lines text)) (r .kept) ∙ ap plain.choices (r .nodes);
   reads = λ k bits.
@@ -480,5 +577,6 @@ unchanged text h cold = record {
 }
 
 -- every text that 03 accepts is such a text
-pub accepted-plain : (text : List ℕ) → plain.load-refusal text .number ≡ 0 → (no-lazy-line (lines text) ≡ true) × (no-hot-line (lines text) ≡ true)
-accepted-plain text k = let r = accepted text k in (r .said, r .cold)
+pub accepted-plain : (text : List ℕ) → plain.load-refusal text .number ≡ 0
+    → (no-lazy-line (lines text) ≡ true) × (no-hot-line (lines text) ≡ true) × (no-new-account (lines text) ≡ true)
+accepted-plain text k = let r = accepted text k in (r .said, r .cold, r .few)

@@ -15,7 +15,7 @@ use Rattle.syntax.specs.declared.Line.{Line}
 use Rattle.syntax.specs.declared.Pattern.{Pattern}
 use Rattle.syntax.specs.Bools.{and-fst, and-snd, and-intro}
 use Rattle.syntax.specs.Letter.{is-letter}
-use Rattle.syntax.specs.Table.{tree-fault}
+use Rattle.syntax.specs.Table.{tree-fault, account-limit}
 use Rattle.refusals.specs.Refusals.{Answer}
 use Rattle.fields.specs.Text.{place, single, account, when, star-of, node-of-none, node-of-one, range-of, parts-of, node-of-two, node-of}
 use Rattle.fields.specs.Text.{with-account, line-of, row-line, Forms, good, fault, line-front, forms}
@@ -105,10 +105,13 @@ module _ (p q u : List ℕ) where
   out-more (x ∷ y ∷ []) n e = out-five x y n e
   out-more (x ∷ y ∷ z ∷ ws) n e = absurd (Option·none-ne-some n e)
 
+account-below : (c : ℕ) → leb c account-limit ≡ true → ltb c 201 ≡ true
+account-below c h = let l = leb-true c account-limit h in lt-ltb c 201 (omega arith)
+
 -- what 03 asks of the fields of line i
 abbrev Asks : (i : ℕ) → (ws : List (List ℕ)) → Type 0
 Asks i ws =
-    (eqb (place-value (field ws 0)) i ≡ true) × (ltb (account-value (field ws 2)) 10 ≡ true)
+    (eqb (place-value (field ws 0)) i ≡ true) × (ltb (account-value (field ws 2)) 201 ≡ true)
     × ((ltb (kind-value (field ws 1)) 7 ≡ true) × (needs (kind-value (field ws 1)) ws ≡ true))
 
 fields-out : (i : ℕ) (ws : List (List ℕ)) (l : Line) → i < 64 → line-of i ws ≡ some l → Asks i ws
@@ -119,15 +122,16 @@ fields-out i (p ∷ q ∷ []) l s e = absurd (Option·none-ne-some l e)
 fields-out i (p ∷ q ∷ u ∷ more) l s e = go (eqb (place p) i) refl (node-of (single q) more) refl e
   where
     go : (b : Bool) → eqb (place p) i ≡ b → (o : Option Own-node) → node-of (single q) more ≡ o
-        → cond b (with-account (account (single u)) o) none ≡ some l
-        → (eqb (place-value p) i ≡ true) × (ltb (account-value u) 10 ≡ true)
+        → cond b (with-account (account u) o) none ≡ some l
+        → (eqb (place-value p) i ≡ true) × (ltb (account-value u) 201 ≡ true)
         × ((ltb (kind-value q) 7 ≡ true) × (needs (kind-value q) (p ∷ q ∷ u ∷ more) ≡ true))
     go false b o f g = absurd (Option·none-ne-some l g)
     go true b none f g = absurd (Option·none-ne-some l g)
     go true b (some n) f g =
         let k = eqb-true (place p) i b in (
           ap (λ j. eqb j i) (place-back p (omega arith)) ∙ b,
-          ap (λ j. ltb j 10) (account-same u) ∙ when-yes (ltb (account (single u)) 10) (record { account = account (single u); node = n }) l g,
+          ap (λ j. ltb j 201) (account-same u)
+              ∙ account-below (account u) (when-yes (leb (account u) account-limit) (record { account = account u; node = n }) l g),
           out-more p q u more n f,
         )
 

@@ -5,3 +5,4 @@ pub mod Gather
 pub mod GatherLaws
 pub mod Unique
 pub mod Orders
+pub mod OldTotals

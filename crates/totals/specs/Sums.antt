@@ -1,18 +1,18 @@
 -- Adding up entries: the sums of two arrays of letters and accounts are the totals of the entries in them.
-use mathlib.Core.Path.{_≡_, refl, sym, ap, ap₂, _∙_}
+use mathlib.Core.Path.{_≡_, refl, sym, ap, _∙_}
 use mathlib.Core.Bool.{Bool, true, false, cond}
-use mathlib.Core.List.{List, [], _∷_, _++_, map}
+use mathlib.Core.List.{List, [], _∷_, _++_}
 use Prim.Native.Nat.{ℕ, zero, suc, _+_, _*_, _≤_, _<_}
 use native.Mathlib.Omega.{arith}
 use native.Mathlib.Nat.{add-zero, zero-add}
 use lib.Dec.{eqb}
 use borrow.Author.Tests.{eqb-true, eqb-false}
-use lib.ListN.{length, length-append, getD, set, replicate, length-set}
-use lib.Seq.{getD-set-same, getD-set-other}
+use lib.ListN.{length, length-append, getD, set, replicate, length-set, length-replicate, getD-replicate}
+use lib.Seq.{getD-set-same, getD-set-other, ext-getD}
 use Rattle.syntax.specs.Letter.{letter-limit}
 use Rattle.syntax.specs.Table.{account-limit}
-use Rattle.semantics.specs.Accounts.{litres, total, totals}
-use Rattle.semantics.specs.AccountLaws.{letters, litres-small, total-small}
+use Rattle.semantics.specs.Accounts.{litres, total, totals-to, totals}
+use Rattle.semantics.specs.AccountLaws.{letters, litres-small, total-small, getD-totals, totals-length}
 use Rattle.semantics.specs.VisitLaws.{All}
 use Rattle.entries.specs.Entries.{Entries, accounts-in}
 use Rattle.entries.specs.WholeLaws.{length-accounts}
@@ -92,37 +92,32 @@ charge-total (e ∷ es) s a h =
     omega arith
 
 -- ── the sums of a list of entries are its totals ──
-abbrev count-from : (i n : ℕ) → List ℕ
-count-from i zero = []
-count-from i (suc n) = i ∷ count-from (suc i) n
+-- over any number of accounts, so that nothing here computes as many sums as there are
+module _ (n : ℕ) (es : Entries) where
+  abbrev sums : List ℕ
+  sums = charge (replicate n 0) es
 
-listed : (xs : List ℕ) (f : ℕ → ℕ) (i : ℕ) → ((j : ℕ) → j < length xs → getD xs j 0 ≡ f (i + j)) → xs ≡ map f (count-from i (length xs))
-listed [] f i h = refl
-listed (x ∷ xs) f i h =
-    let e : i + 0 ≡ i = omega arith in
-    ap₂ (λ y ys. y ∷ ys) (h 0 (omega arith) ∙ ap f e)
-    (listed xs f (suc i) (λ j k. let g : i + suc j ≡ suc i + j = omega arith in h (suc j) (omega arith) ∙ ap f g))
+  sums-length : length sums ≡ n
+  sums-length = charge-length es (replicate n 0) ∙ length-replicate n 0
 
-getD-zeros : (n j : ℕ) → _≡_ {A = ℕ} (getD (replicate n 0) j 0) 0
-getD-zeros zero zero = refl
-getD-zeros zero (suc j) = refl
-getD-zeros (suc n) zero = refl
-getD-zeros (suc n) (suc j) = getD-zeros n j
+  sum-of : (a : ℕ) → a < n → getD sums a 0 ≡ total a es
+  sum-of a h =
+      charge-total es (replicate n 0) a (omega (arith, length-replicate {A = ℕ} n 0)) ∙ ap (λ x. x + total a es) (getD-replicate n a 0 0 h)
+      ∙ zero-add (total a es)
 
-pub sum-total : (es : Entries) (a : ℕ) → a < account-limit + 1 → getD (charge no-litres es) a 0 ≡ total a es
-sum-total es a h = charge-total es no-litres a h ∙ ap (λ x. x + total a es) (getD-zeros (account-limit + 1) a) ∙ zero-add (total a es)
+  sums-totals : sums ≡ totals-to n es
+  sums-totals =
+      ext-getD 0 sums (totals-to n es) (sums-length ∙ sym (totals-length n es))
+      (λ a h. let k : a < n = omega (arith, sums-length) in sum-of a k ∙ sym (getD-totals n a es k))
 
 pub charge-totals : (es : Entries) → charge no-litres es ≡ totals es
 unfolding totals
-charge-totals es =
-    let n : length (charge no-litres es) ≡ account-limit + 1 = charge-length es no-litres in
-    listed (charge no-litres es) (λ a. total a es) 0 (λ j k. sum-total es j (omega arith) ∙ ap (λ a. total a es) (sym (zero-add j)))
-    ∙ ap (λ z. map (λ a. total a es) (count-from 0 z)) n
+charge-totals es = sums-totals (account-limit + 1) es
 
 -- no sum passes nine litres a letter
 pub charge-room : (es : Entries) (a c : ℕ) → length es < letter-limit → a ≤ account-limit
     → getD (charge no-litres es) a 0 + litres c ≤ 9 * letter-limit
-charge-room es a c h o = omega (arith, sum-total es a (omega arith), total-small a es, litres-small c)
+charge-room es a c h o = omega (arith, sum-of (account-limit + 1) es a (omega arith), total-small a es, litres-small c)
 
 -- ── the loop: i entries are added up ──
 pub record Summed (letters accounts sums : List ℕ) (n i : ℕ) : Type 0 where

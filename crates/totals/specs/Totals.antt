@@ -1,4 +1,4 @@
--- Totalling litres: the answer and the ten totals, for every input. Definitions only.
+-- Totalling litres: the answer and the totals, for every input. Definitions only.
 use mathlib.Core.Path.{_≡_}
 use mathlib.Core.Bool.{not, cond}
 use mathlib.Core.Option.{Option, none, some}
@@ -46,7 +46,7 @@ totals-answer p code count = first-cause (totals-order p code count) (answer 0 0
 abbrev pub no-litres : List ℕ
 no-litres = replicate (account-limit + 1) 0
 
--- 01: "The ten totals are returned, not lent [..]; refused, all are 0."
+-- 01: totals "are returned, not lent [..]; refused, all are 0". 02, Job 7: "There are 201 totals."
 unfoldable pub totals-litres : Pattern → (code : List ℕ) → (count : ℕ) → List ℕ
 totals-litres p code count = cond (eqb (totals-answer p code count .number) 0) (totals (entries-of (root p) code count)) no-litres
 

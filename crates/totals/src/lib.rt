@@ -21,15 +21,10 @@ pub enum TotalsOutcome {
     Refused(Refusal),
 }
 
-// The answer, and the litres of accounts 0 to 9.
+// The answer, and the litres of accounts 0 to `Pattern::MAX_ACCOUNT`.
 pub struct Totalled {
     pub outcome: TotalsOutcome,
-    pub litres: [u32; 10],
-}
-
-impl Totalled {
-    // Accounts 0 to `Pattern::MAX_ACCOUNT`.
-    pub const ACCOUNTS: usize = 10;
+    pub litres: [u32; Pattern::ACCOUNTS],
 }
 
 fn no_totals(why: Refusal) -> Totalled
@@ -37,7 +32,7 @@ fn no_totals(why: Refusal) -> Totalled
 {
     Totalled {
         outcome: TotalsOutcome::Refused(why),
-        litres: [0; Totalled::ACCOUNTS],
+        litres: [0; Pattern::ACCOUNTS],
     }
 }
 

@@ -5,7 +5,7 @@ ghost use lib.ListN.{length, getD};
 ghost use Rattle.syntax.specs.Letter.{letter-limit};
 ghost use Rattle.semantics.specs.Accounts.{litres, totals};
 ghost use Rattle.totals.specs.Sums.{charge-one, Owned, pairs};
-use crate::Totalled;
+use syntax::Pattern;
 
 fn litres_of(c: u8) -> u32
     ensures { λ r. ⌜ r ≡ litres c ⌝ }
@@ -30,11 +30,11 @@ pub fn charge_letter(sums: &mut [u32], account: u8, c: u8)
 }
 
 // The totals of the first n entries.
-pub(crate) fn add_up(letters: &[u8], accounts: &[u8], n: usize) -> [u32; 10]
+pub(crate) fn add_up(letters: &[u8], accounts: &[u8], n: usize) -> [u32; Pattern::ACCOUNTS]
     requires { ⌜ (n ≤ length (now letters)) × (n ≤ letter-limit) × Owned (now accounts) n ⌝ }
     ensures { λ r. ⌜ r ≡ totals (pairs n (now (letters .entry)) (now (accounts .entry))) ⌝ }
 {
-    let mut sums: [u32; 10] = [0; Totalled::ACCOUNTS];
+    let mut sums: [u32; Pattern::ACCOUNTS] = [0; Pattern::ACCOUNTS];
     let mut i = 0;
     while i < n {
         charge_letter(&mut sums, accounts[i], letters[i]);

@@ -2,12 +2,15 @@
 use mathlib.Core.Path.{_≡_, sym, ap, ap₂, subst, _∙_}
 use mathlib.Core.Bool.{cond}
 use mathlib.Core.List.{List, [], _∷_, _++_}
-use Prim.Native.Nat.{ℕ, _+_, _≤_, _<_}
+use Prim.Native.Nat.{ℕ, _+_, _-_, _≤_, _<_, min}
+use native.Mathlib.Omega.{arith}
+use native.Mathlib.Decide.{decLe}
 use lib.Dec.{eqb}
 use Rattle.refusals.specs.Refusals.{Answer}
 use Rattle.calendar.specs.declared.Date.{Date}
 use Rattle.calendar.specs.Dates.{date}
-use lib.ListN.{length, drop, getD}
+use lib.ListN.{length, take, drop, getD, List·getD-eq-default}
+use Rattle.syntax.specs.Table.{one-digit-limit}
 use Rattle.text.specs.Text.{Puts, parted, field, pair}
 use Rattle.text.specs.Putting.{drop-next, drop-done}
 use Rattle.vector_text.specs.Cases.{part, bytes-digest, shown-text, left-text, number-of-text, before-byte, behind-byte}
@@ -33,6 +36,50 @@ litres-turn i xs by n h e f =
 
 pub litres-over : (i : ℕ) (xs : List ℕ) → length xs ≤ i → litres-text i (drop i xs) ≡ []
 litres-over i xs h = ap (litres-text i) (drop-done i xs h)
+
+-- so many totals a line has at least: those of 01's accounts
+abbrev pub first-totals : ℕ
+first-totals = one-digit-limit + 1
+
+-- how many it has: those at least, nothing but zeros behind, and no zero at the end of more
+pub record Shown (litres : List ℕ) (n : ℕ) : Type 0 where
+  pub within : n ≤ length litres
+  pub first : min first-totals (length litres) ≤ n
+  pub behind : (i : ℕ) → n ≤ i → getD litres i 0 ≡ 0
+  pub last : first-totals < n → getD litres (n - 1) 0 ≡ 0 → ⊥
+
+-- so many of them, as text
+pub record Puts-totals (litres out : List ℕ) (at : ℕ) (after : List ℕ) (r : ℕ) : Type 0 where
+  pub n : ℕ
+  pub shown : Shown litres n
+  pub puts : Puts out at (litres-text 0 (take n litres)) after r
+
+-- from the end on, before it is known that the last is none
+pub record Left-out (litres : List ℕ) (n : ℕ) : Type 0 where
+  pub within : n ≤ length litres
+  pub first : min first-totals (length litres) ≤ n
+  pub behind : (i : ℕ) → n ≤ i → getD litres i 0 ≡ 0
+
+pub none-left-out : (xs : List ℕ) → Left-out xs (length xs)
+none-left-out xs = record { within = omega arith; first = omega arith; behind = λ i h. List·getD-eq-default xs 0 h }
+
+module _ (xs : List ℕ) (n : ℕ) (k : Left-out xs n) where
+  pub one-left-out : first-totals < n → getD xs (n - 1) 0 ≡ 0 → Left-out xs (n - 1)
+  one-left-out h z = record {
+    within = omega (arith, k .within);
+    first = omega arith;
+    behind = λ i l. go i l (decLe n i);
+  }
+    where
+      go : (i : ℕ) → n - 1 ≤ i → Dec (n ≤ i) → getD xs i 0 ≡ 0
+      go i l (yes m) = k .behind i m
+      go i l (no m) = let e : i ≡ n - 1 = omega arith in ap (λ j. getD xs j 0) e ∙ z
+
+  pub shown-last : (getD xs (n - 1) 0 ≡ 0 → ⊥) → Shown xs n
+  shown-last h = record { within = k .within; first = k .first; behind = k .behind; last = λ l. h }
+
+  pub shown-first : n ≤ first-totals → Shown xs n
+  shown-first h = record { within = k .within; first = k .first; behind = k .behind; last = λ l z. omega arith }
 
 -- digests of the tape's cells that are lent, and of those past them
 abbrev pub letters-text : (lent : ℕ) → (tape : List ℕ) → List ℕ

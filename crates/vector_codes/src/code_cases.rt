@@ -8,7 +8,7 @@ ghost use Rattle.canonical.specs.Canonicalize.{canonicalized-answer};
 ghost use Rattle.codes.specs.Flatten.{flattened-answer};
 ghost use Rattle.totals.specs.Totals.{totals-outcome};
 ghost use Rattle.text.specs.Text.{Puts};
-ghost use Rattle.vector_codes.specs.Answers.{answer-text, litres-text, letters-text, settled-text};
+ghost use Rattle.vector_codes.specs.Answers.{answer-text, litres-text, Shown, Puts-totals, letters-text, settled-text};
 use canonical::Canonicalized;
 use canonical::canonicalize;
 use codes::Flattened;
@@ -75,7 +75,7 @@ fn wide(litres: u32) -> u64
     litres as u64
 }
 
-pub(crate) fn put_litres(out: &mut [u8], at: usize, litres: &[u32]) -> usize
+fn put_litres(out: &mut [u8], at: usize, litres: &[u32]) -> usize
     ensures { λ r. ⌜ Puts (now (out .entry)) at (litres-text 0 (now (litres .entry))) (now (out .exit)) r ⌝ }
 {
     let mut end = least(at, out.len());
@@ -85,6 +85,30 @@ pub(crate) fn put_litres(out: &mut [u8], at: usize, litres: &[u32]) -> usize
         i += 1;
     }
     end
+}
+
+// So many totals stand in a line at least, those of 01's accounts, so that a line of before 02's Job 7 is as it was.
+const FIRST_TOTALS: usize = 10;
+
+// How many totals a line has: the first ones always, and behind them up to the last that is not 0.
+fn shown(litres: &[u32]) -> usize
+    ensures { λ r. ⌜ Shown (now (litres .entry)) r ⌝ }
+{
+    let mut n = litres.len();
+    while FIRST_TOTALS < n {
+        if litres[n - 1] != 0 {
+            return n;
+        }
+        n -= 1;
+    }
+    n
+}
+
+pub(crate) fn put_totals(out: &mut [u8], at: usize, litres: &[u32]) -> usize
+    ensures { λ r. ⌜ Puts-totals (now (litres .entry)) (now (out .entry)) at (now (out .exit)) r ⌝ }
+{
+    let n = shown(litres);
+    put_litres(out, at, &litres[..n])
 }
 
 // The digests of the cells lent and of those past them.
@@ -109,7 +133,7 @@ fn print_totals(totalled: Totalled) {
     let litres = totalled.litres;
     let mut out = [0u8; 1024];
     let a = put_outcome(&mut out, outcome);
-    let b = put_litres(&mut out, a, &litres);
+    let b = put_totals(&mut out, a, &litres);
     print_line(&mut out, b);
 }
 

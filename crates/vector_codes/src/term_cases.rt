@@ -5,7 +5,7 @@ ghost use mathlib.Core.Path.{_≡_};
 ghost use Rattle.terms.specs.Terms.{term-refused, term-outcome};
 ghost use Rattle.text.specs.Text.{Puts};
 ghost use Rattle.vector_codes.specs.Answers.{answer-text, date-read, behind-date};
-use crate::code_cases::put_litres;
+use crate::code_cases::put_totals;
 use calendar::Date;
 use syntax::Pattern;
 use terms::TermOutcome;
@@ -41,13 +41,13 @@ fn put_outcome(out: &mut [u8], outcome: TermOutcome) -> usize
     }
 }
 
-// Prints the line of a case, which takes less than 1,024 bytes: number, value, and the litres of accounts 0 to 9.
+// Prints the line of a case, which takes less than 1,024 bytes: number, value, and the totals that are shown.
 fn print_totalled(totalled: TermTotalled) {
     let outcome = totalled.outcome;
     let litres = totalled.litres;
     let mut out = [0u8; 1024];
     let a = put_outcome(&mut out, outcome);
-    let b = put_litres(&mut out, a, &litres);
+    let b = put_totals(&mut out, a, &litres);
     print_line(&mut out, b);
 }
 

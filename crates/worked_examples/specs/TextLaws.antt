@@ -7,7 +7,7 @@ use Rattle.syntax.specs.Letter.{is-letter}
 use Rattle.syntax.specs.Table.{wrongly-names, unnamed, tree-fault}
 use Rattle.syntax.specs.Tree.{Label, Tree, nothing, letter, range, seq, alt, star}
 use Rattle.syntax.specs.Trees.{root, tree-of}
-use Rattle.fields.specs.Text.{rows, digit, one-digit, two-digits, place, single, account}
+use Rattle.fields.specs.Text.{rows, digit, one-digit, two-digits, place, single, all-digits, decimal, account-number, account}
 use Rattle.fields.specs.Text.{node-of-none, node-of-one, range-of, parts-of, node-of-two, node-of, line-of, row-line, forms}
 use Rattle.loading.specs.Load.{table, load-answer, load-table}
 use Rattle.semantics.specs.Examples as short
@@ -55,6 +55,6 @@ pub texts-write : map (λ text. bare (root (load-table text))) (P1 ∷ P2 ∷ P3
     ∷ lazy (rounds (one-or (nothing plain)))
     ∷ rounds (range plain 126 161)
     ∷ []
-unfolding P1 P2 P3 P4 P5 Z1 Z2 Z3 Z4 Z5 Z6 Z7 H1 rows digit one-digit two-digits place single account node-of-none node-of-one range-of parts-of
-    node-of-two node-of line-of row-line forms table load-answer load-table is-letter wrongly-names unnamed tree-fault root tree-of
+unfolding P1 P2 P3 P4 P5 Z1 Z2 Z3 Z4 Z5 Z6 Z7 H1 rows digit one-digit two-digits place single all-digits decimal account-number account
+    node-of-none node-of-one range-of parts-of node-of-two node-of line-of row-line forms table load-answer load-table is-letter wrongly-names unnamed tree-fault root tree-of
 texts-write = refl

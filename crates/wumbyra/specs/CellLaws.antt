@@ -1,19 +1,20 @@
 -- What each lent cell holds after the call for all accounts.
-use mathlib.Core.Path.{_≡_, refl, ap, _∙_}
-use mathlib.Core.Bool.{Bool, true, false, cond}
-use mathlib.Core.List.{List}
-use Prim.Native.Nat.{ℕ, _<_}
+use mathlib.Core.Path.{_≡_, sym, ap, _∙_}
+use mathlib.Core.List.{List, _++_}
+use Prim.Native.Nat.{ℕ, _+_, _-_, _≤_, _<_}
 use native.Mathlib.Omega.{arith}
-use lib.Dec.{eqb}
-use lib.ListN.{length, take, drop, getD, length-take, List·getD-append}
-use lib.Seq.{getD-take}
+use lib.ListN.{length, take, drop, getD, length-take, List·getD-append, List·getD-eq-default}
+use lib.Seq.{getD-take, getD-drop, getD-append-add}
 use Rattle.bits.specs.Bits.{in-front}
-use Rattle.syntax.specs.Trees.{root}
-use Rattle.semantics.specs.Accounts.{totals as added-up}
+use Rattle.syntax.specs.Table.{account-limit}
 use Rattle.loading.specs.Load.{load-table}
-use Rattle.totals.specs.Totals.{entries-of, no-litres, totals-answer, totals-litres}
+use Rattle.totals.specs.Totals.{totals-litres}
+use Rattle.totals.specs.TotalsLaws.{litres-many}
+use Rattle.calendar.specs.Dates.{date-of}
+use Rattle.terms.specs.Terms.{terms-litres}
+use Rattle.terms.specs.TermLaws.{term-litres-many}
 use Rattle.packing.specs.Packing.{in-cells}
-use Rattle.wumbyra.specs.Packed.{total-text, Totals-text}
+use Rattle.wumbyra.specs.Packed.{total-text, Totals-text, Term-totals-text}
 
 -- ── the call for all accounts and the call for one ──
 cell-holds : (totals cells : List ℕ) (a : ℕ) → a < length totals → a < length cells → getD (in-cells totals cells) a 0 ≡ getD totals a 0
@@ -23,17 +24,44 @@ cell-holds totals cells a h k =
     (omega (arith, h, k, length-take (length cells) totals))
     ∙ getD-take (length cells) totals a 0 k
 
-ten : (b : Bool) (es : List (ℕ × ℕ)) → length (cond b (added-up es) no-litres) ≡ 10
-unfolding added-up
-ten true es = refl
-ten false es = refl
+cell-stays : (totals cells : List ℕ) (a : ℕ) → length totals ≤ a → getD (in-cells totals cells) a 0 ≡ getD cells a 0
+unfolding in-front
+cell-stays totals cells a h =
+    let front = take (length cells) totals in
+    let n : length front ≤ a = omega (arith, length-take (length cells) totals) in
+    let e : a ≡ length front + (a - length front) = omega arith in
+    ap (λ i. getD (front ++ drop (length front) cells) i 0) e ∙ getD-append-add front (drop (length front) cells) (a - length front) 0
+    ∙ getD-drop (length front) cells (a - length front) 0 ∙ ap (λ i. getD cells i 0) (sym e)
 
 -- a cell holds the litres that the call for its account answers
 pub cell-total :
-    (text code : List ℕ) (count : ℕ) (cells cells-now : List ℕ) (r a : ℕ) → Totals-text text code count cells cells-now r → a < 10 → a < length cells
+    (text code : List ℕ) (count : ℕ) (cells cells-now : List ℕ) (r a : ℕ) → Totals-text text code count cells cells-now r → a ≤ account-limit → a < length cells
     → getD cells-now a 0 ≡ total-text text code count a .value
-unfolding total-text totals-litres
+unfolding total-text
 cell-total text code count cells cells-now r a t h k =
     let p = load-table text in
-    let n = ten (eqb (totals-answer p code count .number) 0) (entries-of (root p) code count) in
-    ap (λ xs. getD xs a 0) (t .leaves) ∙ cell-holds (totals-litres p code count) cells a (omega (arith, h, n)) k
+    ap (λ xs. getD xs a 0) (t .leaves) ∙ cell-holds (totals-litres p code count) cells a (omega (arith, h, litres-many p code count)) k
+
+-- no cell behind that of account 200 is written, however many are lent: for all totals
+pub cell-behind :
+    (text code : List ℕ) (count : ℕ) (cells cells-now : List ℕ) (r a : ℕ) → Totals-text text code count cells cells-now r → account-limit < a
+    → getD cells-now a 0 ≡ getD cells a 0
+cell-behind text code count cells cells-now r a t h =
+    let p = load-table text in
+    ap (λ xs. getD xs a 0) (t .leaves) ∙ cell-stays (totals-litres p code count) cells a (omega (arith, litres-many p code count))
+
+-- and for those of a term
+pub term-cell-behind :
+    (text code : List ℕ) (count start first last : ℕ) (cells cells-now : List ℕ) (r a : ℕ)
+    → Term-totals-text text code count start first last cells cells-now r → account-limit < a → getD cells-now a 0 ≡ getD cells a 0
+term-cell-behind text code count start first last cells cells-now r a t h =
+    let p = load-table text in
+    ap (λ xs. getD xs a 0) (t .leaves)
+    ∙ cell-stays (terms-litres p code count (date-of start) (date-of first) (date-of last)) cells a
+    (omega (arith, term-litres-many p code count (date-of start) (date-of first) (date-of last)))
+
+-- an account that there is not has no litres
+pub total-above : (text code : List ℕ) (count a : ℕ) → account-limit < a → total-text text code count a .value ≡ 0
+unfolding total-text
+total-above text code count a h =
+    let p = load-table text in List·getD-eq-default (totals-litres p code count) 0 (omega (arith, litres-many p code count))

@@ -18,9 +18,9 @@ use Rattle.parser.specs.Parse.{parsed-answer, Parses}
 use Rattle.canonical.specs.declared.Canonicalized.{Canonicalized}
 use Rattle.canonical.specs.Canonicalize.{canonicalized-answer, Canonicalizes}
 
--- the version 1.4.0 as one number: major × 10000 + minor × 100 + patch
+-- the version 1.5.0 as one number: major × 10000 + minor × 100 + patch
 abbrev pub version-number : ℕ
-version-number = 1 * 10000 + 4 * 100 + 0
+version-number = 1 * 10000 + 5 * 100 + 0
 
 -- THE PROMISE of reading a tape from C: answer and buffers are those that the service promises on the table of the text
 pub record Parses-text (text tape words words-now code code-now : List ℕ) (r : ℕ) : Type 0 where
@@ -47,7 +47,7 @@ shown-answer a (some x) = answer (a .number) (x .start * 65536 + x .size)
 unfoldable pub span-text : (text tape code : List ℕ) → (count node visit : ℕ) → Answer
 span-text text tape code count l k = shown-answer (span-answer (load-table text) tape code count l k) (span-shown (load-table text) tape code count l k)
 
--- the litres of one account; 0 for an account above 9, and 0 if refused, since the totals are then
+-- the litres of one account; 0 for an account above 200 (law `total-above`), and 0 if refused, since the totals are then
 unfoldable pub total-text : (text code : List ℕ) → (count account : ℕ) → Answer
 total-text text code count a = answer (totals-answer (load-table text) code count .number) (getD (totals-litres (load-table text) code count) a 0)
 

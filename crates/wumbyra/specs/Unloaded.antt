@@ -2,11 +2,11 @@
 use mathlib.Core.Path.{_≡_, refl, ap, _∙_}
 use mathlib.Core.Bool.{false}
 use mathlib.Core.List.{List}
-use Prim.Native.Nat.{ℕ, zero, suc, _≤_}
+use Prim.Native.Nat.{ℕ, zero, suc, _+_, _≤_}
 use native.Mathlib.Omega.{arith}
 use lib.ListN.{getD, replicate}
 use Rattle.refusals.specs.Refusals.{answer}
-use Rattle.syntax.specs.Table.{no-lines, obeys}
+use Rattle.syntax.specs.Table.{no-lines, obeys, account-limit}
 use Rattle.loading.specs.Load.{load-answer, load-table}
 use Rattle.loading.specs.LoadLaws.{refused-no-lines}
 use Rattle.codes.specs.Flatten.{flatten-answer}
@@ -44,7 +44,7 @@ module _ (text : List ℕ) (h : 1 ≤ load-answer text .number) where
 
   pub total-unloaded : (code : List ℕ) (count a : ℕ) → total-text text code count a ≡ answer 2 0
   unfolding total-text totals-answer totals-litres
-  total-unloaded code count a = rw (not-obeyed, zeros 10 a)
+  total-unloaded code count a = rw (not-obeyed, zeros (account-limit + 1) a)
 
   -- and every total that is lent is 0
   pub totals-unloaded : (code : List ℕ) (count : ℕ) (cells cells-now : List ℕ) (r : ℕ) → Totals-text text code count cells cells-now r

@@ -31,7 +31,7 @@ use totals::totals;
 // The version of the interface. A change that a caller may notice raises one of these numbers, and the header's with it.
 const VERSION_MAJOR: u32 = 1;
 
-const VERSION_MINOR: u32 = 4;
+const VERSION_MINOR: u32 = 5;
 
 const VERSION_PATCH: u32 = 0;
 

@@ -1,6 +1,8 @@
 -- `listing::list_read` meets its contract: the three parts of the listing, one behind the other.
 use mathlib.Core.Path.{refl}
-use Rattle.listing.specs.ListingLaws.{litres-ten, listed}
+use native.Mathlib.Omega.{arith}
+use Rattle.totals.specs.TotalsLaws.{totalled-many}
+use Rattle.listing.specs.ListingLaws.{listed}
 use borrow.Author.Needs.{needs}
 use Rattle.listing.proofs.list_read.Statement.{statement}
 use Rattle.listing.proofs.list_read.Tie as tie
@@ -18,8 +20,7 @@ put-accounts-requires : tie.Need-put-accounts-requires
 put-accounts-requires c κs =
     let totals = c .before .before .before .before .before .before .before in
     let start = totals .before .before .before .before .before in
-    let given = start .args in
-    litres-ten (given .p) (given .tape .now) (given .words .now) (given .code .now) (given .count) (start .pre) _ (totals .totals .ensures)
+    omega (arith, totalled-many _ _ _ _ (totals .totals .ensures))
 
 put-open-requires : tie.Need-put-open-requires
 put-open-requires c κs =

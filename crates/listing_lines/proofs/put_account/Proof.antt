@@ -1,6 +1,6 @@
 -- `listing_lines::put_account` meets its contract: no line for 0 litres.
-use Rattle.text.specs.Putting.{puts-as}
-use Rattle.listing_lines.specs.Lines.{account-nothing, account-some}
+use mathlib.Core.Path.{refl}
+use Rattle.listing_lines.specs.Lines.{account-nothing, account-done}
 use borrow.Author.Needs.{needs}
 use Rattle.listing_lines.proofs.put_account.Statement.{statement}
 use Rattle.listing_lines.proofs.put_account.Tie as tie
@@ -28,7 +28,7 @@ returns-2 c =
     let put = c .before .before in
     let some = put .before .before .before in
     let given = some .before .before .args in
-    puts-as _ _ _ _ _ _ (account-some (given .account) (given .litres) (some .if1 .left)) (put .put-line .ensures)
+    account-done _ _ (given .account) (given .litres) _ _ _ _ (some .if1 .left) (put .put-line .ensures) refl refl
 
 pub put-account-spec : {M : Type 1} → statement M
 put-account-spec =
