@@ -94,7 +94,7 @@ void open_caller(struct caller *caller)
     caller->words.pages = open_pages((WUMBYRA_MAX_WORDS + 8) * sizeof(uint64_t), true);
     caller->letters.pages = open_pages(LETTER_ROOM, true);
     caller->written.pages = open_pages(WUMBYRA_MAX_CODE_BYTES, true);
-    caller->litres.pages = open_pages(64 * sizeof(uint32_t), true);
+    caller->litres.pages = open_pages((WUMBYRA_ACCOUNTS + 8) * sizeof(uint32_t), true);
 }
 
 void close_caller(struct caller *caller)

@@ -91,13 +91,38 @@ static uint32_t take(struct source *source, uint32_t *tree, uint32_t *trees)
     return place;
 }
 
-static void write_text(struct pattern *pattern)
+/* An account: of one digit, near a limit, or any. */
+static uint32_t draw_account(struct source *source)
+{
+    static const uint8_t near[] = {8, 9, 10, 11, 19, 20, 90, 99, 100, 101, 109, 110, 190, 199, 200};
+    switch (draw(source, 3)) {
+    case 0: return 1 + draw(source, 9);
+    case 1: return near[draw(source, sizeof near)];
+    default: return 1 + draw(source, MAX_ACCOUNT);
+    }
+}
+
+const char *draw_no_account(struct source *source)
+{
+    static const char *const none[] = {"0",   "00",  "01",  "09",  "010", "020", "099",  "201",  "202", "209", "210", "255", "256", "265",
+                                       "299", "300", "456", "999", "1000", "2000", "2001", "0200", "",    "--",  "-1",  "1-",  "10-", "+9",
+                                       "+10", " 9",  "9 ",  "20 ", "2 0", "1a",  "a",    "1:",   "1/",  "9\r", "1.0"};
+    return none[draw(source, sizeof none / sizeof *none)];
+}
+
+void write_text(struct pattern *pattern, uint32_t line, const char *account)
 {
     char *end = (char *)pattern->text;
     pattern->lettered = WUMBYRA_MAX_LINES;
     for (uint32_t i = 0; i < pattern->count; i++) {
         const struct node *node = &pattern->node[i];
-        end += sprintf(end, "%u\t%c\t%c", i, node->kind, node->account == 0 ? '-' : (int)('0' + node->account));
+        end += sprintf(end, "%u\t%c\t", i, node->kind);
+        if (i == line)
+            end += sprintf(end, "%s", account);
+        else if (node->account == 0)
+            *end++ = '-';
+        else
+            end += sprintf(end, "%u", node->account);
         switch (node->kind) {
         case 'L': end += sprintf(end, "\t%c", node->low); break;
         case 'R': end += sprintf(end, "\t%c\t%c", node->low, node->high); break;
@@ -133,7 +158,7 @@ static void put_stale(struct source *source, struct pattern *pattern)
         if (i == top)
             node->account = STALE;
         else if (!chance(source, 3))
-            node->account = 1 + draw(source, STALE - 1);
+            node->account = draw_account(source);
     }
 }
 
@@ -152,7 +177,7 @@ void draw_pattern(struct source *source, struct pattern *pattern, bool endless)
         do
             node->kind = mix[draw(source, kinds)];
         while (!fits(node->kind, trees, i < joined ? joined - i : 0));
-        node->account = chance(source, 3) ? 1 + draw(source, 9) : 0;
+        node->account = chance(source, 3) ? draw_account(source) : 0;
         node->low = draw_letter(source);
         node->high = draw_letter(source);
         if (node->high < node->low)
@@ -165,7 +190,7 @@ void draw_pattern(struct source *source, struct pattern *pattern, bool endless)
     }
     if (chance(source, 3))
         put_stale(source, pattern);
-    write_text(pattern);
+    write_text(pattern, WUMBYRA_MAX_LINES, NULL);
 }
 
 /* ---- parses */

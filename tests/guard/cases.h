@@ -31,6 +31,7 @@ uint32_t litres_of(uint8_t letter);
 uint32_t days_of(uint8_t letter);
 
 enum { STALE = 9 }; /* the account of stale litres: what stands under a node that has it goes there, whatever account is nearer */
+enum { MAX_ACCOUNT = 200 };
 
 struct node {
     char kind; /* of E L R S A K Z */
@@ -64,6 +65,12 @@ struct parse {
 
 /* A pattern that loads. `endless` patterns have empty leaves only, so that a code of any length spells nothing. */
 void draw_pattern(struct source *source, struct pattern *pattern, bool endless);
+
+/* Writes the text of a pattern, with this field for the account of a line; with that of its node where the line is not of the pattern. */
+void write_text(struct pattern *pattern, uint32_t line, const char *account);
+
+/* A field that is no account, mostly one that is nearly one. */
+const char *draw_no_account(struct source *source);
 
 /* A parse, which may have empty rounds. It goes through `rounds` rounds at most, and on while `on` of `on + 1` chances say so. */
 void draw_parse(struct source *source, const struct pattern *pattern, struct parse *parse, uint32_t rounds, uint32_t on);

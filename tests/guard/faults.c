@@ -2,6 +2,7 @@
  * 0 is none. The linker puts them before the calls (--wrap); a fault is in what they do beside the proved call. */
 #include "cases.h"
 
+#include <stdio.h>
 #include <stdlib.h>
 #include <string.h>
 
@@ -15,6 +16,8 @@ uint64_t __real_wumbyra_canonicalize(const uint8_t *text, size_t text_len, const
                                      size_t canonical_len);
 uint64_t __real_wumbyra_span(const uint8_t *text, size_t text_len, const uint8_t *tape, size_t tape_len, const uint8_t *code,
                              size_t code_len, uint32_t count, uint32_t node, uint32_t visit);
+uint64_t __real_wumbyra_total(const uint8_t *text, size_t text_len, const uint8_t *code, size_t code_len, uint32_t count,
+                              uint32_t account);
 uint64_t __real_wumbyra_totals(const uint8_t *text, size_t text_len, const uint8_t *code, size_t code_len, uint32_t count,
                                uint32_t *litres, size_t litres_len);
 uint64_t __real_wumbyra_term_totals(const uint8_t *text, size_t text_len, const uint8_t *code, size_t code_len, uint32_t count,
@@ -29,6 +32,8 @@ uint64_t __wrap_wumbyra_canonicalize(const uint8_t *text, size_t text_len, const
                                      size_t canonical_len);
 uint64_t __wrap_wumbyra_span(const uint8_t *text, size_t text_len, const uint8_t *tape, size_t tape_len, const uint8_t *code,
                              size_t code_len, uint32_t count, uint32_t node, uint32_t visit);
+uint64_t __wrap_wumbyra_total(const uint8_t *text, size_t text_len, const uint8_t *code, size_t code_len, uint32_t count,
+                              uint32_t account);
 uint64_t __wrap_wumbyra_totals(const uint8_t *text, size_t text_len, const uint8_t *code, size_t code_len, uint32_t count,
                                uint32_t *litres, size_t litres_len);
 uint64_t __wrap_wumbyra_term_totals(const uint8_t *text, size_t text_len, const uint8_t *code, size_t code_len, uint32_t count,
@@ -58,6 +63,120 @@ static uint32_t counted(const uint8_t *bytes, size_t size, uint8_t low, uint8_t 
     return count;
 }
 
+/* ---- account fields of a text */
+
+enum { OLD_ACCOUNTS = 10, OTHER_ROOM = WUMBYRA_DECISIVE_TEXT_BYTES };
+
+/* Where the account field of the line that begins at `at` begins and how long it is, and where the next line begins; the end of the text
+ * where there is no such. */
+static size_t account_at(const uint8_t *text, size_t text_len, size_t at)
+{
+    for (int tabs = 0; at < text_len && text[at] != '\n' && tabs < 2; at++)
+        tabs += text[at] == '\t';
+    return at;
+}
+
+static size_t account_size(const uint8_t *text, size_t text_len, size_t at)
+{
+    size_t size = 0;
+    while (at + size < text_len && text[at + size] != '\t' && text[at + size] != '\n')
+        size++;
+    return size;
+}
+
+static size_t line_behind(const uint8_t *text, size_t text_len, size_t at)
+{
+    while (at < text_len && text[at] != '\n')
+        at++;
+    return at + 1;
+}
+
+/* The account of that line, of a text that loads. */
+static uint32_t account_of(const uint8_t *text, size_t text_len, size_t at)
+{
+    uint32_t account = 0;
+    for (at = account_at(text, text_len, at); text[at] >= '0' && text[at] <= '9'; at++)
+        account = 10 * account + (uint32_t)(text[at] - '0');
+    return account;
+}
+
+/* A text with other account fields: those that a function writes for them. The answer is its size, 0 if there is no room. */
+typedef size_t rewrite(char *to, const char *field, size_t size, const void *how);
+
+static size_t with_accounts(uint8_t *other, const uint8_t *text, size_t text_len, rewrite *write, const void *how)
+{
+    size_t done = 0, size = 0;
+    for (size_t at = 0; at < text_len; at = line_behind(text, text_len, at)) {
+        const size_t field = account_at(text, text_len, at), length = account_size(text, text_len, field);
+        char written[16];
+        size_t count;
+        if (length >= sizeof written || size + (field - done) + sizeof written > OTHER_ROOM)
+            return 0;
+        count = write(written, (const char *)text + field, length, how);
+        memcpy(other + size, text + done, field - done);
+        size += field - done;
+        memcpy(other + size, written, count);
+        size += count;
+        done = field + length;
+    }
+    if (size + (text_len - done) > OTHER_ROOM)
+        return 0;
+    memcpy(other + size, text + done, text_len - done);
+    return size + (text_len - done);
+}
+
+static bool is_field(const char *field, size_t size, const char *what)
+{
+    return size == strlen(what) && memcmp(field, what, size) == 0;
+}
+
+/* One field for another. */
+static size_t replace(char *to, const char *field, size_t size, const void *how)
+{
+    const char *const *pair = how;
+    const bool is = is_field(field, size, pair[0]);
+    const size_t count = is ? strlen(pair[1]) : size;
+    memcpy(to, is ? pair[1] : field, count);
+    return count;
+}
+
+/* A field without its leading zeros, and one with its first digit alone. */
+static size_t without_zeros(char *to, const char *field, size_t size, const void *how)
+{
+    (void)how;
+    while (size > 1 && field[0] == '0') {
+        field++;
+        size--;
+    }
+    memcpy(to, field, size);
+    return size;
+}
+
+static size_t first_digit(char *to, const char *field, size_t size, const void *how)
+{
+    (void)how;
+    memcpy(to, field, size > 0 ? 1 : 0);
+    return size > 0 ? 1 : 0;
+}
+
+/* ---- loading */
+
+/* Loading that takes more account fields: what is refused is loaded with others in their place. */
+static uint64_t load_accounts(const uint8_t *text, size_t text_len, uint64_t answer)
+{
+    static const char *const taken[][2] = {{"201", "200"}, {"0", "-"}, {"256", "-"}, {"+9", "9"}, {"", "-"}, {"1000", "100"}};
+    const int number = fault() - 41;
+    uint8_t other[OTHER_ROOM];
+    size_t size = 0;
+    if (wumbyra_number(answer) != 1)
+        return answer;
+    if (fault() == 40)
+        size = with_accounts(other, text, text_len, without_zeros, NULL);
+    if (number >= 0 && number < (int)(sizeof taken / sizeof *taken)) /* 41 to 46 */
+        size = with_accounts(other, text, text_len, replace, taken[number]);
+    return size > 0 ? __real_wumbyra_load(other, size) : answer;
+}
+
 /* Loading with other letters: those of the one side only, or those of the gap, too. */
 static uint64_t load_letters(const uint8_t *text, size_t text_len)
 {
@@ -81,7 +200,15 @@ uint64_t __wrap_wumbyra_load(const uint8_t *text, size_t text_len)
         break;
     default: break;
     }
-    return load_letters(text, text_len);
+    if (fault() == 39) { /* accounts of one digit only */
+        const uint64_t answer = __real_wumbyra_load(text, text_len);
+        size_t line = 0;
+        for (size_t at = 0; wumbyra_number(answer) == 0 && at < text_len; at = line_behind(text, text_len, at), line++)
+            if (account_size(text, text_len, account_at(text, text_len, at)) > 1)
+                return (uint64_t)1 << 32 | line;
+        return answer;
+    }
+    return load_accounts(text, text_len, load_letters(text, text_len));
 }
 
 uint64_t __wrap_wumbyra_parse(const uint8_t *text, size_t text_len, const uint8_t *tape, size_t tape_len, uint64_t *words,
@@ -182,37 +309,20 @@ uint64_t __wrap_wumbyra_span(const uint8_t *text, size_t text_len, const uint8_t
     return fault() == 16 && wumbyra_number(answer) == 10 ? 0 : answer;
 }
 
-/* Where the account stands in the line of a text that begins at `at`, and where the next line begins. */
-static size_t account_at(const uint8_t *text, size_t at)
+/* Writes a text that loads with an account that it does not have in the place of 9, and answers which. By that text litres go to the
+ * nearest account, since no account but 9 outranks others. There are more accounts than lines. */
+static uint32_t put_other_account(uint8_t *other, size_t *size, const uint8_t *text, size_t text_len)
 {
-    for (int tabs = 0; tabs < 2; at++)
-        tabs += text[at] == '\t';
-    return at;
-}
-
-static size_t line_behind(const uint8_t *text, size_t at)
-{
-    while (text[at] != '\n')
-        at++;
-    return at + 1;
-}
-
-/* Writes a text that loads with an account that it does not have in the place of 9, and answers which; 0 if it has all of them. By that
- * text litres go to the nearest account, since no account but 9 outranks others. */
-static uint32_t put_other_account(uint8_t *other, const uint8_t *text, size_t text_len)
-{
-    bool used[256] = {false};
+    bool used[MAX_ACCOUNT + 1] = {false};
+    char written[16];
+    const char *pair[2] = {"9", written};
     uint32_t spare = 1;
-    for (size_t at = 0; at < text_len; at = line_behind(text, at))
-        used[text[account_at(text, at)]] = true;
-    while (used['0' + spare])
+    for (size_t at = 0; at < text_len; at = line_behind(text, text_len, at))
+        used[account_of(text, text_len, at)] = true;
+    while (used[spare])
         spare++;
-    if (spare >= STALE)
-        return 0;
-    memcpy(other, text, text_len);
-    for (size_t at = 0; at < text_len; at = line_behind(text, at))
-        if (text[account_at(text, at)] == '0' + STALE)
-            other[account_at(text, at)] = (uint8_t)('0' + spare);
+    (void)snprintf(written, sizeof written, "%u", (unsigned)spare);
+    *size = with_accounts(other, text, text_len, replace, pair);
     return spare;
 }
 
@@ -223,10 +333,36 @@ static void put_nearest(const uint32_t *all, uint32_t spare, uint32_t *litres, s
         litres[i] = i == spare ? 0 : all[i == STALE ? spare : i];
 }
 
+static const char *const nines[2] = {"99", "9"};
+
+static void drop_greatest(uint32_t *litres, size_t litres_len)
+{
+    if (litres_len > MAX_ACCOUNT)
+        litres[MAX_ACCOUNT] = 0;
+}
+
+/* What cells for totals hold before a call, and the same again in those of accounts that were not there once. */
+enum { KEPT_CELLS = WUMBYRA_ACCOUNTS + 8 };
+
+static void keep(uint32_t *before, const uint32_t *litres, size_t litres_len)
+{
+    if (litres_len <= KEPT_CELLS)
+        memcpy(before, litres, litres_len * sizeof *litres);
+}
+
+static void put_back(const uint32_t *before, uint32_t *litres, size_t litres_len)
+{
+    for (size_t i = OLD_ACCOUNTS; i < litres_len && litres_len <= KEPT_CELLS; i++)
+        litres[i] = before[i];
+}
+
 uint64_t __wrap_wumbyra_totals(const uint8_t *text, size_t text_len, const uint8_t *code, size_t code_len, uint32_t count,
                                uint32_t *litres, size_t litres_len)
 {
-    uint64_t answer = __real_wumbyra_totals(text, text_len, code, code_len, count, litres, litres_len);
+    uint32_t before[KEPT_CELLS];
+    uint64_t answer;
+    keep(before, litres, litres_len);
+    answer = __real_wumbyra_totals(text, text_len, code, code_len, count, litres, litres_len);
     if (fault() == 17 && litres_len > 1) { /* to another account */
         uint32_t first = litres[0];
         litres[0] = litres[1];
@@ -242,14 +378,32 @@ uint64_t __wrap_wumbyra_totals(const uint8_t *text, size_t text_len, const uint8
         litres[0] += 9 * counted(tape, wumbyra_value(letters), 128 + '9', 128 + '9');
     }
     if (fault() == 37 && wumbyra_number(answer) == 0) { /* to the nearest account, though 9 is above it */
-        uint8_t other[WUMBYRA_MAX_TEXT_BYTES];
-        uint32_t all[WUMBYRA_ACCOUNTS], spare = put_other_account(other, text, text_len);
-        if (spare > 0) {
-            (void)__real_wumbyra_totals(other, text_len, code, code_len, count, all, WUMBYRA_ACCOUNTS);
-            put_nearest(all, spare, litres, litres_len);
-        }
+        uint8_t other[OTHER_ROOM];
+        size_t size;
+        uint32_t all[WUMBYRA_ACCOUNTS], spare = put_other_account(other, &size, text, text_len);
+        (void)__real_wumbyra_totals(other, size, code, code_len, count, all, WUMBYRA_ACCOUNTS);
+        put_nearest(all, spare, litres, litres_len);
     }
+    if ((fault() == 47 || fault() == 48) && wumbyra_number(answer) == 0) { /* 99 is taken for 9; 20 is read as 2 */
+        uint8_t other[OTHER_ROOM];
+        const size_t size = with_accounts(other, text, text_len, fault() == 47 ? replace : first_digit, nines);
+        (void)__real_wumbyra_totals(other, size, code, code_len, count, litres, litres_len);
+    }
+    if (fault() == 49)
+        drop_greatest(litres, litres_len);
+    if (fault() == 51 || (fault() == 50 && wumbyra_number(answer) != 0)) /* ten are written, or ten zeros */
+        put_back(before, litres, litres_len);
     return answer;
+}
+
+uint64_t __wrap_wumbyra_total(const uint8_t *text, size_t text_len, const uint8_t *code, size_t code_len, uint32_t count,
+                              uint32_t account)
+{
+    if (fault() == 52) /* the lowest byte alone */
+        account &= 255;
+    if (fault() == 53 && account >= OLD_ACCOUNTS)
+        account = WUMBYRA_ACCOUNTS;
+    return __real_wumbyra_total(text, text_len, code, code_len, count, account);
 }
 
 /* The day behind the tape's last letter: a `D` at its end is counted. */
@@ -283,8 +437,10 @@ uint64_t __wrap_wumbyra_term_totals(const uint8_t *text, size_t text_len, const 
                                     uint32_t start, uint32_t first, uint32_t last, uint32_t *litres, size_t litres_len)
 {
     const bool are = are_dates(first, last), more = are && first < last;
+    uint32_t before[KEPT_CELLS];
     uint64_t answer;
     uint32_t number;
+    keep(before, litres, litres_len);
     if (fault() == 26 && more) /* the first date left out */
         first = date_of(day_of(first) + 1);
     if (fault() == 27 && more) /* the last date left out */
@@ -297,12 +453,20 @@ uint64_t __wrap_wumbyra_term_totals(const uint8_t *text, size_t text_len, const 
     number = wumbyra_number(answer);
     spoil_litres(number, litres, litres_len);
     if (fault() == 38 && number == 0) { /* to the nearest account, though 9 is above it */
-        uint8_t other[WUMBYRA_MAX_TEXT_BYTES];
-        uint32_t all[WUMBYRA_ACCOUNTS], spare = put_other_account(other, text, text_len);
-        if (spare > 0) {
-            (void)__real_wumbyra_term_totals(other, text_len, code, code_len, count, start, first, last, all, WUMBYRA_ACCOUNTS);
-            put_nearest(all, spare, litres, litres_len);
-        }
+        uint8_t other[OTHER_ROOM];
+        size_t size;
+        uint32_t all[WUMBYRA_ACCOUNTS], spare = put_other_account(other, &size, text, text_len);
+        (void)__real_wumbyra_term_totals(other, size, code, code_len, count, start, first, last, all, WUMBYRA_ACCOUNTS);
+        put_nearest(all, spare, litres, litres_len);
+    }
+    if (fault() == 54)
+        drop_greatest(litres, litres_len);
+    if (fault() == 55 && number != 0) /* ten zeros are written */
+        put_back(before, litres, litres_len);
+    if (fault() == 56 && number == 0) { /* 99 is taken for 9 */
+        uint8_t other[OTHER_ROOM];
+        const size_t size = with_accounts(other, text, text_len, replace, nines);
+        (void)__real_wumbyra_term_totals(other, size, code, code_len, count, start, first, last, litres, litres_len);
     }
     switch (fault()) {
     case 33: return number == 12 && are ? 0 : answer; /* a term backwards is one without days */

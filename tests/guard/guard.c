@@ -45,10 +45,23 @@ static void try_spoiled_letter(struct scene *s)
     *letter = before;
 }
 
+/* The same with a field that is no account. */
+static void try_spoiled_account(struct scene *s)
+{
+    struct caller *c = &s->caller;
+    const uint32_t line = draw(&c->source, s->pattern.count);
+    write_text(&s->pattern, line, draw_no_account(&c->source));
+    hand(c, &c->text, s->pattern.text, s->pattern.size);
+    expect_answer(c, call_load(c), WUMBYRA_LINE_FORM, line, "load: a field that is no account");
+    write_text(&s->pattern, WUMBYRA_MAX_LINES, NULL);
+}
+
 static void try_text(struct scene *s)
 {
     struct caller *c = &s->caller;
     struct answer answer;
+    if (chance(&c->source, 4))
+        try_spoiled_account(s);
     if (s->pattern.lettered < WUMBYRA_MAX_LINES && chance(&c->source, 8))
         try_spoiled_letter(s);
     s->whole_text = !chance(&c->source, 8);
@@ -126,6 +139,31 @@ static void try_flatten(struct scene *s)
         expect_answer(c, call_flatten(c, smaller(&c->source, s->letters)), WUMBYRA_TAPE_TOO_SHORT, s->letters, "flatten: fewer cells");
 }
 
+/* Cells for totals: a few, as many as a caller has that knows ten accounts, or any number up to one more than there are accounts. */
+static size_t draw_cells(struct source *source)
+{
+    switch (draw(source, 4)) {
+    case 0: return draw(source, 20);
+    case 1: return 10;
+    case 2: return WUMBYRA_ACCOUNTS - 1 + draw(source, 3);
+    default: return draw(source, WUMBYRA_ACCOUNTS + 2);
+    }
+}
+
+/* An account of the pattern, one that is there or the first that is not, and numbers whose lowest bits are an account's. */
+static uint32_t draw_asked(struct scene *s)
+{
+    struct source *source = &s->caller.source;
+    const uint32_t some = s->pattern.node[draw(source, s->pattern.count)].account;
+    switch (draw(source, 8)) {
+    case 0: return draw(source, UINT32_MAX);
+    case 1: return some + (1u << (8 + draw(source, 24)));
+    case 2:
+    case 3: return draw(source, WUMBYRA_ACCOUNTS + 2);
+    default: return some;
+    }
+}
+
 static void try_totals(struct scene *s)
 {
     struct caller *c = &s->caller;
@@ -140,12 +178,12 @@ static void try_totals(struct scene *s)
     expect(c, sum == 0, "totals: they add up to the digits");
     if (s->whole_text && s->whole_code && s->refusal == WUMBYRA_OK)
         expect(c, memcmp(litres, s->parse.litres, sizeof litres) == 0, "totals: litres by account");
-    cells = draw(&c->source, 20);
+    cells = draw_cells(&c->source);
     expect_answer(c, call_totals(c, cells), s->refusal, 0, "totals: any number of cells");
     if (cells > WUMBYRA_ACCOUNTS)
         cells = WUMBYRA_ACCOUNTS;
     expect(c, memcmp(litres, c->litres.at, cells * sizeof *litres) == 0, "totals: the first of them");
-    account = chance(&c->source, 8) ? draw(&c->source, UINT32_MAX) : draw(&c->source, 12);
+    account = draw_asked(s);
     expect_answer(c, call_total(c, account), s->refusal, account < WUMBYRA_ACCOUNTS ? litres[account] : 0, "total: one of the totals");
 }
 
@@ -259,7 +297,7 @@ static void try_terms(struct scene *s)
 {
     struct caller *c = &s->caller;
     uint32_t litres[WUMBYRA_ACCOUNTS];
-    size_t cells = draw(&c->source, 20);
+    size_t cells = draw_cells(&c->source);
     draw_dates(s);
     expect_term(s, litres);
     expect_answer(c, call_term_totals(c, cells), term_refusal(s), 0, "term totals: any number of cells");

@@ -46,6 +46,15 @@ STALE_BETWEEN = text("R 4 0 9", "K 9 0", "L - x", "R - 0 9", "S - 2 3", "S 3 1 4
 # Account 9 beside a digit and not above it.
 STALE_BESIDE = text("E 9", "R 3 0 9", "S - 0 1", "K - 2")
 
+# Accounts of one, two and three digits, the greatest first, and a digit without one.
+GREAT_ACCOUNTS = text("L 200 1", "L 100 2", "S - 0 1", "L 20 3", "S - 2 3", "L 9 4", "S - 4 5", "L - 5", "S - 6 7")
+
+# Accounts that are written with a 9 above others, and 9 above account 200: only that one takes litres from an account further in.
+NINES = text("R 3 0 9", "K 99 0", "R - 0 9", "K 90 2", "R 200 0 9", "K 9 4", "L - x", "L - y", "S - 1 6", "S - 3 7", "S - 8 9", "S 109 10 5")
+
+# 32 digits, one after the other, on accounts 169 to 200.
+MANY_ACCOUNTS = text("L 169 1", *(row for n in range(31) for row in (f"L {170 + n} 1", f"S - {2 * n} {2 * n + 1}")))
+
 # The pattern of 01's section "A whole listing" with a lazy star.
 LAZY_WORKED = text("R - 0 9", "L - W", "S 9 1 0", "R 1 0 9", "A - 2 3", "Z - 4")
 
@@ -62,13 +71,13 @@ BOTH_STARS = text("R 1 0 9", *(f"{'KZ'[place % 2]} - {place}" for place in range
 
 
 def longest():
-    """64 lines, each as long as its kind and place allow: 32 ranges with accounts, 31 sequences, a star."""
-    rows = [f"R {1 + place % 9} ! ~" for place in range(32)]
+    """64 lines, each as long as its kind and place allow: 32 ranges, 31 sequences and a star, with accounts of three digits."""
+    rows = [f"R {100 + place} ! ~" for place in range(32)]
     left = list(range(32))
     while len(left) > 1:
         left.append(len(rows))
-        rows.append(f"S 9 {left.pop(0)} {left.pop(0)}")
-    return text(*rows, f"K 9 {left[0]}")
+        rows.append(f"S 199 {left.pop(0)} {left.pop(0)}")
+    return text(*rows, f"K 200 {left[0]}")
 
 
 LONGEST = longest()
@@ -82,7 +91,7 @@ ALTERNATIVES = text(
 )
 
 # 64 lines of good form, all as long as a line can be, and no tree.
-LONGEST_FORM = text(*("S 9 63 63" for _ in range(LIMIT)))
+LONGEST_FORM = text(*("S 200 63 63" for _ in range(LIMIT)))
 
 # 65 lines, the first 64 of them a pattern.
 LINES_65 = STARS + b"64\tK\t-\t63\n"

@@ -156,7 +156,7 @@ def litres_and_codes():
     return [
         plain("litres without an account", patterns.UNBILLED, b"12x\n"),
         plain("an account without litres", patterns.ANY, b"0x0\n"),
-        plain("all ten accounts", patterns.EACH_ACCOUNT, b"0123456789987654321\n"),
+        plain("each account of one digit", patterns.EACH_ACCOUNT, b"0123456789987654321\n"),
         plain("account 0 beside others", patterns.INNERMOST, b"1x23\n"),
         plain("an account under account 9", patterns.STALE, b"3W2\n", LISTED),
         plain("account 9 between two others", patterns.STALE_BETWEEN, b"57x2\n", between),
@@ -165,6 +165,29 @@ def litres_and_codes():
         plain("63 stars, one in the other", patterns.STARS, b"7" * 100 + b"\n"),
         plain("two rounds of 64 longest lines", patterns.LONGEST, b"5" * 64 + b"\n"),
         plain("112 rounds of 64 longest lines", patterns.LONGEST, b"5" * 3584 + b"\n"),
+    ]
+
+
+def great_accounts():
+    rising = (
+        "tape\t5\t0\t\naccount\t0\t5\naccount\t9\t4\naccount\t20\t3\naccount\t100\t2\naccount\t200\t1\n"
+        "open\t0\t5\nopen\t1\t1\nopen\t2\t1\nopen\t3\t1\nopen\t4\t1\nopen\t5\t0\n"
+    )
+    nines = (
+        "tape\t5\t30\t18c6519c\naccount\t3\t1\naccount\t9\t3\naccount\t90\t2\n"
+        "open\t0\t5\nopen\t1\t5\nopen\t2\t3\nopen\t3\t3\nopen\t4\t2\nopen\t5\t1\n"
+    )
+    field = lambda account: text(f"account {account!r}", patterns.text("E -", f"K {account} 0"), refused(5, 0))
+    none = lambda account: text(f"account {account!r}", f"0\tE\t-\n1\tK\t{account}\t0\n".encode(), refused(1, 1))
+    return [
+        plain("accounts of one, two and three digits", patterns.GREAT_ACCOUNTS, b"12345\n", rising),
+        plain("accounts that are written with a 9", patterns.NINES, b"1x2y3\n", nines),
+        plain("32 accounts", patterns.MANY_ACCOUNTS, b"1" * 32 + b"\n"),
+        *(field(account) for account in ("10", "99", "100", "109", "199", "200")),
+        *(none(account) for account in ("0", "00", "01", "010", "201", "256", "265", "1000", "", "--", "-1", "+9", " 9", "9 ")),
+        text("an account of 5 MB", b"0\tE\t" + b"1" * MEGABYTES_5 + b"\n", refused(1, 0)),
+        text("an account of 5 MB of zeros", b"0\tE\t-\n1\tK\t" + b"0" * MEGABYTES_5 + b"\t0\n", refused(1, 1)),
+        Case("accounts by a pipe, a byte at a time", Pipe(patterns.GREAT_ACCOUNTS), Pipe(b"12345\n"), rising),
     ]
 
 
@@ -276,6 +299,7 @@ CASES = [
     *hot_texts(),
     *lengths_of_tapes(),
     *litres_and_codes(),
+    *great_accounts(),
     *lazy_stars(),
     *forms_of_texts(),
     *trees_of_texts(),

@@ -2,7 +2,9 @@
 
 use crate::dates::random_numbers;
 use crate::full;
-use wumbyra_reference::cases::mutated::{change, LIKELY_HOT_BYTES, LIKELY_MIXED_BYTES};
+use wumbyra_reference::cases::mutated::{
+    change, change_account, LIKELY_HOT_BYTES, LIKELY_MIXED_BYTES,
+};
 use wumbyra_reference::code::{encode, pack};
 use wumbyra_reference::codes::damaged::{damage, damage_letter, other_byte};
 use wumbyra_reference::codes::random::{put_in, sample};
@@ -11,10 +13,13 @@ use wumbyra_reference::hot;
 use wumbyra_reference::lazy;
 use wumbyra_reference::load::load;
 use wumbyra_reference::memo::preferred_reading;
-use wumbyra_reference::patterns::{random, text_of, with_stale_part, LISTING, P1, P2, P3, P4, P5};
+use wumbyra_reference::patterns::{
+    random, text_of, with_great_accounts, with_stale_part, LISTING, P1, P2, P3, P4, P5,
+};
 use wumbyra_reference::prng::Prng;
 use wumbyra_reference::services::spelling::letters_of;
 use wumbyra_reference::services::terms::DAY_END;
+use wumbyra_reference::services::totals::ACCOUNTS;
 use wumbyra_reference::table::{Kind, Node, Star, Table};
 use wumbyra_reference::tapes::random::{HOT, MIXED, WITHOUT_Z};
 use wumbyra_reference::terms::random::{
@@ -84,13 +89,20 @@ pub fn random_case(rng: &mut Prng) -> Case {
         0 => with_stale_part(rng, &table),
         _ => table,
     };
+    let table = match rng.below(3) {
+        0 => table,
+        _ => with_great_accounts(rng, &table),
+    };
     let tape = tape_of(rng, &table, &value);
     let code = code_of(rng, &table, &value, &tape);
     let mut text = text_of(&table);
     if rng.below(6) == 0 {
         for _ in 0..1 + rng.below(3) {
             let likely = *rng.pick(&[LIKELY_MIXED_BYTES, LIKELY_HOT_BYTES]);
-            text = change(rng, text, likely);
+            text = match rng.below(3) {
+                0 => change_account(rng, text),
+                _ => change(rng, text, likely),
+            };
         }
     }
     finished(rng, text, tape, code)
@@ -452,7 +464,7 @@ fn finished(rng: &mut Prng, text: Vec<u8>, tape: Vec<u8>, code: Code) -> Case {
     case.letters = lent(rng, letters_needed);
     case.words = lent(rng, 2 * (letters_needed + 1));
     case.bytes = lent(rng, bytes);
-    case.accounts = lent(rng, 10);
+    case.accounts = lent(rng, ACCOUNTS);
     case.node = match rng.below(12) {
         0 => *rng.pick(&[64, 65, 256, u32::MAX]),
         _ => rng.below(nodes + 1) as u32,
@@ -462,8 +474,8 @@ fn finished(rng: &mut Prng, text: Vec<u8>, tape: Vec<u8>, code: Code) -> Case {
         _ => (rng.below(4) * rng.below(4)) as u32,
     };
     case.account = match rng.below(12) {
-        0 => *rng.pick(&[10, 16, 64, u32::MAX]),
-        _ => rng.below(11) as u32,
+        0 => *rng.pick(&[201, 255, 256, 256 + 9, 456, 65_545, u32::MAX]),
+        _ => rng.below(ACCOUNTS) as u32,
     };
     case.dates = random_numbers(rng, days);
     case
@@ -474,8 +486,9 @@ mod tests {
     use super::*;
     use wumbyra_reference::calendar::Date;
     use wumbyra_reference::code::{decode, unpack};
+    use wumbyra_reference::load::load_by;
     use wumbyra_reference::services::terms::term_totals;
-    use wumbyra_reference::services::totals::totals;
+    use wumbyra_reference::services::totals::{totals, NO_LITRES};
     use wumbyra_reference::stale::moves_litres;
     use wumbyra_reference::table::is_letter;
 
@@ -526,11 +539,11 @@ mod tests {
             };
             let bits = u64::from(case.count);
             let [from, first, last] = case.dates.map(Date::of_number);
-            let all = totals(&table, &case.code, bits).unwrap_or([0; 10]);
+            let all = totals(&table, &case.code, bits).unwrap_or(NO_LITRES);
             let counted = match term_totals(&table, &case.code, bits, from, first, last) {
-                Ok(_) if all == [0; 10] => continue,
+                Ok(_) if all == NO_LITRES => continue,
                 Ok(litres) if litres == all => &mut whole,
-                Ok(litres) if litres == [0; 10] => &mut none,
+                Ok(litres) if litres == NO_LITRES => &mut none,
                 Ok(_) => &mut part,
                 Err(refusal) if refusal.number == 12 => &mut term,
                 Err(refusal) if refusal.number != 11 => continue,
@@ -605,6 +618,31 @@ mod tests {
         }
         assert!(nested >= 1_000, "{nested}");
         assert!(moved >= 250, "{moved}");
+    }
+
+    /// Accounts above 9 have litres in many cases, the greatest too, and texts are refused for their accounts.
+    #[test]
+    fn cases_have_accounts_to_200() {
+        let mut rng = Prng::new(27);
+        let (mut great, mut greatest, mut faulty) = (0, 0, 0);
+        let mut seen = [false; ACCOUNTS];
+        for _ in 0..4_000 {
+            let case = random_case(&mut rng);
+            let Ok(table) = load(&case.text) else {
+                faulty += usize::from(load_by(&case.text, |_| Some(0)).is_ok());
+                continue;
+            };
+            for node in table.lines() {
+                seen[node.account as usize] = true;
+            }
+            let litres = totals(&table, &case.code, u64::from(case.count)).unwrap_or(NO_LITRES);
+            great += usize::from(litres[10..].iter().any(|&some| some > 0));
+            greatest += usize::from(litres[ACCOUNTS - 1] > 0);
+        }
+        assert!(seen.iter().all(|&seen| seen));
+        assert!(great >= 250, "{great}");
+        assert!(greatest >= 10, "{greatest}");
+        assert!(faulty >= 60, "{faulty}");
     }
 
     /// Whether a node of account 9 is above one of another account.

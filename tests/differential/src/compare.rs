@@ -5,6 +5,7 @@ use crate::case::Case;
 use wumbyra_reference::calendar::Date;
 use wumbyra_reference::load::load;
 use wumbyra_reference::prng::Prng;
+use wumbyra_reference::services::totals::{Totals, ACCOUNTS};
 use wumbyra_reference::services::{reading, settling, spelling, terms, totals, visits};
 use wumbyra_reference::table::{Refusal, Table};
 
@@ -23,6 +24,9 @@ pub const CALLS: [&str; 8] = [
     "totals",
     "term_totals",
 ];
+
+/// Cells lent for totals, beside the case's own: none, as many as a caller of 1.4.0 lends, one short, all and one more.
+const CELLS: [usize; 5] = [0, 10, ACCOUNTS - 1, ACCOUNTS, ACCOUNTS + 1];
 
 /// The greatest number of a cause.
 pub const LAST_CAUSE: usize = 12;
@@ -222,10 +226,15 @@ impl Run<'_> {
     fn total(&mut self) -> Result<(), String> {
         let case = self.case;
         let expected = totals::totals(&self.table, &case.code, u64::from(case.count));
-        // Every account, the first that there is not, and the case's own.
-        for account in (0..=10).chain([case.account]) {
+        // The accounts of the pattern, those at the limits, the first that there is not, and the case's own.
+        let nodes = &self.table.nodes[..self.table.count as usize];
+        let named = nodes.iter().map(|node| node.account as u32);
+        let mut accounts: Vec<u32> = named.chain([0, 9, 10, 200, 201, case.account]).collect();
+        accounts.sort_unstable();
+        accounts.dedup();
+        for account in accounts {
             let proved = calls::total(&case.text, &case.code, case.count, account);
-            let litres = |totals: [u64; 10]| totals.get(account as usize).copied().unwrap_or(0);
+            let litres = |totals: Totals| totals.get(account as usize).copied().unwrap_or(0);
             self.answered(5, proved, packed(expected.map(litres)))?;
         }
         Ok(())
@@ -233,8 +242,7 @@ impl Run<'_> {
 
     fn totals(&mut self) -> Result<(), String> {
         let case = self.case;
-        // The case's own cells, and none, one short, all and one more.
-        for cells in [case.accounts, 0, 9, 10, 11] {
+        for cells in [case.accounts].into_iter().chain(CELLS) {
             let mut litres = Lent::new(cells, || self.fill.number() as u32);
             let proved = calls::totals(&case.text, &case.code, case.count, litres.proved());
             let expected = totals::totals_into(
@@ -252,7 +260,7 @@ impl Run<'_> {
     fn term_totals(&mut self) -> Result<(), String> {
         let case = self.case;
         let dates = case.dates.map(Date::of_number);
-        for cells in [case.accounts, 0, 9, 10, 11] {
+        for cells in [case.accounts].into_iter().chain(CELLS) {
             let mut litres = Lent::new(cells, || self.fill.number() as u32);
             let proved = calls::term_totals(
                 &case.text,

@@ -3,6 +3,7 @@
 use crate::calls;
 use wumbyra_reference::calendar::{self, Date};
 use wumbyra_reference::codes::Code;
+use wumbyra_reference::services::totals::ACCOUNTS;
 use wumbyra_reference::terms::{code_of, DAYS};
 
 /// The account of digits in the pattern `DAYS`.
@@ -50,19 +51,25 @@ impl Asked {
         expected: Result<u32, u64>,
     ) -> Result<(), String> {
         self.calls += 1;
-        let mut litres = [u32::MAX; 10];
+        let mut litres = [u32::MAX; ACCOUNTS];
         let count = u32::try_from(code.count).expect("a short code");
         let answer = calls::term_totals(DAYS.as_bytes(), &code.bytes, count, dates, &mut litres);
-        let mut right = [0; 10];
+        let mut right = [0; ACCOUNTS];
         right[ACCOUNT] = expected.unwrap_or(0);
         let number = expected.err().unwrap_or(0);
         if answer == number << 32 && litres == right {
             return Ok(());
         }
         let [start, first, last] = dates;
+        let differs = litres
+            .iter()
+            .zip(&right)
+            .position(|(found, due)| found != due);
+        let cell = differs.map_or(String::new(), |at| {
+            format!("; account {at} has {}, expected {}", litres[at], right[at])
+        });
         Err(format!(
-            "term_totals, start {start}, first {first}, last {last}, {} bits: answered {} and {} with {litres:?}, \
-             expected {number} and 0 with {right:?}",
+            "term_totals, start {start}, first {first}, last {last}, {} bits: answered {} and {}, expected {number} and 0{cell}",
             code.count,
             answer >> 32,
             answer as u32

@@ -1,10 +1,11 @@
-//! Every date, then random calls of the C interface, each compared with the reference.
+//! Every date and every account, then random calls of the C interface, each compared with the reference.
 //! Arguments: the number of cases, the seed, of how many cases one has a full tape, and the folder for a failing case.
 
 mod calls;
 mod case;
 mod compare;
 mod dates;
+mod every_account;
 mod every_date;
 mod full;
 mod letters;
@@ -52,6 +53,15 @@ fn main() {
     }
     match every_date::calls() {
         Ok((dates, calls)) => println!("{dates} dates, {calls} calls: all equal"),
+        Err(words) => {
+            println!("{words}");
+            std::process::exit(1);
+        }
+    }
+    match every_account::calls() {
+        Ok((fields, pairs, calls)) => {
+            println!("{fields} account fields, {pairs} pairs of accounts, {calls} calls: all equal")
+        }
         Err(words) => {
             println!("{words}");
             std::process::exit(1);

@@ -146,6 +146,12 @@ fn smaller_patterns(case: &Case) -> Vec<(Vec<u8>, Option<Vec<bool>>)> {
             plain.nodes[place].account = 0;
             found.push((text_of(&plain), None));
         }
+        // A lower account; 9, which has a rule of its own, is not made another one.
+        for account in lower(node.account) {
+            let mut changed = table.clone();
+            changed.nodes[place].account = account;
+            found.push((text_of(&changed), None));
+        }
         for (low, high) in narrower(node) {
             let mut narrow = table.clone();
             (narrow.nodes[place].x, narrow.nodes[place].y) = (low, high);
@@ -163,6 +169,13 @@ fn smaller_patterns(case: &Case) -> Vec<(Vec<u8>, Option<Vec<bool>>)> {
         found.push((text_of(&greedy), bits));
     }
     found
+}
+
+/// Accounts below one, the lowest first: 1, the first of two digits and of three, half of it, one less.
+fn lower(account: u64) -> Vec<u64> {
+    let below = [1, 10, 100, account / 2, account.saturating_sub(1)];
+    let fits = |&other: &u64| account != 9 && other != 9 && 0 < other && other < account;
+    below.into_iter().filter(fits).collect()
 }
 
 /// Each `Z` made a `K`: a fault that needs no `Z` is shown without one.
@@ -470,6 +483,31 @@ mod tests {
                 assert_eq!((accounts.len(), accounts.last()), (2, Some(&9)));
                 assert_eq!(spell(&value).len(), 1);
                 assert!(table.lines().len() <= 5, "{table:?}");
+            }
+        }
+    }
+
+    /// A fault in accounts from a limit on is shown with the lowest of them.
+    #[test]
+    fn accounts_are_made_low() {
+        for limit in [1, 10, 20, 100, 150, 200] {
+            let fails = |case: &Case| {
+                let great = |node: &Node| node.account >= limit;
+                load(&case.text).is_ok_and(|table| table.lines().iter().any(great))
+            };
+            let mut rng = Prng::new(29 + limit);
+            let mut seen = 0;
+            while seen < 10 {
+                let case = random_case(&mut rng);
+                if fails(&case) {
+                    seen += 1;
+                    let table = load(&shrink(&case, &fails).text).expect("it loads");
+                    let accounts = table.lines().iter().map(|node| node.account);
+                    let accounts: Vec<u64> = accounts.filter(|&account| account != 0).collect();
+                    // A 9 stays, since it is not made another account.
+                    let found = accounts == [limit] || limit == 1 && accounts == [9];
+                    assert!(found, "{limit}: {accounts:?}");
+                }
             }
         }
     }

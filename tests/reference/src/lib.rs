@@ -2,6 +2,7 @@
 //! the verified reader is compared with. It favours the plain definition
 //! over speed; see README.md for what was decided where room was left.
 
+pub mod accounts;
 pub mod automaton;
 pub mod brute;
 pub mod calendar;
@@ -15,6 +16,7 @@ pub mod lazy;
 pub mod listing;
 pub mod load;
 pub mod memo;
+pub mod one_digit;
 pub mod patterns;
 pub mod positions;
 pub mod prng;

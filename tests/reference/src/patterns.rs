@@ -1,7 +1,7 @@
 //! Good patterns: those of 01 and random ones, and their texts.
 
 use crate::prng::Prng;
-use crate::table::{Kind, Node, Table, STALE_ACCOUNT};
+use crate::table::{Kind, Node, Table, MOST_ACCOUNT, STALE_ACCOUNT};
 
 /// The text that loads as this table.
 pub fn text_of(table: &Table) -> Vec<u8> {
@@ -49,7 +49,7 @@ pub struct Taste<'a> {
     pub leaves: &'a [Kind],
     pub inner: &'a [Kind],
     pub letters: &'a [u8],
-    /// Whether nodes get accounts at all.
+    /// Whether nodes get accounts at all: those of one digit.
     pub accounts: bool,
 }
 
@@ -123,6 +123,29 @@ pub fn with_stale_part(rng: &mut Prng, table: &Table) -> Table {
         if place == chosen || rng.below(2) == 0 {
             changed.nodes[place].account = 1 + rng.below(STALE_ACCOUNT as usize - 1) as u64;
         }
+    }
+    changed
+}
+
+/// Accounts on either side of a limit: of one, two and three digits, of the
+/// greatest, and of those that are written with a 9 and are not 9.
+const LIKELY_ACCOUNTS: [u64; 20] = [
+    1, 2, 8, 10, 11, 19, 20, 29, 89, 90, 98, 99, 100, 101, 109, 110, 190, 198, 199, 200,
+];
+
+/// The table with accounts to 200 in the place of 1 to 8. Account 9 stays where it
+/// is, and no other node gets it.
+pub fn with_great_accounts(rng: &mut Prng, table: &Table) -> Table {
+    let mut changed = table.clone();
+    for node in &mut changed.nodes[..table.lines().len()] {
+        if node.account == 0 || node.account == STALE_ACCOUNT {
+            continue;
+        }
+        let any = 1 + rng.below(MOST_ACCOUNT as usize) as u64;
+        node.account = match rng.below(2) {
+            0 if any != STALE_ACCOUNT => any,
+            _ => *rng.pick(&LIKELY_ACCOUNTS),
+        };
     }
     changed
 }

@@ -76,7 +76,7 @@ pub struct Row {
     pub litres: &'static [(usize, u64)],
 }
 
-const fn row(
+pub const fn row(
     name: &'static str,
     lines: &'static [&'static str],
     bits: &'static str,
@@ -209,16 +209,23 @@ fn other_bit(bit: char) -> char {
 /// 64 lines: a range of account 3 under 63 stars, of kinds `K` and `Z` in turn
 /// and of accounts 1 to 8 in turn, but for one line, which has account 9.
 pub fn tower(stale: Option<usize>) -> Vec<u8> {
+    match stale {
+        Some(place) => tower_of(place, STALE_ACCOUNT),
+        None => tower_of(0, 3),
+    }
+}
+
+/// The same with any account on that line.
+pub fn tower_of(place: usize, account: u64) -> Vec<u8> {
     let mut lines = vec!["R 3 0 9".to_string()];
     for place in 1..64 {
         let kind = ["K", "Z"][place % 2];
         lines.push(format!("{kind} {} {}", 1 + place % 8, place - 1));
     }
-    if let Some(place) = stale {
-        let mut fields: Vec<&str> = lines[place].split(' ').collect();
-        fields[1] = "9";
-        lines[place] = fields.join(" ");
-    }
+    let account = account.to_string();
+    let mut fields: Vec<&str> = lines[place].split(' ').collect();
+    fields[1] = &account;
+    lines[place] = fields.join(" ");
     let lines: Vec<&str> = lines.iter().map(String::as_str).collect();
     text(&lines)
 }

@@ -2,10 +2,10 @@
 
 /// "There are 1 to 64 lines."
 pub const MOST_LINES: usize = 64;
-/// "Account is `-` or a digit 1 to 9"; `-` is kept as 0.
-pub const MOST_ACCOUNT: u64 = 9;
-/// The account of stale litres (02, Job 5). That it is the greatest account too is
-/// chance: a later job has greater ones.
+/// 02, Job 7: "The account field grows to 1 to 200"; `-` is kept as 0.
+pub const MOST_ACCOUNT: u64 = 200;
+/// The account of stale litres (02, Job 5): "Account 9 keeps Job 5's meaning",
+/// and no other account has it.
 pub const STALE_ACCOUNT: u64 = 9;
 
 /// The letters of texts, tables, tapes and codes. 01: "A letter is one byte,
@@ -215,6 +215,7 @@ fn numbers_are_good(node: &Node) -> bool {
         // Places are judged with the tree.
         Kind::Nothing | Kind::Sequence | Kind::Either | Kind::Rounds(_) => true,
     };
+    // 02, Job 7: "the table's test in cause 2" follows the account field.
     kind_is_good && node.account <= MOST_ACCOUNT
 }
 

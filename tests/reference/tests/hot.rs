@@ -19,7 +19,7 @@ use wumbyra_reference::prng::Prng;
 use wumbyra_reference::services::reading::parse;
 use wumbyra_reference::services::settling::canonicalize;
 use wumbyra_reference::services::spelling::{flatten, letters_of};
-use wumbyra_reference::services::totals::totals;
+use wumbyra_reference::services::totals::{some_litres, totals, NO_LITRES};
 use wumbyra_reference::services::visits::{piece, span, Span};
 use wumbyra_reference::table::{is_letter, judge, Kind, Node, Refusal, Table};
 use wumbyra_reference::two_pass::build;
@@ -295,10 +295,10 @@ fn hot_letters_count_no_litres() {
         totals(&star, &pack(&code), code.len() as u64).expect("a whole code")
     };
     let digits: Vec<u8> = (176..=185).collect();
-    assert_eq!(total(&digits), [0; 10]);
+    assert_eq!(total(&digits), NO_LITRES);
     assert_eq!(total(b"0123456789")[3], 45);
-    assert_eq!(total(&hot::letters()), [0, 0, 0, 45, 0, 0, 0, 0, 0, 0]);
-    assert_eq!(total(b"9\xb99"), [0, 0, 0, 18, 0, 0, 0, 0, 0, 0]);
+    assert_eq!(total(&hot::letters()), some_litres(&[(3, 45)]));
+    assert_eq!(total(b"9\xb99"), some_litres(&[(3, 18)]));
 }
 
 /// The same in the stored cases: the second line is that of totalling.

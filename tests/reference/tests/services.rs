@@ -12,7 +12,7 @@ use wumbyra_reference::prng::Prng;
 use wumbyra_reference::services::reading::{open_counts, parse};
 use wumbyra_reference::services::settling::canonicalize;
 use wumbyra_reference::services::spelling::flatten;
-use wumbyra_reference::services::totals::{totals, totals_into};
+use wumbyra_reference::services::totals::{some_litres, totals, totals_into, ACCOUNTS, NO_LITRES};
 use wumbyra_reference::services::visits::{piece, span, Span};
 use wumbyra_reference::table::{Kind, Node, Refusal, Table};
 
@@ -80,7 +80,12 @@ fn bad_tables() -> Vec<Table> {
         // A byte has no room for it, but for its lowest eight bits it has.
         with(0, Node::new(Kind::Letter, 0, 256 + 48, 0)),
         with(0, Node::new(Kind::Range, 0, 48, 256 + 57)),
-        with(0, Node::new(Kind::Nothing, 10, 0, 0)),
+        with(0, Node::new(Kind::Nothing, 201, 0, 0)),
+        with(0, Node::new(Kind::Letter, 255, 48, 0)),
+        // A byte has no room for these, but for their lowest eight bits it has.
+        with(1, Node::new(Kind::Letter, 256, 87, 0)),
+        with(3, Node::new(Kind::Range, 256 + 200, 48, 57)),
+        with(2, Node::new(Kind::Sequence, u64::MAX, 1, 0)),
         with(5, Node::new(Kind::GREEDY_STAR, 0, 5, 0)),
         with(5, Node::new(Kind::GREEDY_STAR, 0, 3, 0)),
         with(5, Node::new(Kind::GREEDY_STAR, 0, 64, 0)),
@@ -88,7 +93,7 @@ fn bad_tables() -> Vec<Table> {
         with(5, Node::new(Kind::LAZY_STAR, 0, 5, 0)),
         with(5, Node::new(Kind::LAZY_STAR, 0, 3, 0)),
         with(5, Node::new(Kind::LAZY_STAR, 0, 64, 0)),
-        with(5, Node::new(Kind::LAZY_STAR, 10, 4, 0)),
+        with(5, Node::new(Kind::LAZY_STAR, 201, 4, 0)),
         with(4, Node::new(Kind::Either, 0, 2, 2)),
         with(4, Node::new(Kind::GREEDY_STAR, 0, 2, 0)),
     ]
@@ -119,7 +124,7 @@ fn every_service_refuses_a_bad_table_first() {
 #[test]
 fn cells_past_the_count_and_numbers_not_needed_are_not_looked_at() {
     let mut odd = table(P1);
-    odd.nodes[4] = Node::new(Kind::GREEDY_STAR, 99, 99, 99);
+    odd.nodes[4] = Node::new(Kind::GREEDY_STAR, 999, 99, 99);
     odd.nodes[3].y = 99;
     odd.nodes[1].x = 99;
     odd.nodes[1].y = 99;
@@ -198,7 +203,7 @@ fn spelling_checks_in_order() {
         totals(&star, &rounds(3_601), 3_601),
         Err(Refusal::new(8, 0))
     );
-    assert_eq!(totals(&star, &rounds(3_600), 3_601), Ok([0; 10]));
+    assert_eq!(totals(&star, &rounds(3_600), 3_601), Ok(NO_LITRES));
 }
 
 #[test]
@@ -341,14 +346,14 @@ fn visits_inside_empty_rounds_count() {
 fn totals_add_up_to_the_digits_and_go_to_the_innermost_account() {
     assert_eq!(
         totals(&table(LISTING), &[0x4c, 0xc3, 0x28], 21),
-        Ok([0, 3, 0, 0, 0, 0, 0, 0, 0, 2])
+        Ok(some_litres(&[(1, 3), (9, 2)]))
     );
     // A leaf's own account, an outer one around a leaf without, and none.
     let nested =
         table("0\tL\t2\t5\n1\tL\t-\t4\n2\tS\t-\t0\t1\n3\tK\t3\t2\n4\tL\t-\t7\n5\tS\t-\t3\t4\n");
     assert_eq!(
         totals(&nested, &[0x20], 3),
-        Ok([7, 0, 10, 8, 0, 0, 0, 0, 0, 0])
+        Ok(some_litres(&[(0, 7), (2, 10), (3, 8)]))
     );
     let mut rng = Prng::new(12);
     let mut read = 0;
@@ -388,10 +393,11 @@ fn open_counts_of_the_listing() {
 #[test]
 fn totals_go_into_as_many_cells_as_are_lent() {
     let listing = table(LISTING);
-    let (code, expected) = ([0x4c, 0xc3, 0x28], [0, 3, 0, 0, 0, 0, 0, 0, 0, 2]);
-    for cells in 0..13 {
-        let written = cells.min(10);
-        let mut litres = [77; 13];
+    let (code, expected) = ([0x4c, 0xc3, 0x28], some_litres(&[(1, 3), (9, 2)]));
+    let expected = expected.map(|litres| litres as u32);
+    for cells in 0..ACCOUNTS + 3 {
+        let written = cells.min(ACCOUNTS);
+        let mut litres = [77; ACCOUNTS + 3];
         assert_eq!(
             totals_into(&listing, &code, 21, &mut litres[..cells]),
             Ok(0)

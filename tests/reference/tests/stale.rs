@@ -17,25 +17,18 @@ use wumbyra_reference::prng::Prng;
 use wumbyra_reference::services::reading::parse;
 use wumbyra_reference::services::spelling::letters_of;
 use wumbyra_reference::services::terms::{dates, term_totals};
-use wumbyra_reference::services::totals::{entries, totals, Totals};
+use wumbyra_reference::services::totals::{
+    entries, some_litres as litres, totals, Totals, NO_LITRES,
+};
 use wumbyra_reference::services::visits::span;
 use wumbyra_reference::stale::{by_way, chain, innermost, moves_litres, text, ways, ROWS};
-use wumbyra_reference::table::{Kind, Node, Table, MOST_ACCOUNT, STALE_ACCOUNT};
+use wumbyra_reference::table::{Kind, Node, Table, STALE_ACCOUNT};
 use wumbyra_reference::tapes::random::{Tastes, HOT_METER, METER, MIXED_METER};
 use wumbyra_reference::tapes::table_of;
 use wumbyra_reference::terms::random::{day_ends, random_dates, HOT_DAYS, MIXED_DAYS, WITH_DAYS};
 use wumbyra_reference::value::{has_empty_round, spell, Value};
 
 const TASTES: Tastes = [&METER, &MIXED_METER, &HOT_METER];
-
-/// The totals of a code: accounts with their litres, the others have none.
-fn litres(some: &[(usize, u64)]) -> Totals {
-    let mut totals = [0; 10];
-    for &(account, litres) in some {
-        totals[account] = litres;
-    }
-    totals
-}
 
 fn totals_of(lines: &[&str], bits: &str) -> Totals {
     let code = Code::written(bits);
@@ -78,9 +71,8 @@ fn code_of(table: &Table, value: &Value) -> Code {
 }
 
 #[test]
-fn the_account_is_9_and_a_digit() {
+fn the_account_is_9() {
     assert_eq!(STALE_ACCOUNT, 9);
-    assert_eq!(MOST_ACCOUNT, 9);
 }
 
 /// The rows that the documents decide, each written out.
@@ -226,7 +218,7 @@ fn without_a_9_and_under_9() {
                 node.account = rng.below(9) as u64;
             }
         }
-        let mut old = [0; 10];
+        let mut old = NO_LITRES;
         for (letter, way) in ways(&without, value) {
             old[innermost(&way) as usize] += digits(&[letter]);
         }
@@ -318,7 +310,7 @@ fn terms_follow() {
                 return;
             };
             let dates = dates(letters.iter().copied(), start).expect("dates of all letters");
-            let mut expected = [0; 10];
+            let mut expected = NO_LITRES;
             for ((letter, way), date) in ways(table, value).into_iter().zip(dates) {
                 if first <= date && date <= last {
                     expected[by_way(&way) as usize] += digits(&[letter]);

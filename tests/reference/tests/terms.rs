@@ -5,12 +5,12 @@ use std::collections::HashSet;
 use wumbyra_reference::calendar::{moved, Date};
 use wumbyra_reference::code::encode;
 use wumbyra_reference::codes::random::{pattern, put_in, sample};
-use wumbyra_reference::codes::Code;
+use wumbyra_reference::codes::{totals_line, Code};
 use wumbyra_reference::load::load;
 use wumbyra_reference::prng::Prng;
 use wumbyra_reference::services::spelling::letters_of;
 use wumbyra_reference::services::terms::{dates, term_totals, term_totals_into};
-use wumbyra_reference::services::totals::{totals, Totals};
+use wumbyra_reference::services::totals::{some_litres, totals, Totals, ACCOUNTS, NO_LITRES};
 use wumbyra_reference::table::{Kind, Node, Refusal, Table};
 use wumbyra_reference::tapes::table_of;
 use wumbyra_reference::terms::random::{day_ends, random_dates, HOT_DAYS, MIXED_DAYS, WITH_DAYS};
@@ -119,7 +119,7 @@ fn a_term_outside_the_tape_is_0() {
         ] {
             let (first, last) = (moved(start, first), moved(start, last));
             if let (Some(first), Some(last)) = (first, last) {
-                assert_eq!(sampled.term(start, first, last), Ok([0; 10]));
+                assert_eq!(sampled.term(start, first, last), Ok(NO_LITRES));
             }
         }
     });
@@ -130,7 +130,7 @@ fn a_term_outside_the_tape_is_0() {
 fn terms_that_part_the_days_add_up_to_the_totals() {
     for_each_code(3, |rng, sampled| {
         let start = good_start(rng, &sampled.letters);
-        let mut added = [0; 10];
+        let mut added = NO_LITRES;
         let mut first = Some(Date::FIRST);
         // Until the last date, in steps of which most end on the tape.
         while let Some(from) = first {
@@ -217,7 +217,7 @@ fn a_bad_table_is_refused_first() {
     for bad in [
         Table::of_no_lines(),
         Table::of_nodes(&[star]),
-        Table::of_nodes(&[Node::new(Kind::Letter, 10, 68, 0)]),
+        Table::of_nodes(&[Node::new(Kind::Letter, 201, 68, 0)]),
         Table::of_nodes(&[Node::new(Kind::Letter, 0, 32, 0)]),
     ] {
         let answer = term_totals(&bad, &[1], 7, none, none, none);
@@ -231,19 +231,19 @@ fn litres_go_into_as_many_cells_as_are_lent() {
     let code = code_of(DAYS.as_bytes(), b"1DW2");
     let day = Date::new(2024, 2, 29);
     let next = Date::new(2024, 3, 1);
-    for cells in 0..12 {
-        let mut litres = [7; 12];
+    for cells in 0..ACCOUNTS + 2 {
+        let mut litres = [7; ACCOUNTS + 2];
         let (bytes, count) = (&code.bytes, code.count);
         let lent = &mut litres[..cells];
         let answer = term_totals_into(&table, bytes, count, [day, day, next], lent);
         assert_eq!(answer, Ok(0));
-        let all = [0, 1, 0, 0, 0, 0, 0, 0, 0, 2, 7, 7];
-        assert_eq!(litres[..cells], all[..cells]);
-        assert!(litres[cells..].iter().all(|&cell| cell == 7));
+        let written = cells.min(ACCOUNTS);
+        let all = some_litres(&[(1, 1), (9, 2)]).map(|litres| litres as u32);
+        assert_eq!(litres[..written], all[..written]);
+        assert!(litres[written..].iter().all(|&cell| cell == 7));
         let lent = &mut litres[..cells];
         let answer = term_totals_into(&table, bytes, count, [day, next, day], lent);
         assert_eq!(answer, Err(Refusal::new(12, 0)));
-        let written = cells.min(10);
         assert!(litres[..written].iter().all(|&cell| cell == 0));
         assert!(litres[written..].iter().all(|&cell| cell == 7));
     }
@@ -254,13 +254,12 @@ fn answers_set_by_hand() {
     let mut set = 0;
     for case in terms::all() {
         if let Some((number, totals)) = case.expected {
-            let litres = totals.map(|litres| litres.to_string()).join(",");
-            assert_eq!(
-                case.answer(),
-                format!("{number}\t0\t{litres}"),
-                "{}",
-                case.name
-            );
+            let answer = match number {
+                0 => Ok(totals),
+                _ => Err(Refusal::new(number, 0)),
+            };
+            assert_eq!(case.answer(), totals_line(answer), "{}", case.name);
+            assert!(number == 0 || totals == NO_LITRES, "{}", case.name);
             set += 1;
         }
     }
@@ -275,6 +274,7 @@ fn random_cases_are_of_every_sort() {
         "mixed random:",
         "hot random:",
         "stale random:",
+        "accounts random:",
         "damaged:",
     ] {
         let answers: Vec<String> = terms::all()
@@ -288,7 +288,8 @@ fn random_cases_are_of_every_sort() {
                 .filter(|line| line.starts_with(start))
                 .count()
         };
-        let none = count("0\t0\t0,0,0,0,0,0,0,0,0,0");
+        let none = totals_line(Ok(NO_LITRES));
+        let none = answers.iter().filter(|&line| *line == none).count();
         let counts = [none, count("0\t") - none, count("11\t"), count("12\t")];
         if sort == "damaged:" {
             assert!(count("8\t") > 4, "{sort} {answers:?}");
@@ -302,7 +303,7 @@ fn random_cases_are_of_every_sort() {
 #[test]
 fn lines_are_short_and_names_differ() {
     let all = terms::all();
-    assert!(all.len() <= 900, "{}", all.len());
+    assert!(all.len() <= 1_200, "{}", all.len());
     let mut names = HashSet::new();
     for case in &all {
         assert!(case.line().len() <= 20_000, "{}", case.name);

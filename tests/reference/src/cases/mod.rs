@@ -1,14 +1,15 @@
 //! The cases for loading: those set by hand, each with the answer read from
 //! the documents, then mutated good texts, good texts with
 //! changed trees, and random good patterns; behind them the same with kind
-//! `Z`, then with letters of the hot side. Other cases take every so many-th
-//! text that is refused, so new cases come last.
+//! `Z`, then with letters of the hot side, then with accounts to 200. Other cases
+//! take every so many-th text that is refused, so new cases come last.
 
 mod by_hand;
 pub mod mutated;
 
 use crate::hex;
 use crate::load::load;
+use crate::one_digit;
 
 pub struct Case {
     pub name: String,
@@ -18,6 +19,31 @@ pub struct Case {
 }
 
 pub fn all() -> Vec<Case> {
+    let mut cases = before_accounts();
+    cases.extend(accounts());
+    cases
+}
+
+/// The texts that loading refuses, for cases of other kinds. Of those from before
+/// 02, Job 7 they are the ones that were refused then, so that every so many-th
+/// of them is still the same.
+pub fn refused() -> Vec<Case> {
+    let mut refused = before_accounts();
+    refused.retain(|case| one_digit::load(&case.text).is_err());
+    let mut new = accounts();
+    new.retain(|case| load(&case.text).is_err());
+    refused.extend(new);
+    refused
+}
+
+/// Those about accounts to 200.
+fn accounts() -> Vec<Case> {
+    let mut cases = by_hand::account_cases();
+    cases.extend(mutated::accounts());
+    cases
+}
+
+fn before_accounts() -> Vec<Case> {
     let mut cases = by_hand::cases();
     cases.extend(mutated::mutations());
     cases.extend(mutated::changed_trees());

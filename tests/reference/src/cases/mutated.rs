@@ -1,11 +1,12 @@
 //! Random cases with a fixed seed: good texts with a few bytes or lines
 //! changed, and good patterns of 1 to 64 nodes. First of patterns that have
 //! no `Z`, then of such as mix `K` and `Z`, and apart from them of such as have
-//! letters of the hot side too.
+//! letters of the hot side too, and of such as have accounts to 200.
 
 use super::Case;
+use crate::accounts::{FIELDS, ODD_FIELDS};
 use crate::lazy;
-use crate::patterns::{random, text_of, Taste, LISTING, P1, P2, P3, P4, P5};
+use crate::patterns::{random, text_of, with_great_accounts, Taste, LISTING, P1, P2, P3, P4, P5};
 use crate::prng::Prng;
 use crate::table::Kind;
 
@@ -180,6 +181,74 @@ pub fn hot() -> Vec<Case> {
         });
     }
     cases
+}
+
+/// Mutations and good patterns with accounts to 200. Of the mutations half have
+/// another account field, the others any change.
+pub fn accounts() -> Vec<Case> {
+    let mut rng = Prng::new(0x0071_1093);
+    let rng = &mut rng;
+    let mut cases = Vec::new();
+    for index in 0..120 {
+        let count = 1 + rng.below(12);
+        let table = random(rng, count, &ANY_MIXED_PATTERN);
+        let mut text = text_of(&with_great_accounts(rng, &table));
+        for _ in 0..1 + rng.below(3) {
+            text = match index % 2 {
+                0 => change_account(rng, text),
+                _ => change(rng, text, LIKELY_MIXED_BYTES),
+            };
+        }
+        cases.push(Case {
+            name: format!("accounts: mutation {index}"),
+            text,
+            expected: None,
+        });
+    }
+    for (index, count) in [1, 2, 3, 5, 8, 13, 21, 34, 55, 62, 63, 64]
+        .into_iter()
+        .enumerate()
+    {
+        let table = random(rng, count, &ANY_HOT_PATTERN);
+        cases.push(Case {
+            name: format!("accounts: good pattern {index}"),
+            text: text_of(&with_great_accounts(rng, &table)),
+            expected: Some((0, count as u64)),
+        });
+    }
+    cases
+}
+
+/// A text with another account field in one of its lines; as it is if it has no
+/// line with three fields.
+pub fn change_account(rng: &mut Prng, text: Vec<u8>) -> Vec<u8> {
+    if text.is_empty() {
+        return text;
+    }
+    let field = match rng.below(4) {
+        0 => rng.below(300).to_string(),
+        1 => format!("{:03}", rng.below(260)),
+        2 => rng.pick(ODD_FIELDS).to_string(),
+        _ => rng.pick(FIELDS).0.to_string(),
+    };
+    with_lines(rng, text, |rng, lines| {
+        let line = rng.below(lines.len());
+        let mut fields: Vec<&[u8]> = lines[line].split(|&byte| byte == 9).collect();
+        if fields.len() < 3 {
+            return;
+        }
+        let account = [field.as_bytes(), line_end(fields[2])].concat();
+        fields[2] = &account;
+        lines[line] = fields.join(&9);
+    })
+}
+
+/// The byte 10 that a last field ends with, if it is the last.
+fn line_end(field: &[u8]) -> &[u8] {
+    match field.ends_with(b"\n") {
+        true => b"\n",
+        false => b"",
+    }
 }
 
 fn good_text(rng: &mut Prng, index: usize) -> Vec<u8> {

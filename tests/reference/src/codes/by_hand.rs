@@ -2,7 +2,6 @@
 
 use super::{just_enough, Case, Code, Lent};
 use crate::cases;
-use crate::load::load;
 use crate::patterns::{LISTING, P1, P2, P3, P4, P5};
 use crate::services::totals::Totals;
 use crate::tapes::by_hand::{NO_ROUND, ONE, RANGE, RANGES};
@@ -234,10 +233,7 @@ fn ranges(hand: &mut Hand) {
 
 /// Some of the texts that loading refuses, with codes of every sort.
 fn refused_texts(hand: &mut Hand) {
-    let refused: Vec<cases::Case> = cases::all()
-        .into_iter()
-        .filter(|case| load(&case.text).is_err())
-        .collect();
+    let refused = cases::refused();
     for (index, case) in refused.iter().step_by(30).enumerate() {
         let mut code = Code::written(["", "1", "01001", "010100111"][index % 4]);
         code.count += index as u64 / 4 % 2;

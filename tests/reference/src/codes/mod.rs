@@ -1,6 +1,7 @@
 //! The cases for spelling, totalling and settling a code: those set by hand,
 //! then random codes, whole and damaged.
 
+mod accounts;
 mod by_hand;
 pub mod damaged;
 mod full;
@@ -15,7 +16,7 @@ use crate::hex;
 use crate::services::reading::parse;
 use crate::services::settling::canonicalize;
 use crate::services::spelling::flatten;
-use crate::services::totals::{totals, Totals};
+use crate::services::totals::{totals, Totals, NO_LITRES};
 use crate::services::MOST_LETTERS;
 use crate::table::{number_and_value, Refusal, Table};
 use crate::tapes::{
@@ -80,6 +81,8 @@ pub fn all() -> Vec<Case> {
     cases.extend(stale::cases());
     cases.extend(random::stale());
     cases.extend(full::cases());
+    cases.extend(accounts::cases());
+    cases.extend(random::accounts());
     cases
 }
 
@@ -108,14 +111,18 @@ pub fn just_enough(table: &Table, code: &Code) -> Lent {
     }
 }
 
-/// Number, value and the ten totals, which are parted by commas.
+/// So many totals are always printed: those of accounts 0 to 9, which were all
+/// before 02, Job 7.
+const ALWAYS_PRINTED: usize = 10;
+
+/// Number, value and the totals, which are parted by commas: the first ten, and
+/// behind them as many as there are up to the last that is not 0.
 pub fn totals_line(answer: Result<Totals, Refusal>) -> String {
     let (number, value) = number_and_value(&answer.map(|_| 0));
-    let litres: Vec<String> = answer
-        .unwrap_or([0; 10])
-        .iter()
-        .map(|litres| litres.to_string())
-        .collect();
+    let totals = answer.unwrap_or(NO_LITRES);
+    let last = totals.iter().rposition(|&litres| litres > 0);
+    let printed = last.map_or(0, |last| last + 1).max(ALWAYS_PRINTED);
+    let litres: Vec<String> = totals[..printed].iter().map(u64::to_string).collect();
     format!("{number}\t{value}\t{}", litres.join(","))
 }
 

@@ -4,9 +4,9 @@
 
 use super::{just_enough, Case, Code, Lent};
 use crate::code::encode;
-use crate::patterns::{random, text_of, with_stale_part};
+use crate::patterns::{random, text_of, with_great_accounts, with_stale_part};
 use crate::prng::Prng;
-use crate::stale::moves_litres;
+use crate::stale::{by_way, moves_litres, ways, Way};
 use crate::table::{Kind, Table};
 use crate::tapes::random::{Tastes, HOT, HOT_METER, METER, MIXED, MIXED_METER, WITHOUT_Z};
 use crate::value::{has_empty_round, spell, Value};
@@ -44,6 +44,38 @@ pub fn stale() -> Vec<Case> {
         }
     }
     cases
+}
+
+/// Codes with empty rounds, of patterns with accounts to 200, every third with
+/// account 9 above others. Each has litres of an account above 9.
+pub fn accounts() -> Vec<Case> {
+    let mut rng = Prng::new(747);
+    let rng = &mut rng;
+    let mut cases = Vec::new();
+    while cases.len() < 90 {
+        let index = cases.len();
+        let (table, value) = with_empty_round(rng, &WITH_ACCOUNTS, index);
+        let table = drawn_accounts(rng, index, &table);
+        if has_great_litres(&table, &value) {
+            cases.push(case(rng, "accounts random", index, &table, &value));
+        }
+    }
+    cases
+}
+
+/// The table with accounts to 200, every third with account 9 above others.
+pub fn drawn_accounts(rng: &mut Prng, index: usize, table: &Table) -> Table {
+    let table = match index % 3 {
+        0 => with_stale_part(rng, table),
+        _ => table.clone(),
+    };
+    with_great_accounts(rng, &table)
+}
+
+/// Whether the reading has litres of an account above 9.
+pub fn has_great_litres(table: &Table, value: &Value) -> bool {
+    let great = |(letter, way): &(u8, Way)| (b'1'..=b'9').contains(letter) && by_way(way) > 9;
+    ways(table, value).iter().any(great)
 }
 
 /// So many codes with empty rounds, pairs of one tape and pairs of two tapes.

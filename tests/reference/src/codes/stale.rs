@@ -4,7 +4,7 @@
 
 use super::by_hand::Hand;
 use super::{Case, Code};
-use crate::services::totals::Totals;
+use crate::services::totals::{some_litres, Totals, NO_LITRES};
 use crate::stale::{by_way, chain, text, tower, tower_bits, Way, ROWS};
 
 pub fn cases() -> Vec<Case> {
@@ -16,18 +16,9 @@ pub fn cases() -> Vec<Case> {
     hand.cases
 }
 
-/// Accounts with their litres, the others have none.
-pub fn litres(some: &[(usize, u64)]) -> Totals {
-    let mut totals = [0; 10];
-    for &(account, litres) in some {
-        totals[account] = litres;
-    }
-    totals
-}
-
 /// The litres of digits, each with the way to its leaf.
-fn litres_by_way(letters: &[(u8, Way)]) -> Totals {
-    let mut totals = [0; 10];
+pub fn litres_by_way(letters: &[(u8, Way)]) -> Totals {
+    let mut totals = NO_LITRES;
     for (digit, way) in letters {
         totals[by_way(way) as usize] += u64::from(digit - b'0');
     }
@@ -38,11 +29,11 @@ fn rows(hand: &mut Hand) {
     for row in ROWS {
         let name = format!("stale: {}", row.name);
         hand.exact(&name, text(row.lines), &Code::written(row.bits));
-        hand.totals(litres(row.litres));
+        hand.totals(some_litres(row.litres));
     }
 }
 
-/// Every account above every account, none included.
+/// Every account of one digit above every one, none included.
 fn pairs(hand: &mut Hand) {
     let written = |account: usize| match account {
         0 => "-".to_string(),
@@ -86,6 +77,6 @@ fn towers(hand: &mut Hand) {
         let code = Code::written(&tower_bits(digits));
         hand.exact(&name, tower(stale), &code);
         let account = if stale.is_some() { 9 } else { 3 };
-        hand.totals(litres(&[(account, 45)]));
+        hand.totals(some_litres(&[(account, 45)]));
     }
 }

@@ -26,8 +26,8 @@ pub fn dates(letters: impl IntoIterator<Item = u8>, start: Date) -> Option<Vec<D
 
 /// Totalling litres within a term, "first and last date both included": 2, 8,
 /// 3, 11, 12, each with 0 beside it. The code is totalled as given, empty
-/// rounds included. A caller that needs totals beside a refusal takes ten
-/// times 0.
+/// rounds included. A caller that needs totals beside a refusal takes
+/// `NO_LITRES`.
 pub fn term_totals(
     table: &Table,
     code: &[u8],

@@ -1,11 +1,26 @@
 //! Totalling litres.
 
 use super::judge_length;
-use crate::table::{judge, Refusal, Table, STALE_ACCOUNT};
+use crate::table::{judge, Refusal, Table, MOST_ACCOUNT, STALE_ACCOUNT};
 use crate::walk::{walk, NotWhole, Step};
 
-/// The litres of accounts 0 to 9.
-pub type Totals = [u64; 10];
+/// 02, Job 7: "There are 201 totals."
+pub const ACCOUNTS: usize = MOST_ACCOUNT as usize + 1;
+
+/// The litres of accounts 0 to 200.
+pub type Totals = [u64; ACCOUNTS];
+
+/// "refused, all are 0"; and no litres.
+pub const NO_LITRES: Totals = [0; ACCOUNTS];
+
+/// Totals written by hand: accounts with their litres, the others have none.
+pub fn some_litres(some: &[(usize, u64)]) -> Totals {
+    let mut totals = NO_LITRES;
+    for &(account, litres) in some {
+        totals[account] = litres;
+    }
+    totals
+}
 
 /// A letter that the code spells, and the account that it goes to.
 #[derive(Clone, Copy, PartialEq, Eq, Debug)]
@@ -65,7 +80,7 @@ pub fn entries(table: &Table, code: &[u8], bits: u64) -> Result<Vec<Entry>, NotW
 
 /// The litres of these entries, account by account.
 pub fn added<'a>(entries: impl IntoIterator<Item = &'a Entry>) -> Totals {
-    let mut totals = [0; 10];
+    let mut totals = NO_LITRES;
     for entry in entries {
         totals[entry.account as usize] += entry.litres();
     }
@@ -80,8 +95,8 @@ pub fn judged_entries(table: &Table, code: &[u8], bits: u64) -> Result<Vec<Entry
     Ok(entries)
 }
 
-/// Totalling litres: 2, 8, 3. Gives the totals of accounts 0 to 9; a caller
-/// that needs totals beside a refusal takes ten times 0.
+/// Totalling litres: 2, 8, 3. Gives the totals of accounts 0 to 200; a caller
+/// that needs totals beside a refusal takes `NO_LITRES`.
 pub fn totals(table: &Table, code: &[u8], bits: u64) -> Result<Totals, Refusal> {
     let entries = judged_entries(table, code, bits)?;
     Ok(added(&entries))
@@ -100,8 +115,7 @@ pub fn totals_into(
 /// As many totals are written, from account 0 on, as there are accounts and
 /// cells; they are 0 if it is refused. Cells behind them keep what they hold.
 pub fn put(answer: Result<Totals, Refusal>, litres: &mut [u32]) -> Result<u64, Refusal> {
-    // "refused, all are 0"
-    let all = answer.unwrap_or([0; 10]);
+    let all = answer.unwrap_or(NO_LITRES);
     for (account, total) in all.into_iter().enumerate() {
         if let Some(cell) = litres.get_mut(account) {
             *cell = u32::try_from(total).expect("at most 3,600 times 9 litres");

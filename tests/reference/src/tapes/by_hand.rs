@@ -247,10 +247,7 @@ fn unreadable(hand: &mut Hand) {
 
 /// Some of the texts that loading refuses, with tapes of every sort.
 fn refused_texts(hand: &mut Hand) {
-    let refused: Vec<cases::Case> = cases::all()
-        .into_iter()
-        .filter(|case| load(&case.text).is_err())
-        .collect();
+    let refused = cases::refused();
     for (index, case) in refused.iter().step_by(20).enumerate() {
         let tape: &[u8] = [&b""[..], b"a", b"3W2", b"a b"][index % 4];
         let name = format!("no table: {}", case.name);

@@ -1,6 +1,7 @@
 //! The cases for reading a tape: those set by hand, then random patterns
 //! with tapes that they read and tapes that they do not.
 
+mod accounts;
 pub mod by_hand;
 mod full;
 mod hot;
@@ -47,6 +48,7 @@ pub fn all() -> Vec<Case> {
     cases.extend(hot::cases());
     cases.extend(random::hot());
     cases.extend(full::cases());
+    cases.extend(accounts::cases());
     cases
 }
 

@@ -5,6 +5,7 @@ use super::{code_of_sevens, Case, Hand, DAYS, LAZY_SEVENS, SEVENS};
 use crate::calendar::Date;
 use crate::codes::Code;
 use crate::hot::H7;
+use crate::services::totals::NO_LITRES;
 
 const MAY_10: u32 = 20_240_510;
 const MAY_11: u32 = 20_240_511;
@@ -70,7 +71,7 @@ fn empty_tapes(hand: &mut Hand) {
     ] {
         let name = format!("empty tape: {start}, {first} to {last}");
         hand.tape(&name, DAYS, b"", [start, first, last]);
-        hand.expect(number, [0; 10]);
+        hand.expect(number, NO_LITRES);
     }
 }
 

@@ -5,7 +5,6 @@ use super::{code_of_sevens, Case, Hand, SEVENS};
 use crate::calendar::Date;
 use crate::cases;
 use crate::codes::Code;
-use crate::load::load;
 
 const GOOD: Date = Date::new(2024, 5, 10);
 const NONE: Date = Date::new(2023, 2, 29);
@@ -72,10 +71,7 @@ fn combined(hand: &mut Hand, text: &str, starts: &[Start], terms: &[Term], tree:
 
 /// Some of the texts that loading refuses: a table of no lines is 2, with 0.
 fn refused_texts(hand: &mut Hand) {
-    let refused: Vec<cases::Case> = cases::all()
-        .into_iter()
-        .filter(|case| load(&case.text).is_err())
-        .collect();
+    let refused = cases::refused();
     for (index, case) in refused.iter().step_by(60).enumerate() {
         let code = Code::written(["", "1", "00011", "0100"][index % 4]);
         let start = [GOOD, NONE][index % 2];

@@ -1,6 +1,7 @@
 //! The cases for totalling litres within a term: those set by hand, days, dates
 //! and the order of causes, then random codes with dates of every sort.
 
+mod accounts;
 mod by_hand;
 mod causes;
 mod dates;
@@ -14,7 +15,7 @@ use crate::codes::{totals_line, Code};
 use crate::hex;
 use crate::memo::preferred_reading;
 use crate::services::terms::term_totals;
-use crate::services::totals::Totals;
+use crate::services::totals::{some_litres, Totals, NO_LITRES};
 use crate::tapes::table_of;
 
 /// The listing's pattern in 01 with a third side, `D`: digits go to account 1,
@@ -46,6 +47,8 @@ pub fn all() -> Vec<Case> {
     cases.extend(random::cases());
     cases.extend(stale::cases());
     cases.extend(random::stale());
+    cases.extend(accounts::cases());
+    cases.extend(random::accounts());
     cases
 }
 
@@ -59,7 +62,7 @@ impl Case {
         format!("t {text} {code} {} {}", self.code.count, dates.join(" "))
     }
 
-    /// Number, value and the ten totals, as totalling answers them.
+    /// Number, value and the totals, as totalling answers them.
     pub fn answer(&self) -> String {
         totals_line(term_totals(
             &table_of(&self.text),
@@ -115,16 +118,12 @@ impl Hand {
 
     /// Sets the answer of the case added last: a refusal.
     pub fn refuses(&mut self, number: u64) {
-        self.expect(number, [0; 10]);
+        self.expect(number, NO_LITRES);
     }
 
     /// The same: accounts with litres, the others have none.
     pub fn gives(&mut self, litres: &[(usize, u64)]) {
-        let mut totals = [0; 10];
-        for &(account, some) in litres {
-            totals[account] = some;
-        }
-        self.expect(0, totals);
+        self.expect(0, some_litres(litres));
     }
 
     pub fn expect(&mut self, number: u64, totals: Totals) {

@@ -6,7 +6,7 @@ use super::Case;
 use crate::calendar::{all, month_length, moved, Date};
 use crate::code::encode;
 use crate::codes::damaged::damage;
-use crate::codes::random::{pattern, put_in, sample};
+use crate::codes::random::{drawn_accounts, has_great_litres, pattern, put_in, sample};
 use crate::codes::Code;
 use crate::patterns::{random, text_of, with_stale_part, Taste};
 use crate::prng::Prng;
@@ -75,6 +75,29 @@ pub fn stale() -> Vec<Case> {
         for _ in 0..2 {
             let dates = random_dates(rng, days);
             cases.push(case("stale random", cases.len(), &table, &code, dates));
+        }
+    }
+    cases
+}
+
+/// Patterns with accounts to 200, as in the random codes.
+pub fn accounts() -> Vec<Case> {
+    let mut rng = Prng::new(367);
+    let rng = &mut rng;
+    let mut cases = Vec::new();
+    while cases.len() < 80 {
+        let index = cases.len() / 2;
+        let tastes = [&WITH_DAYS, &MIXED_DAYS, &HOT_DAYS][index % 3];
+        let (table, value) = with_days(rng, tastes, index);
+        let table = drawn_accounts(rng, index / 3, &table);
+        if !has_great_litres(&table, &value) {
+            continue;
+        }
+        let code = Code::of_bits(&encode(&table, &value));
+        let days = day_ends(&spell(&value));
+        for _ in 0..2 {
+            let dates = random_dates(rng, days);
+            cases.push(case("accounts random", cases.len(), &table, &code, dates));
         }
     }
     cases

@@ -3,7 +3,6 @@
 use super::Case;
 use crate::cases;
 use crate::codes::Code;
-use crate::load::load;
 use crate::patterns::{LISTING, P1, P2, P3, P4, P5};
 use crate::services::spelling::letters_of;
 use crate::services::visits::count_of_visits;
@@ -368,10 +367,7 @@ fn order(hand: &mut Hand) {
 
 /// Some of the texts that loading refuses.
 fn refused_texts(hand: &mut Hand) {
-    let refused: Vec<cases::Case> = cases::all()
-        .into_iter()
-        .filter(|case| load(&case.text).is_err())
-        .collect();
+    let refused = cases::refused();
     for case in refused.iter().step_by(40) {
         let name = format!("no table: {}", case.name);
         hand.add(&name, &case.text, b"a", &Code::written("001"), 0, 0);

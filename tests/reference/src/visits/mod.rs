@@ -1,6 +1,7 @@
 //! The cases for showing the piece of a visit: those set by hand, then random
 //! codes with empty rounds, damaged codes and codes of another tape.
 
+mod accounts;
 mod by_hand;
 mod hot;
 mod lazy;
@@ -30,6 +31,7 @@ pub fn all() -> Vec<Case> {
     cases.extend(lazy::cases());
     cases.extend(hot::cases());
     cases.extend(random::hot());
+    cases.extend(accounts::cases());
     cases
 }
 

@@ -174,6 +174,7 @@ pub fn places(hand: &mut Hand) {
     hand.text("part 62 on line 63", &tower(64), 0, 64);
 }
 
+/// 10, 11 and 99 were refused before 02, Job 7; `accounts` has more.
 pub fn accounts(hand: &mut Hand) {
     for (account, good) in [
         ("-", true),
@@ -182,7 +183,7 @@ pub fn accounts(hand: &mut Hand) {
         ("8", true),
         ("9", true),
         ("0", false),
-        ("10", false),
+        ("10", true),
         ("01", false),
         ("", false),
         ("+", false),
@@ -194,8 +195,8 @@ pub fn accounts(hand: &mut Hand) {
         ("1 ", false),
         (":", false),
         ("/", false),
-        ("11", false),
-        ("99", false),
+        ("11", true),
+        ("99", true),
         ("*", false),
         ("\u{b9}", false),
     ] {

@@ -46,7 +46,13 @@ pub fn fields(hand: &mut Hand) {
         ("CR LF", "1\tZ\t-\t0\r\n"),
         ("no line end", "1\tZ\t-\t0"),
     ] {
-        hand.text(&format!("Z with {name}"), &format!("0\tE\t-\n{line}"), 1, 1);
+        // This one was refused before 02, Job 7.
+        let (number, value) = match name {
+            "account 10" => (0, 2),
+            _ => (1, 1),
+        };
+        let text = format!("0\tE\t-\n{line}");
+        hand.text(&format!("Z with {name}"), &text, number, value);
     }
     hand.text("Z with account 1", "0\tE\t-\n1\tZ\t1\t0\n", 0, 2);
     hand.text("Z with account 9", "0\tE\t-\n1\tZ\t9\t0\n", 0, 2);

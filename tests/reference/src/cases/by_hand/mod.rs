@@ -1,6 +1,7 @@
 //! The cases set by hand. The answer beside each was read from 01 and from
 //! the answers taken where two careful implementers differ.
 
+mod accounts;
 mod fields;
 mod hot;
 mod lazy;
@@ -69,6 +70,20 @@ pub fn hot_cases() -> Vec<Case> {
     hot::trees(&mut hand);
     for case in &mut hand.cases {
         case.name.insert_str(0, "hot: ");
+    }
+    hand.cases
+}
+
+/// Those about accounts to 200.
+pub fn account_cases() -> Vec<Case> {
+    let mut hand = Hand { cases: Vec::new() };
+    accounts::fields(&mut hand);
+    accounts::odd_fields(&mut hand);
+    accounts::orders(&mut hand);
+    accounts::long(&mut hand);
+    accounts::all(&mut hand);
+    for case in &mut hand.cases {
+        case.name.insert_str(0, "accounts: ");
     }
     hand.cases
 }
