@@ -18,7 +18,7 @@ static Table table;
 static Masks masks;
 static uint8_t text[8192], tape[LETTERS], unread[LETTERS], spelled[2][LETTERS], codes[2][BYTES + 8], settled[2][BYTES + 8];
 static uint64_t words[2][CELLS];
-static uint32_t litres[2][10], bits;
+static uint32_t litres[2][ACCOUNTS], bits;
 static size_t size, n, bytes;
 static char expression[8192];
 static volatile uint64_t sink;
@@ -36,11 +36,11 @@ static void p_one(void) { sink = parse_of(unread, 1, CELLS); }
 static void p_one_tests(void) { sink = parse_of(unread, 1, 0); }
 static void p_walk(void) { sink = wumbyra_flatten(text, size, codes[0], bytes, bits, spelled[0], 0); }
 static void p_spell(void) { sink = wumbyra_flatten(text, size, codes[0], bytes, bits, spelled[0], LETTERS); }
-static void p_totals(void) { sink = wumbyra_totals(text, size, codes[0], bytes, bits, litres[0], 10); }
+static void p_totals(void) { sink = wumbyra_totals(text, size, codes[0], bytes, bits, litres[0], ACCOUNTS); }
 // Terms of a tape that begins with the year 2000: all of its days, which are the most litres to add, and a month of them.
 enum { START = 20000101, BEFORE = 20000115, FIRST = 20000116, LAST = 20000215, BEHIND = 20000216, END = 20991231 };
 static uint64_t term_of(uint32_t first, uint32_t last) {
-  return wumbyra_term_totals(text, size, codes[0], bytes, bits, START, first, last, litres[0], 10);
+  return wumbyra_term_totals(text, size, codes[0], bytes, bits, START, first, last, litres[0], ACCOUNTS);
 }
 static void p_term(void) { sink = term_of(START, END); }
 static void p_month(void) { sink = term_of(FIRST, LAST); }
@@ -147,15 +147,15 @@ static void take(size_t letters, unsigned lefts) {
 // A term of all days has the totals of the tape, which stand on side 1, and three terms that part the days add up to them.
 static void compare_terms(void) {
   static const uint32_t terms[][2] = {{START, BEFORE}, {FIRST, LAST}, {BEHIND, END}};
-  uint32_t sums[10] = {0};
+  uint32_t sums[ACCOUNTS] = {0};
   same("a term of all days", term_of(START, END) == 0 && !memcmp(litres[0], litres[1], sizeof litres[0]));
   for (int k = 0; k < 3; k++) {
     same("a term", term_of(terms[k][0], terms[k][1]) == 0);
-    for (int a = 0; a < 10; a++) sums[a] += litres[0][a];
+    for (int a = 0; a < ACCOUNTS; a++) sums[a] += litres[0][a];
   }
   same("terms that part the tape", !memcmp(sums, litres[1], sizeof sums));
   same("causes 11 and 12", term_of(END, START) == 12ull << 32 &&
-                             wumbyra_term_totals(text, size, codes[0], bytes, bits, 0, 0, 0, litres[0], 10) == 11ull << 32);
+                             wumbyra_term_totals(text, size, codes[0], bytes, bits, 0, 0, 0, litres[0], ACCOUNTS) == 11ull << 32);
 }
 
 static void compare(void) {
@@ -184,7 +184,7 @@ static void compare(void) {
   same("totals", sink == 0);
   c_totals();
   same("C's totals", sink == 0 && !memcmp(litres[0], litres[1], sizeof litres[0]));
-  for (int a = 0; a < 10; a++) same("litres", wumbyra_total(text, size, codes[0], bytes, bits, a) == litres[1][a]);
+  for (int a = 0; a < ACCOUNTS; a++) same("litres", wumbyra_total(text, size, codes[0], bytes, bits, a) == litres[1][a]);
   compare_terms();
   p_span();
   same("cause 10", sink == 10ull << 32);

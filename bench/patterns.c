@@ -184,7 +184,8 @@ size_t write_text(const Table *t, char *text) {
   char *s = text;
   for (int l = 0; l < t->count; l++) {
     Node d = t->node[l];
-    s += sprintf(s, "%d\t%c\t%c", l, d.kind, d.account ? '0' + d.account : '-');
+    s += sprintf(s, "%d\t%c\t", l, d.kind);
+    s += d.account ? sprintf(s, "%d", d.account) : sprintf(s, "-");
     switch (d.kind) {
       case 'L': s += sprintf(s, "\t%c", d.first); break;
       case 'R': s += sprintf(s, "\t%c\t%c", d.first, d.second); break;

@@ -341,8 +341,8 @@ static uint32_t charge_node(const Charging *w, int l, int account, uint32_t at) 
   }
 }
 
-void charge(const Table *t, const uint8_t *code, uint32_t litres[10]) {
-  memset(litres, 0, 10 * sizeof *litres);
+void charge(const Table *t, const uint8_t *code, uint32_t litres[ACCOUNTS]) {
+  memset(litres, 0, ACCOUNTS * sizeof *litres);
   Charging w = {t->node, code, litres};
   charge_node(&w, t->count - 1, 0, 0);
 }
@@ -355,7 +355,7 @@ static int name(uint64_t *named, int l, int part) {
 }
 
 static int good_node(uint64_t *named, int l, Node d) {
-  if (d.account > 9) return 0;
+  if (d.account > MAX_ACCOUNT) return 0;
   switch (d.kind) {
     case 'E': return 1;
     case 'L': return is_letter(d.first);
@@ -398,10 +398,10 @@ uint64_t flatten(const Table *t, const uint8_t *code, size_t bytes, uint32_t cou
   return letters;
 }
 
-uint64_t totals(const Table *t, const uint8_t *code, size_t bytes, uint32_t count, uint32_t litres[10]) {
+uint64_t totals(const Table *t, const uint8_t *code, size_t bytes, uint32_t count, uint32_t litres[ACCOUNTS]) {
   uint64_t letters = tested(t, code, bytes, count);
   if (letters > MAX_LETTERS) {
-    memset(litres, 0, 10 * sizeof *litres);
+    memset(litres, 0, ACCOUNTS * sizeof *litres);
     return letters;
   }
   charge(t, code, litres);

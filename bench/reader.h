@@ -7,6 +7,9 @@
 // Letters are the bytes 33 to 126, and those with the highest bit set as well, 161 to 254.
 static inline int is_letter(int c) { return (c & 127) >= 33 && (c & 127) <= 126; }
 
+// Accounts are 1 to MAX_ACCOUNT, and 0 is for litres without one.
+enum { MAX_ACCOUNT = 200, ACCOUNTS = MAX_ACCOUNT + 1 };
+
 // first and second: the parts, or a range's limits, or a letter
 typedef struct {
   uint8_t kind, first, second, account;  // kind: E L R S A K Z; account: 0 for none
@@ -40,12 +43,12 @@ int check_code(const Table *t, const uint8_t *code, size_t bytes, uint32_t count
 
 // Walks over a code that is known to be whole: they test nothing.
 uint32_t spell(const Table *t, const uint8_t *code, uint8_t *tape);
-void charge(const Table *t, const uint8_t *code, uint32_t litres[10]);
+void charge(const Table *t, const uint8_t *code, uint32_t litres[ACCOUNTS]);
 
 // The services on codes with the tests that the proved ones make, in the same order and in the same two passes: the rules of the table
 // (cause 2); one walk over the whole code that tests everything and counts the letters (8); the limit of letters (3); for `flatten` the
 // cells of the tape (9). Only then does a second walk, which tests nothing, write letters or add litres. Answers are those of the C
 // interface: number << 32 | value, which is the number of letters for `flatten` and 0 for `totals`. Litres are zeros where it refuses.
 uint64_t flatten(const Table *t, const uint8_t *code, size_t bytes, uint32_t count, uint8_t *tape, size_t cells);
-uint64_t totals(const Table *t, const uint8_t *code, size_t bytes, uint32_t count, uint32_t litres[10]);
+uint64_t totals(const Table *t, const uint8_t *code, size_t bytes, uint32_t count, uint32_t litres[ACCOUNTS]);
 #endif

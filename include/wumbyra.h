@@ -55,10 +55,11 @@
  *  none (8), though that byte lies between the ends. Litres are bytes 48 to 57, the digits of ASCII, and no others.
  *
  * Accounts
- *  A line of a pattern has an account, 1 to 9, or none. The litres of a letter go to the innermost account: that of its leaf, else
- *  that of the line which names the leaf, and so on up to the root; where there is none, to account 0. From 1.4.0 on account 9,
- *  that of stale litres, outranks the others: what stands at or under a line of account 9 goes there, however deep, even if a line
- *  further in has another account. What stands beside such a line, in another part, side or round, gets nothing of it.
+ *  A line of a pattern has an account, 1 to 200, or none; before 1.5.0 it was 1 to 9. It is written in one to three digits, without
+ *  a leading zero, or as `-` for none. The litres of a letter go to the innermost account: that of its leaf, else that of the line
+ *  which names the leaf, and so on up to the root; where there is none, to account 0. From 1.4.0 on account 9, that of stale litres,
+ *  outranks the others: what stands at or under a line of account 9 goes there, however deep, even if a line further in has another
+ *  account. What stands beside such a line, in another part, side or round, gets nothing of it. No other account outranks any.
  *
  * Codes
  *  A code is bytes and a bit count. Bits fill bytes from the highest; the bytes are exactly enough for the count, unused bits
@@ -91,10 +92,10 @@ extern "C" {
 #endif
 
 /* The version of this header. wumbyra_version() tells that of the library that is linked: the two differ only where a program
- * was compiled with another header than its library's. What is added, a call, a kind of line or letters, raises the minor number,
- * and so does a rule that gives litres to other accounts; a call that is changed or dropped raises the major number. */
+ * was compiled with another header than its library's. What is added, a call, a kind of line, letters or accounts, raises the minor
+ * number, and so does a rule that gives litres to other accounts; a call that is changed or dropped raises the major number. */
 #define WUMBYRA_VERSION_MAJOR 1
-#define WUMBYRA_VERSION_MINOR 4
+#define WUMBYRA_VERSION_MINOR 5
 #define WUMBYRA_VERSION_PATCH 0
 #define WUMBYRA_VERSION_NUMBER (WUMBYRA_VERSION_MAJOR * 10000 + WUMBYRA_VERSION_MINOR * 100 + WUMBYRA_VERSION_PATCH)
 
@@ -120,9 +121,9 @@ enum {
 #define WUMBYRA_MAX_LINES 64
 
 /* Bytes of a pattern text. None that is longer than the first loads: 31 sequences or alternatives, 32 ranges and a star, in 64
- * lines, have 745 bytes. Whatever a text holds, its first 1,025 bytes are answered as all of it is, so a caller that reads a file
- * need hold no more of it. */
-#define WUMBYRA_MAX_TEXT_BYTES 745
+ * lines with accounts of three digits, have 873 bytes. Whatever a text holds, its first 1,025 bytes are answered as all of it is, so
+ * a caller that reads a file need hold no more of it. */
+#define WUMBYRA_MAX_TEXT_BYTES 873
 #define WUMBYRA_DECISIVE_TEXT_BYTES 1025
 
 /* Letters of a tape: 0 to 3,600. A longer tape is refused for its length, so a caller that reads a file need hold no more than one
@@ -140,11 +141,12 @@ enum {
 #define WUMBYRA_MAX_CODE_BYTES 65536
 #define WUMBYRA_MAX_CODE_BITS 524288
 
-/* Accounts, 0 to 9, and the litres of all of them together at most: nine for each letter. */
-#define WUMBYRA_ACCOUNTS 10
+/* Accounts, 0 to 200, and the litres of all of them together at most: nine for each letter. A program that was compiled with the 10
+ * of an older header lends ten cells for totals, and gets those of accounts 0 to 9. */
+#define WUMBYRA_ACCOUNTS 201
 #define WUMBYRA_MAX_LITRES 32400
 
-/* Stack that suffices for any call, in bytes. The most that was measured is 29 KB, totals of 63 nested stars, in all or within a term;
+/* Stack that suffices for any call, in bytes. The most that was measured is 30 KB, totals of 63 nested stars, in all or within a term;
  * tests/guard runs every call on a stack of this size. */
 #define WUMBYRA_STACK_BYTES 32768
 
@@ -265,7 +267,7 @@ WUMBYRA_CHECK_ANSWER
 uint64_t wumbyra_span(const uint8_t *text, size_t text_len, const uint8_t *tape, size_t tape_len, const uint8_t *code,
                       size_t code_len, uint32_t count, uint32_t node, uint32_t visit);
 
-/* The litres of one account, 0 to 9; of an account above 9, 0.
+/* The litres of one account, 0 to 200; of an account above 200, 0.
  *
  * Order: 2, 8, 3. Value: the litres; at a refusal 0.
  * No buffer is written. */
@@ -277,7 +279,8 @@ uint64_t wumbyra_total(const uint8_t *text, size_t text_len, const uint8_t *code
  *
  * Order: 2, 8, 3. Value: 0.
  * Written: litres[a] is the total of account a, for as many accounts from 0 on as cells are lent, and at most
- * WUMBYRA_ACCOUNTS; fewer cells are no refusal. Cells behind the last account are left as they were.
+ * WUMBYRA_ACCOUNTS; fewer cells are no refusal, and litres of accounts without a cell are then in none. Cells behind the last
+ * account are left as they were.
  *
  *   2, 8, 3  the same cells are written, and all with 0 */
 WUMBYRA_CHECK_ANSWER

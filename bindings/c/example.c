@@ -91,6 +91,54 @@ static void try_stale(void)
         failed = 1;
 }
 
+/* A block's meters: a digit behind `w` is for account 20, behind `g` for account 100, behind `b` for account 200; one without such a letter
+ * has the star's account, 99, which is not 9 and takes nothing from the others. */
+static void try_many_accounts(void)
+{
+    static const char block[] = "0\tL\t-\tw\n1\tR\t20\t0\t9\n2\tS\t-\t0\t1\n3\tL\t-\tg\n4\tR\t100\t0\t9\n5\tS\t-\t3\t4\n"
+                                "6\tL\t-\tb\n7\tR\t200\t0\t9\n8\tS\t-\t6\t7\n9\tR\t-\t0\t9\n"
+                                "10\tA\t-\t2\t5\n11\tA\t-\t10\t8\n12\tA\t-\t11\t9\n13\tK\t99\t12\n";
+    static const char read[] = "3w4g5b67";
+    enum { letters = 8, old_accounts = 10 };
+    const uint32_t day = WUMBYRA_DATE(2024, 2, 29);
+    const uint8_t *text = (const uint8_t *)block;
+    const size_t len = sizeof block - 1;
+    uint64_t words[2 * (letters + 1)], answer;
+    uint8_t code[WUMBYRA_CODE_BYTES(letters)];
+    uint32_t litres[WUMBYRA_ACCOUNTS + 1], term[WUMBYRA_ACCOUNTS], bits, sum = 0, i;
+    size_t size;
+    answer = wumbyra_parse(text, len, (const uint8_t *)read, letters, words, WUMBYRA_WORDS(letters), code, sizeof code);
+    expect("many accounts: parse", answer, WUMBYRA_OK, 56);
+    bits = wumbyra_value(answer);
+    size = WUMBYRA_BYTES_OF_BITS(bits);
+    litres[WUMBYRA_ACCOUNTS] = 7;
+    expect("many accounts: totals", wumbyra_totals(text, len, code, size, bits, litres, WUMBYRA_ACCOUNTS + 1), WUMBYRA_OK, 0);
+    for (i = 0; i < WUMBYRA_ACCOUNTS; i++)
+        sum += litres[i];
+    if (litres[20] != 4 || litres[99] != 10 || litres[100] != 5 || litres[200] != 6 || sum != 25 || litres[WUMBYRA_ACCOUNTS] != 7)
+        failed = 1;
+    expect("many accounts: term", wumbyra_term_totals(text, len, code, size, bits, day, day, day, term, WUMBYRA_ACCOUNTS), WUMBYRA_OK, 0);
+    if (memcmp(litres, term, sizeof term) != 0)
+        failed = 1;
+    expect("total of account 200", wumbyra_total(text, len, code, size, bits, 200), WUMBYRA_OK, 6);
+    expect("total of account 201", wumbyra_total(text, len, code, size, bits, 201), WUMBYRA_OK, 0);
+    expect("total of account 456", wumbyra_total(text, len, code, size, bits, 256 + 200), WUMBYRA_OK, 0);
+    /* A program that knows ten accounts lends ten cells, and gets these. */
+    memset(litres, 7, sizeof litres);
+    expect("ten cells", wumbyra_totals(text, len, code, size, bits, litres, old_accounts), WUMBYRA_OK, 0);
+    for (i = 0; i < WUMBYRA_ACCOUNTS; i++)
+        if (litres[i] != (i < old_accounts ? 0 : 0x07070707))
+            failed = 1;
+    expect("totals refused", wumbyra_totals(text, len, code, size, bits - 1, litres, WUMBYRA_ACCOUNTS), WUMBYRA_NOT_A_CODE, 0);
+    for (i = 0; i < WUMBYRA_ACCOUNTS; i++)
+        if (litres[i] != 0)
+            failed = 1;
+    expect("account 200", wumbyra_load((const uint8_t *)"0\tE\t200\n", 8), WUMBYRA_OK, 1);
+    expect("account 201", wumbyra_load((const uint8_t *)"0\tE\t201\n", 8), WUMBYRA_LINE_FORM, 0);
+    expect("account 010", wumbyra_load((const uint8_t *)"0\tE\t010\n", 8), WUMBYRA_LINE_FORM, 0);
+    expect("account 0", wumbyra_load((const uint8_t *)"0\tE\t0\n", 6), WUMBYRA_LINE_FORM, 0);
+}
+
 /* Three days of digits for account 1, parted by `D`, the first of them 28 February 2024. */
 static void try_terms(void)
 {
@@ -169,7 +217,7 @@ int main(void)
     expect("totals refused", wumbyra_totals(text, len, code, 3, 25, litres, 2), WUMBYRA_NOT_A_CODE, 0);
     if (litres[0] != 0 || litres[1] != 0 || litres[9] != 2)
         failed = 1;
-    expect("total of no account", wumbyra_total(text, len, code, 3, bits, 10), WUMBYRA_OK, 0);
+    expect("total of no account", wumbyra_total(text, len, code, 3, bits, WUMBYRA_ACCOUNTS), WUMBYRA_OK, 0);
     expect("flatten", wumbyra_flatten(text, len, code, 3, bits, spelled, letters), WUMBYRA_OK, letters);
     if (memcmp(spelled, tape, letters) != 0)
         failed = 1;
@@ -186,6 +234,7 @@ int main(void)
     try_lazy_star();
     try_hot_letters();
     try_stale();
+    try_many_accounts();
     try_terms();
     expect("count past the bytes", wumbyra_total(text, len, code, 3, 25, 1), WUMBYRA_NOT_A_CODE, 0);
     return failed;

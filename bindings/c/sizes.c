@@ -14,6 +14,7 @@ static_assert(WUMBYRA_BYTES_OF_BITS(0) == 0 && WUMBYRA_BYTES_OF_BITS(1) == 1, "b
 static_assert(WUMBYRA_BYTES_OF_BITS(8) == 1 && WUMBYRA_BYTES_OF_BITS(9) == 2, "bytes of a byte's bits");
 static_assert(WUMBYRA_BYTES_OF_BITS(UINT32_MAX) == 536870912, "bytes of as many bits as can be counted");
 static_assert(WUMBYRA_MAX_LITRES == 9 * WUMBYRA_MAX_LETTERS, "nine litres a letter");
+static_assert(WUMBYRA_ACCOUNTS == 201, "accounts 0 to 200");
 static_assert(WUMBYRA_FIRST_LETTER == 33 && WUMBYRA_LAST_LETTER == 126, "letters");
 static_assert(WUMBYRA_FIRST_HOT_LETTER == 161 && WUMBYRA_LAST_HOT_LETTER == 254, "letters of the hot side");
 static_assert(WUMBYRA_MAX_TEXT_BYTES < WUMBYRA_DECISIVE_TEXT_BYTES, "a text that loads is decided whole");
@@ -36,10 +37,10 @@ static size_t write_longest(char *text)
     char *end = text;
     unsigned place = 0, named = 0;
     for (; place < 32; place++)
-        end += sprintf(end, "%u\tR\t%u\t0\t9\n", place, 1 + place % 9);
+        end += sprintf(end, "%u\tR\t%u\t0\t9\n", place, 100 + place);
     for (; place < WUMBYRA_MAX_LINES - 1; place++, named += 2)
-        end += sprintf(end, "%u\tS\t1\t%u\t%u\n", place, named, named + 1);
-    end += sprintf(end, "%u\tK\t1\t%u\n", place, named);
+        end += sprintf(end, "%u\tS\t100\t%u\t%u\n", place, named, named + 1);
+    end += sprintf(end, "%u\tK\t200\t%u\n", place, named);
     return (size_t)(end - text);
 }
 

@@ -26,7 +26,13 @@ DAYS = (
     b"0\tR\t-\t0\t9\n1\tL\t-\tW\n2\tS\t9\t1\t0\n3\tR\t1\t0\t9\n4\tL\t-\tD\n5\tA\t-\t3\t4\n6\tA\t-\t2\t5\n7\tK\t-\t6\n"
 )
 FIRST_DAY, LAST_DAY = datetime.date(2000, 1, 1), datetime.date(2099, 12, 31)
+ROOM = ACCOUNTS + 7  # cells, of which the last ones are lent to no call
 REPOSITORY = pathlib.Path(__file__).resolve().parents[2]
+
+
+def litres(some):
+    """All totals: those of the accounts that are named, and 0 for the others."""
+    return [some.get(account, 0) for account in range(ACCOUNTS)]
 
 
 def code(bits):
@@ -85,7 +91,7 @@ class Services(Case):
         self.assertEqual(pattern.canonicalize(found, bits), (found, bits))
         self.assertEqual(pattern.piece(tape, found, bits, 0, 0), b"\xa1")
         self.assertEqual(pattern.piece(tape, found, bits, 1, 1), b"\xb9")
-        self.assertEqual(pattern.totals(found, bits), [0, 7, 0, 0, 0, 0, 0, 0, 0, 0])
+        self.assertEqual(pattern.totals(found, bits), litres({1: 7}))
         # Bytes 127 to 160 lie between the ends of the range, and are no letters.
         for byte in [32, 127, 128, 160, 255]:
             self.refused(4, 1, pattern.parse, bytes([55, byte]))
@@ -101,10 +107,32 @@ class Services(Case):
         pattern = Pattern(b"0\tR\t4\t0\t9\n1\tK\t9\t0\n2\tL\t-\t7\n3\tS\t3\t1\t2\n")
         found, bits, _ = pattern.parse(b"567")
         self.assertEqual((found, bits), code("0001101010001101101"))
-        due = [0, 0, 0, 7, 0, 0, 0, 0, 0, 11]
+        due = litres({3: 7, 9: 11})
         self.assertEqual(pattern.totals(found, bits), due)
         self.assertEqual(pattern.total(found, bits, 9), 11)
         self.assertEqual(pattern.term_totals(found, bits, *(3 * [FIRST_DAY])), due)
+
+    def test_accounts_to_200(self):
+        # Each account has litres of its own; only 9 takes those of a line below it.
+        for account in range(1, ACCOUNTS):
+            text = f"0\tL\t{account}\t5\n1\tL\t3\t7\n2\tK\t{account}\t1\n3\tS\t-\t0\t2\n".encode()
+            pattern = Pattern(text)
+            found, bits, _ = pattern.parse(b"577")
+            due = {account: 5}
+            below = 9 if account == 9 else 3
+            due[below] = due.get(below, 0) + 14
+            self.assertEqual(pattern.totals(found, bits), litres(due))
+            self.assertEqual(pattern.total(found, bits, account), due[account])
+            self.assertEqual(pattern.term_totals(found, bits, *(3 * [FIRST_DAY])), litres(due))
+        self.assertEqual(len(litres({})), 201)
+        for account in [201, 256, 256 + 200, 2**32 + 200]:
+            self.assertEqual(pattern.total(found, bits, account), 0)
+
+    def test_account_fields(self):
+        for field in ["-", "1", "9", "10", "99", "100", "109", "199", "200"]:
+            self.assertEqual(Pattern(f"0\tE\t{field}\n".encode()).lines, 1)
+        for field in ["", "0", "00", "01", "09", "010", "020", "201", "209", "256", "265", "1000", "+9", "-9", "9-", " 9", "9 ", "--"]:
+            self.refused(1, 1, Pattern, f"0\tE\t-\n1\tK\t{field}\t0\n".encode())
 
     def test_a_whole_listing(self):
         pattern = Pattern(LISTING)
@@ -112,9 +140,9 @@ class Services(Case):
         found, bits, words = pattern.parse(b"3W2")
         self.assertEqual((found.hex(), bits), ("4cc328", 21))
         self.assertEqual([bin(word).count("1") for word in words[1::2]], [4, 4, 4, 1])
-        litres = [pattern.total(found, bits, account) for account in range(11)]
-        self.assertEqual(litres, [0, 3, 0, 0, 0, 0, 0, 0, 0, 2, 0])
-        self.assertEqual(pattern.totals(found, bits), litres[:10])
+        totals = [pattern.total(found, bits, account) for account in range(ACCOUNTS + 1)]
+        self.assertEqual(totals, litres({1: 3, 9: 2}) + [0])
+        self.assertEqual(pattern.totals(found, bits), totals[:ACCOUNTS])
         self.assertEqual(pattern.span(b"3W2", found, bits, 2, 0), (1, 2))
         self.assertEqual(pattern.piece(b"3W2", found, bits, 2, 0), b"W2")
         self.assertEqual(pattern.piece(bytearray(b"3W2"), found, bits, 4, 0), b"3")
@@ -136,14 +164,14 @@ class Services(Case):
 
     def test_totals_in_any_number_of_cells(self):
         found, bits, _ = Pattern(LISTING).parse(b"3W2")
-        for cells in range(13):
+        for cells in [*range(13), *range(ACCOUNTS - 2, ACCOUNTS + 4)]:
             written = min(cells, ACCOUNTS)
             # The library sees the first cells only, those behind them are canaries.
-            for count, number, totals in [(bits, 0, [0, 3, 0, 0, 0, 0, 0, 0, 0, 2]), (bits + 1, 8, 10 * [0])]:
-                litres = (ctypes.c_uint32 * 16)(*(16 * [77]))
-                answer = LIBRARY.wumbyra_totals(LISTING, len(LISTING), found, len(found), count, litres, cells)
+            for count, number, totals in [(bits, 0, litres({1: 3, 9: 2})), (bits + 1, 8, litres({}))]:
+                lent = (ctypes.c_uint32 * ROOM)(*(ROOM * [77]))
+                answer = LIBRARY.wumbyra_totals(LISTING, len(LISTING), found, len(found), count, lent, cells)
                 self.assertEqual(answer, number << 32)
-                self.assertEqual(list(litres), totals[:written] + (16 - written) * [77])
+                self.assertEqual(list(lent), totals[:written] + (ROOM - written) * [77])
 
     def test_longest_tape(self):
         found, bits, words = Pattern(P1).parse(3600 * b"a")
@@ -157,7 +185,7 @@ class Terms(Case):
         pattern = Pattern(DAYS)
         found, bits, _ = pattern.parse(b"1D2W3DD4")
         start = datetime.date(2024, 2, 27)
-        for first, last, litres in [
+        for first, last, (one, nine) in [
             (start, start, (1, 0)),
             ((2024, 2, 28), (2024, 2, 28), (2, 3)),
             ((2024, 2, 29), (2024, 2, 29), (0, 0)),
@@ -169,7 +197,7 @@ class Terms(Case):
             ((2024, 3, 2), LAST_DAY, (0, 0)),
         ]:
             totals = pattern.term_totals(found, bits, start, first, last)
-            self.assertEqual(totals, [0, litres[0], *(7 * [0]), litres[1]])
+            self.assertEqual(totals, litres({1: one, 9: nine}))
         self.assertEqual(pattern.term_totals(found, bits, start, FIRST_DAY, LAST_DAY), pattern.totals(found, bits))
         # Of a year without a leap day the fourth day is another one.
         self.assertEqual(pattern.term_totals(found, bits, (2023, 2, 27), (2023, 3, 2), (2023, 3, 2))[1], 4)
@@ -177,7 +205,7 @@ class Terms(Case):
     def test_every_date_is_stepped(self):
         pattern = Pattern(DAYS)
         found, bits, _ = pattern.parse(b"1D2")
-        due = [0, 2, *(8 * [0])]
+        due = litres({1: 2})
         date, stepped = FIRST_DAY, 0
         while date < LAST_DAY:
             following = date + datetime.timedelta(1)
@@ -198,7 +226,7 @@ class Terms(Case):
                         due = False
                     given = year, month, day
                     if due:
-                        self.assertEqual(pattern.term_totals(*empty, given, given, given), 10 * [0])
+                        self.assertEqual(pattern.term_totals(*empty, given, given, given), litres({}))
                     else:
                         self.refused(11, 0, pattern.term_totals, *empty, given, FIRST_DAY, LAST_DAY)
                         self.refused(12, 0, pattern.term_totals, *empty, FIRST_DAY, given, LAST_DAY)
@@ -238,15 +266,16 @@ class Terms(Case):
 
     def test_terms_in_any_number_of_cells(self):
         found, bits, _ = Pattern(DAYS).parse(b"1D2W3")
-        for cells in range(13):
+        due, none = litres({1: 2, 9: 3}), litres({})
+        for cells in [*range(13), *range(ACCOUNTS - 2, ACCOUNTS + 4)]:
             written = min(cells, ACCOUNTS)
             # The library sees the first cells only, those behind them are canaries.
-            for last, number, totals in [(20250101, 0, [0, 2, 0, 0, 0, 0, 0, 0, 0, 3]), (20241231, 12, 10 * [0]), (20250100, 12, 10 * [0])]:
-                litres = (ctypes.c_uint32 * 16)(*(16 * [77]))
+            for last, number, totals in [(20250101, 0, due), (20241231, 12, none), (20250100, 12, none)]:
+                lent = (ctypes.c_uint32 * ROOM)(*(ROOM * [77]))
                 dates = 20241231, 20250101, last
-                answer = LIBRARY.wumbyra_term_totals(DAYS, len(DAYS), found, len(found), bits, *dates, litres, cells)
+                answer = LIBRARY.wumbyra_term_totals(DAYS, len(DAYS), found, len(found), bits, *dates, lent, cells)
                 self.assertEqual(answer, number << 32)
-                self.assertEqual(list(litres), totals[:written] + (16 - written) * [77])
+                self.assertEqual(list(lent), totals[:written] + (ROOM - written) * [77])
 
 
 class Refusals(Case):

@@ -4,7 +4,7 @@
 
     pattern = Pattern(b"0\\tL\\t1\\t7\\n1\\tK\\t-\\t0\\n")
     code, bits, words = pattern.parse(b"77")
-    pattern.totals(code, bits)                  # [0, 14, 0, 0, 0, 0, 0, 0, 0, 0]
+    pattern.totals(code, bits)[1]               # 14, the litres of account 1
 
 A refusal is raised as `Refused`, with the number and the value of docs/REFERENCE.md. Bytes may be `bytes`, `bytearray`, `memoryview`
 or an array; text is none, so a `str` is a TypeError.
@@ -27,12 +27,13 @@ from typing import TYPE_CHECKING, List, NamedTuple, Tuple, Union
 from ._library import LIBRARY
 from ._refused import CAUSES, Refused
 
-__version__ = "1.4.0"
+__version__ = "1.5.0"
 __all__ = ["ACCOUNTS", "CAUSES", "MAX_CODE_BYTES", "MAX_LETTERS", "Code", "Parsed", "Pattern", "Refused", "Span", "version"]
 
 MAX_LETTERS = 3600
 MAX_CODE_BYTES = 65536
-ACCOUNTS = 10
+# Accounts, 0 to 200: as many totals as `totals` and `term_totals` give.
+ACCOUNTS = 201
 
 if TYPE_CHECKING:
     Words = array[int]
@@ -167,17 +168,17 @@ class Pattern:
         return _bytes(tape)[start : start + length]
 
     def total(self, code: BytesLike, bits: int, account: int) -> int:
-        """The litres of an account, 0 for one above 9. Refused with 8 or 3."""
+        """The litres of an account, 0 for one above 200. Refused with 8 or 3."""
         return _value(LIBRARY.wumbyra_total(*self._coded(code, bits), _count(account, "an account")))
 
     def totals(self, code: BytesLike, bits: int) -> List[int]:
-        """The litres of accounts 0 to 9, by one pass over the code. Refused with 8 or 3."""
+        """The litres of accounts 0 to 200, by one pass over the code. Refused with 8 or 3."""
         litres = _cells("I", ACCOUNTS)
         _value(LIBRARY.wumbyra_totals(*self._coded(code, bits), *litres.buffer_info()))
         return litres.tolist()
 
     def term_totals(self, code: BytesLike, bits: int, start: Date, first: Date, last: Date) -> List[int]:
-        """The litres of accounts 0 to 9 within a term: those of the letters that are dated from `first` to `last`, both included.
+        """The litres of accounts 0 to 200 within a term: those of the letters that are dated from `first` to `last`, both included.
 
         `start` is the date of the tape's first letter, and each `D` ends a day. Refused with 8, 3, 11 or 12.
         """

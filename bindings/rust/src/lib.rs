@@ -4,7 +4,7 @@
 //! let pattern = wumbyra::Pattern::load(b"0\tL\t1\t7\n1\tK\t-\t0\n").unwrap();
 //! let parsed = pattern.parse(b"77").unwrap();
 //! assert_eq!(parsed.code.bits, 3);
-//! assert_eq!(pattern.totals(&parsed.code), Ok([0, 14, 0, 0, 0, 0, 0, 0, 0, 0]));
+//! assert_eq!(pattern.totals(&parsed.code).unwrap()[1], 14); // the litres of account 1
 //! ```
 //!
 //! The functions that end in `_into` take buffers from the caller and leave in them what include/wumbyra.h says; the others
@@ -24,8 +24,8 @@ use std::ops::Range;
 pub const MAX_LETTERS: usize = 3_600;
 /// Bytes of a code at most.
 pub const MAX_CODE_BYTES: usize = 65_536;
-/// Accounts, from 0 on.
-pub const ACCOUNTS: usize = 10;
+/// Accounts, 0 to 200.
+pub const ACCOUNTS: usize = 201;
 
 /// The version of the library that is linked: major * 10000 + minor * 100 + patch.
 pub fn version() -> u32 {
@@ -203,12 +203,12 @@ impl Pattern {
         Ok(&tape[self.span(tape, code, node, visit)?])
     }
 
-    /// The litres of an account; 0 for an account above 9. Refused with 8 or 3.
+    /// The litres of an account; 0 for an account above 200. Refused with 8 or 3.
     pub fn total(&self, code: &Code, account: u32) -> Result<u32, Refusal> {
         calls::total(&self.text, &code.bytes, code.bits, account).value()
     }
 
-    /// The litres of accounts 0 to 9, by one pass over the code. Refused with 8 or 3.
+    /// The litres of accounts 0 to 200, by one pass over the code. Refused with 8 or 3.
     pub fn totals(&self, code: &Code) -> Result<[u32; ACCOUNTS], Refusal> {
         let mut litres = [0; ACCOUNTS];
         self.totals_into(code, &mut litres)?;
@@ -222,7 +222,7 @@ impl Pattern {
         Ok(())
     }
 
-    /// The litres of accounts 0 to 9 within a term: those of the letters that are dated from `first` to `last`, both included. `start`
+    /// The litres of accounts 0 to 200 within a term: those of the letters that are dated from `first` to `last`, both included. `start`
     /// is the date of the tape's first letter, and each `D` ends a day. Refused with 8, 3, 11 or 12.
     pub fn term_totals(
         &self,

@@ -85,7 +85,7 @@ fn hot_letters() {
     assert_eq!(hot.canonicalize(&read).as_ref(), Ok(&read));
     assert_eq!(hot.piece(tape, &read, 0, 0), Ok(&b"\xa1"[..]));
     assert_eq!(hot.piece(tape, &read, 1, 1), Ok(&b"\xb9"[..]));
-    assert_eq!(hot.totals(&read), Ok([0, 7, 0, 0, 0, 0, 0, 0, 0, 0]));
+    assert_eq!(hot.totals(&read), Ok(litres(7, 0)));
     for byte in [32, 127, 128, 160, 255] {
         let refused = Err(Refusal::TapeByte { position: 1 });
         assert_eq!(hot.parse(&[b'7', byte]), refused);
@@ -116,10 +116,7 @@ fn a_whole_listing() {
         .map(|two| two[1].count_ones())
         .collect();
     assert_eq!(open, [4, 4, 4, 1]);
-    assert_eq!(
-        listing.totals(&parsed.code),
-        Ok([0, 3, 0, 0, 0, 0, 0, 0, 0, 2])
-    );
+    assert_eq!(listing.totals(&parsed.code), Ok(litres(3, 2)));
     assert_eq!(listing.total(&parsed.code, 10), Ok(0));
     assert_eq!(listing.span(b"3W2", &parsed.code, 2, 0), Ok(1..3));
     assert_eq!(listing.piece(b"3W2", &parsed.code, 4, 1), Ok(&b"W2"[..]));
@@ -186,30 +183,31 @@ fn buffers_that_are_one_short_are_left_as_they_were() {
 fn totals_in_any_number_of_cells() {
     let listing = pattern(LISTING);
     let read = listing.parse(b"3W2").expect("it is read").code;
-    let expected = [0, 3, 0, 0, 0, 0, 0, 0, 0, 2, 77, 77];
-    for cells in 0..=expected.len() {
-        let mut litres = [77; 12];
-        assert_eq!(listing.totals_into(&read, &mut litres[..cells]), Ok(()));
+    let expected = litres(3, 2);
+    for cells in 0..=ROOM {
+        let mut lent = [77; ROOM];
+        assert_eq!(listing.totals_into(&read, &mut lent[..cells]), Ok(()));
         let written = cells.min(ACCOUNTS);
-        assert_eq!(litres[..written], expected[..written]);
-        assert_eq!(litres[written..], [77; 12][written..]);
-        for (account, total) in (0..).zip(&litres[..written]) {
-            assert_eq!(listing.total(&read, account), Ok(*total));
-        }
+        assert_eq!(lent[..written], expected[..written]);
+        assert_eq!(lent[written..], [77; ROOM][written..]);
     }
+    for (account, total) in (0..).zip(expected) {
+        assert_eq!(listing.total(&read, account), Ok(total));
+    }
+    assert_eq!(listing.total(&read, ACCOUNTS as u32), Ok(0));
 }
 
 #[test]
 fn refused_totals_are_zeros() {
     let listing = pattern(LISTING);
-    for (cells, written) in [(0, 0), (4, 4), (10, 10), (12, 10)] {
-        let mut litres = [77; 12];
+    for (cells, written) in [(0, 0), (4, 4), (10, 10), (201, 201), (203, 201)] {
+        let mut litres = [77; ROOM];
         assert_eq!(
             listing.totals_into(&code("0"), &mut litres[..cells]),
             Err(Refusal::NotACode)
         );
-        assert_eq!(litres[..written], [0; 12][..written]);
-        assert_eq!(litres[written..], [77; 12][written..]);
+        assert_eq!(litres[..written], [0; ROOM][..written]);
+        assert_eq!(litres[written..], [77; ROOM][written..]);
     }
     assert_eq!(listing.totals(&code("0")), Err(Refusal::NotACode));
     let long = Code {
@@ -224,10 +222,20 @@ fn date(year: u32, month: u32, day: u32) -> Date {
     Date { year, month, day }
 }
 
-fn litres(first: u32, ninth: u32) -> [u32; ACCOUNTS] {
+/// Cells for totals, of which the last ones are behind the last account.
+const ROOM: usize = ACCOUNTS + 3;
+
+/// All totals: those of these accounts, and 0 for the others.
+fn some_litres(some: &[(usize, u32)]) -> [u32; ACCOUNTS] {
     let mut all = [0; ACCOUNTS];
-    (all[1], all[9]) = (first, ninth);
+    for &(account, litres) in some {
+        all[account] += litres;
+    }
     all
+}
+
+fn litres(first: u32, ninth: u32) -> [u32; ACCOUNTS] {
+    some_litres(&[(1, first), (9, ninth)])
 }
 
 /// Four days from 27 February 2024 on, and terms inside, across and outside them.
@@ -265,11 +273,47 @@ fn stale_litres() {
     let stale = pattern(b"0\tR\t4\t0\t9\n1\tK\t9\t0\n2\tL\t-\t7\n3\tS\t3\t1\t2\n");
     let read = stale.parse(b"567").expect("it is read").code;
     assert_eq!(read, code("0001101010001101101"));
-    let due = Ok([0, 0, 0, 7, 0, 0, 0, 0, 0, 11]);
+    let due = Ok(some_litres(&[(3, 7), (9, 11)]));
     assert_eq!(stale.totals(&read), due);
     assert_eq!(stale.total(&read, 9), Ok(11));
     let day = date(2024, 2, 29);
     assert_eq!(stale.term_totals(&read, day, day, day), due);
+}
+
+/// Each account has litres of its own, and only 9 takes those of a line below it.
+#[test]
+fn accounts_to_200() {
+    assert_eq!(ACCOUNTS, 201);
+    let day = date(2024, 2, 29);
+    for account in 1..ACCOUNTS {
+        let text = format!("0\tL\t{account}\t5\n1\tL\t3\t7\n2\tK\t{account}\t1\n3\tS\t-\t0\t2\n");
+        let block = pattern(text.as_bytes());
+        let read = block.parse(b"577").expect("it is read").code;
+        let below = if account == 9 { 9 } else { 3 };
+        let due = some_litres(&[(account, 5), (below, 14)]);
+        assert_eq!(block.totals(&read), Ok(due));
+        assert_eq!(block.term_totals(&read, day, day, day), Ok(due));
+        assert_eq!(block.total(&read, account as u32), Ok(due[account]));
+        for none in [201, 256 + account as u32, u32::MAX] {
+            assert_eq!(block.total(&read, none), Ok(0));
+        }
+    }
+}
+
+#[test]
+fn account_fields() {
+    let text = |field: &str| format!("0\tE\t-\n1\tK\t{field}\t0\n");
+    for field in ["-", "1", "9", "10", "99", "100", "109", "199", "200"] {
+        let loaded = Pattern::load(text(field).as_bytes());
+        assert_eq!(loaded.map(|pattern| pattern.lines()), Ok(2), "{field}");
+    }
+    for field in [
+        "", "0", "00", "01", "09", "010", "020", "201", "209", "256", "265", "1000", "+9", "-9",
+        "9-", " 9", "9 ", "--",
+    ] {
+        let loaded = Pattern::load(text(field).as_bytes());
+        assert_eq!(loaded, Err(Refusal::LineForm { line: 1 }), "{field}");
+    }
 }
 
 #[test]
@@ -368,22 +412,22 @@ fn terms_in_any_number_of_cells() {
     let read = days.parse(b"1D2W3").expect("it is read").code;
     let (start, next) = (date(2024, 12, 31), date(2025, 1, 1));
     let due = litres(2, 3);
-    for cells in 0..=12 {
+    for cells in 0..=ROOM {
         let written = cells.min(ACCOUNTS);
-        let mut into = [77; 12];
+        let mut into = [77; ROOM];
         assert_eq!(
             days.term_totals_into(&read, start, next, next, &mut into[..cells]),
             Ok(())
         );
         assert_eq!(into[..written], due[..written]);
-        assert_eq!(into[written..], [77; 12][written..]);
-        into = [77; 12];
+        assert_eq!(into[written..], [77; ROOM][written..]);
+        into = [77; ROOM];
         assert_eq!(
             days.term_totals_into(&read, start, next, start, &mut into[..cells]),
             Err(Refusal::NotATerm)
         );
-        assert_eq!(into[..written], [0; 12][..written]);
-        assert_eq!(into[written..], [77; 12][written..]);
+        assert_eq!(into[..written], [0; ROOM][..written]);
+        assert_eq!(into[written..], [77; ROOM][written..]);
     }
 }
 

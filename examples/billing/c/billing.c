@@ -1,4 +1,5 @@
-/* billing FOLDER: the litres of all flats under FOLDER, as one table on standard output.
+/* billing FOLDER: the litres of all flats under FOLDER, as one table on standard output. It has a column for each account that some bill
+ * has litres on.
  *
  * Each flat is a folder with pattern.tsv and tape.txt. One that is billed for some days only has term.tsv too, with three dates: that of the
  * tape's first letter, and the first and the last of the term. A flat whose pattern, tape or term is refused gets no litres at all: it
@@ -154,15 +155,28 @@ static void print_cause(uint64_t answer)
     }
 }
 
-/* A row of the table: the litres of accounts 0 to 9, and of all. */
-static void print_row(const char *name, const uint64_t litres[WUMBYRA_ACCOUNTS])
+/* The sums of all bills, account by account. */
+static void add_up(const struct flat *flats, size_t count, uint64_t sums[WUMBYRA_ACCOUNTS])
+{
+    size_t i;
+    int a;
+
+    memset(sums, 0, WUMBYRA_ACCOUNTS * sizeof *sums);
+    for (i = 0; i < count; i++)
+        for (a = 0; a < WUMBYRA_ACCOUNTS && is_billed(&flats[i]); a++)
+            sums[a] += flats[i].litres[a];
+}
+
+/* A row of the table: the litres of each account that has a column, and of all. There is a column where the sum is above 0. */
+static void print_row(const char *name, const uint64_t litres[WUMBYRA_ACCOUNTS], const uint64_t sums[WUMBYRA_ACCOUNTS])
 {
     uint64_t all = 0;
     int a;
 
     fputs(name, stdout);
     for (a = 0; a < WUMBYRA_ACCOUNTS; a++) {
-        printf("\t%" PRIu64, litres[a]);
+        if (sums[a] > 0)
+            printf("\t%" PRIu64, litres[a]);
         all += litres[a];
     }
     printf("\t%" PRIu64 "\n", all);
@@ -170,24 +184,24 @@ static void print_row(const char *name, const uint64_t litres[WUMBYRA_ACCOUNTS])
 
 static void print_table(const struct flat *flats, size_t count)
 {
-    uint64_t litres[WUMBYRA_ACCOUNTS], sums[WUMBYRA_ACCOUNTS] = {0};
+    uint64_t litres[WUMBYRA_ACCOUNTS], sums[WUMBYRA_ACCOUNTS];
     size_t i;
     int a;
 
+    add_up(flats, count, sums);
     fputs("flat", stdout);
     for (a = 0; a < WUMBYRA_ACCOUNTS; a++)
-        printf("\t%d", a);
+        if (sums[a] > 0)
+            printf("\t%d", a);
     puts("\tall");
     for (i = 0; i < count; i++) {
         if (!is_billed(&flats[i]))
             continue;
-        for (a = 0; a < WUMBYRA_ACCOUNTS; a++) {
+        for (a = 0; a < WUMBYRA_ACCOUNTS; a++)
             litres[a] = flats[i].litres[a];
-            sums[a] += litres[a];
-        }
-        print_row(flats[i].name, litres);
+        print_row(flats[i].name, litres, sums);
     }
-    print_row("sum", sums);
+    print_row("sum", sums, sums);
 }
 
 /* How many flats are not billed. */

@@ -1,4 +1,5 @@
-"""billing FOLDER: the litres of all flats under FOLDER, as one table on standard output.
+"""billing FOLDER: the litres of all flats under FOLDER, as one table on standard output. It has a column for each account that some bill
+has litres on.
 
 Each flat is a folder with pattern.tsv and tape.txt. One that is billed for some days only has term.tsv too, with three dates: that of the
 tape's first letter, and the first and the last of the term. A flat whose pattern, tape or term is refused gets no litres at all: it
@@ -42,7 +43,7 @@ def read_term(flat):
 
 
 def bill(flat):
-    """The litres of accounts 0 to 9."""
+    """The litres of all accounts."""
     text, tape, term = read(flat, "pattern.tsv"), read(flat, "tape.txt"), read_term(flat)
     if tape.endswith(b"\n"):
         tape = tape[:-1]  # the file's last line end is no letter of the tape
@@ -76,10 +77,11 @@ def main(arguments):
         print(f"billing: {arguments[1]} cannot be read", file=sys.stderr)
         return 2
     billed, refused = bill_all(Path(arguments[1]), names)
-    billed["sum"] = [sum(litres[account] for litres in billed.values()) for account in range(ACCOUNTS)]
-    print("flat", *range(ACCOUNTS), "all", sep="\t")
-    for name, litres in billed.items():
-        print(name, *litres, sum(litres), sep="\t")
+    sums = [sum(litres[account] for litres in billed.values()) for account in range(ACCOUNTS)]
+    columns = [account for account in range(ACCOUNTS) if sums[account] > 0]
+    print("flat", *columns, "all", sep="\t")
+    for name, litres in [*billed.items(), ("sum", sums)]:
+        print(name, *(litres[account] for account in columns), sum(litres), sep="\t")
     print("\nnot billed")
     for name, why in refused.items():
         print(name, *why, sep="\t")

@@ -1,4 +1,5 @@
-//! billing FOLDER: the litres of all flats under FOLDER, as one table on standard output.
+//! billing FOLDER: the litres of all flats under FOLDER, as one table on standard output. It has a column for each account that some bill
+//! has litres on.
 //!
 //! Each flat is a folder with pattern.tsv and tape.txt. One that is billed for some days only has term.tsv too, with three dates: that of
 //! the tape's first letter, and the first and the last of the term. A flat whose pattern, tape or term is refused gets no litres at all:
@@ -68,29 +69,35 @@ fn bill(flat: &Path) -> Result<Litres, Unbilled> {
     })
 }
 
-/// A row of the table: the litres of accounts 0 to 9, and of all.
-fn print_row(name: &str, litres: &[u64]) {
+/// A row of the table: the litres of each account that has a column, and of all.
+fn print_row(name: &str, litres: &[u64], columns: &[usize]) {
     print!("{name}");
-    for l in litres {
-        print!("\t{l}");
+    for &account in columns {
+        print!("\t{}", litres[account]);
     }
     println!("\t{}", litres.iter().sum::<u64>());
 }
 
 fn print_table(bills: &[(String, Result<Litres, Unbilled>)]) {
-    let accounts: Vec<String> = (0..ACCOUNTS).map(|a| a.to_string()).collect();
-    println!("flat\t{}\tall", accounts.join("\t"));
+    let billed: Vec<(&str, [u64; ACCOUNTS])> = bills
+        .iter()
+        .filter_map(|(name, bill)| Some((name.as_str(), bill.as_ref().ok()?.map(u64::from))))
+        .collect();
     let mut sums = [0; ACCOUNTS];
-    for (name, bill) in bills {
-        if let Ok(litres) = bill {
-            let litres = litres.map(u64::from);
-            print_row(name, &litres);
-            for (sum, l) in sums.iter_mut().zip(litres) {
-                *sum += l;
-            }
+    for (_, litres) in &billed {
+        for (sum, l) in sums.iter_mut().zip(litres) {
+            *sum += l;
         }
     }
-    print_row("sum", &sums);
+    // A column where the sum is above 0.
+    let columns: Vec<usize> = (0..ACCOUNTS).filter(|&a| sums[a] > 0).collect();
+    print!("flat");
+    columns.iter().for_each(|account| print!("\t{account}"));
+    println!("\tall");
+    for (name, litres) in &billed {
+        print_row(name, litres, &columns);
+    }
+    print_row("sum", &sums, &columns);
 }
 
 /// Whether all flats are billed.
