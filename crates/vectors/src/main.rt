@@ -1,16 +1,19 @@
 // For tests alone: runs each case of standard input, one a line, and prints what the services answer and leave in the lent
 // buffers. The first field of a line is one letter, the case's kind: `l` loads a text, `p` reads a tape, `c` spells, totals
-// and settles a code, `s` shows a visit's piece, `t` totals within a billing term. The pattern's text in hexadecimal comes
-// next; the fields behind it stand in the kind's module, here or in crate vector_codes. Fields are parted by spaces. Byte 10
-// ends each line of the input; what stands after the last one is left out.
+// and settles a code, `s` shows a visit's piece, `t` totals within a billing term, `a` does one of these on a table with another
+// account. The pattern's text in hexadecimal comes next; the fields behind it stand in the kind's module, here or in crate
+// vector_codes. Fields are parted by spaces. Byte 10 ends each line of the input; what stands after the last one is left out.
 // Asked for more cells than its arrays have, the program lends all of them; no such case is stored.
 mod load_cases; // load_cases.rt: loading a text
 mod parse_cases; // parse_cases.rt: reading a tape
+mod table_cases; // table_cases.rt: tables that no text gives
 
 use load_cases::print_loaded;
 use loading::Loaded;
 use loading::load;
 use parse_cases::run_parse;
+use syntax::Pattern;
+use table_cases::with_account;
 use vector_codes::run_code;
 use vector_codes::run_span;
 use vector_codes::run_term;
@@ -19,6 +22,7 @@ use vector_text::advance;
 use vector_text::decode;
 use vector_text::field;
 use vector_text::no_input;
+use vector_text::number;
 use vector_text::rest;
 use vector_text::say_bad;
 
@@ -27,16 +31,43 @@ const MAX_LINE: usize = 20480;
 
 const MAX_TEXT: usize = 3072;
 
+// The greatest account that a table has room for.
+const MAX_STORED: u32 = 255;
+
 // `line` is what stands behind the pattern's text.
-fn run_kind(kind: u8, loaded: Loaded, line: &[u8]) {
-    let p = loaded.pattern;
+fn run_service(kind: u8, p: Pattern, line: &[u8]) {
     match kind {
-        b'l' => print_loaded(loaded),
         b'p' => run_parse(p, line),
         b'c' => run_code(p, line),
         b's' => run_span(p, line),
         b't' => run_term(p, line),
         _ => say_bad(),
+    }
+}
+
+// Behind the pattern's text: a line of the table and its account, in decimal, then a case's kind and what it has behind its text.
+fn run_altered(p: Pattern, line: &[u8]) {
+    let behind = rest(line);
+    let service = rest(behind);
+    let account = number(field(behind));
+    if service.len() == 0 {
+        say_bad();
+        return;
+    }
+    if MAX_STORED < account {
+        say_bad();
+        return;
+    }
+    let table = with_account(p, number(field(line)) as usize, account as u8);
+    run_service(service[0], table, rest(service));
+}
+
+fn run_kind(kind: u8, loaded: Loaded, line: &[u8]) {
+    let p = loaded.pattern;
+    match kind {
+        b'l' => print_loaded(loaded),
+        b'a' => run_altered(p, line),
+        _ => run_service(kind, p, line),
     }
 }
 

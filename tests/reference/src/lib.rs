@@ -3,6 +3,7 @@
 //! over speed; see README.md for what was decided where room was left.
 
 pub mod accounts;
+pub mod altered;
 pub mod automaton;
 pub mod brute;
 pub mod calendar;

@@ -2,7 +2,7 @@
 //! kinds, one kind after the other, a later kind behind the earlier ones. A
 //! line's first field is the kind's letter.
 
-use crate::{cases, codes, tapes, terms, visits};
+use crate::{altered, cases, codes, tapes, terms, visits};
 
 /// One line a case, as the program reads it.
 pub fn lines() -> Vec<String> {
@@ -11,6 +11,7 @@ pub fn lines() -> Vec<String> {
     lines.extend(codes::all().iter().map(codes::Case::line));
     lines.extend(visits::all().iter().map(visits::Case::line));
     lines.extend(terms::all().iter().map(terms::Case::line));
+    lines.extend(altered::all().iter().map(altered::Case::line));
     lines
 }
 
@@ -21,6 +22,7 @@ pub fn names() -> Vec<String> {
     names.extend(codes::all().into_iter().map(|case| case.name));
     names.extend(visits::all().into_iter().map(|case| case.name));
     names.extend(terms::all().into_iter().map(|case| case.name));
+    names.extend(altered::all().into_iter().map(|case| case.name));
     names
 }
 
@@ -32,5 +34,6 @@ pub fn answers() -> Vec<String> {
     answers.extend(codes::all().iter().flat_map(codes::Case::answers));
     answers.extend(visits::all().iter().map(visits::Case::answer));
     answers.extend(terms::all().iter().map(terms::Case::answer));
+    answers.extend(altered::all().iter().flat_map(altered::Case::answers));
     answers
 }

@@ -40,6 +40,7 @@ pub fn refused() -> Vec<Case> {
 fn accounts() -> Vec<Case> {
     let mut cases = by_hand::account_cases();
     cases.extend(mutated::accounts());
+    cases.extend(by_hand::account_numbers());
     cases
 }
 

@@ -141,11 +141,15 @@ impl Case {
 
     /// A line for spelling, one for totalling and one for settling.
     pub fn answers(&self) -> [String; 3] {
-        let table = table_of(&self.text);
+        self.answers_by(&table_of(&self.text))
+    }
+
+    /// The same by a table that need not be the text's.
+    pub fn answers_by(&self, table: &Table) -> [String; 3] {
         [
-            self.spelling(&table),
-            self.totalling(&table),
-            self.settling(&table),
+            self.spelling(table),
+            self.totalling(table),
+            self.settling(table),
         ]
     }
 

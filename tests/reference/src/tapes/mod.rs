@@ -87,11 +87,16 @@ impl Case {
     /// Number, value, digest of the words lent, code bytes lent, digest of
     /// all cells past those lent, and for short tapes the first words lent.
     pub fn answer(&self) -> String {
+        self.answer_by(&table_of(&self.text))
+    }
+
+    /// The same by a table that need not be the text's.
+    pub fn answer_by(&self, table: &Table) -> String {
         let mut words = vec![WORD_BEFORE; ALL_WORDS];
         let mut code = vec![BYTE_BEFORE; ALL_BYTES];
         let (lent, rest) = words.split_at_mut(self.words);
         let (lent_code, rest_of_code) = code.split_at_mut(self.bytes);
-        let read = parse(&table_of(&self.text), &self.tape, lent, lent_code);
+        let read = parse(table, &self.tape, lent, lent_code);
         let (number, value) = number_and_value(&read);
         let past = digest_of_bytes(digest_of_words(1, rest), rest_of_code);
         let mut line = format!(

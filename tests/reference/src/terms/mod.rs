@@ -16,6 +16,7 @@ use crate::hex;
 use crate::memo::preferred_reading;
 use crate::services::terms::term_totals;
 use crate::services::totals::{some_litres, Totals, NO_LITRES};
+use crate::table::Table;
 use crate::tapes::table_of;
 
 /// The listing's pattern in 01 with a third side, `D`: digits go to account 1,
@@ -64,8 +65,13 @@ impl Case {
 
     /// Number, value and the totals, as totalling answers them.
     pub fn answer(&self) -> String {
+        self.answer_by(&table_of(&self.text))
+    }
+
+    /// The same by a table that need not be the text's.
+    pub fn answer_by(&self, table: &Table) -> String {
         totals_line(term_totals(
-            &table_of(&self.text),
+            table,
             &self.code.bytes,
             self.code.count,
             self.start,

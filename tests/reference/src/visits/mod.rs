@@ -10,7 +10,7 @@ mod random;
 use crate::codes::Code;
 use crate::hex;
 use crate::services::visits::{piece, span, Span};
-use crate::table::number_and_value;
+use crate::table::{number_and_value, Table};
 use crate::tapes::{shown_code, table_of};
 
 pub struct Case {
@@ -51,10 +51,14 @@ impl Case {
 
     /// Number, value, start, length, the length of the piece and the piece.
     pub fn answer(&self) -> String {
-        let table = table_of(&self.text);
+        self.answer_by(&table_of(&self.text))
+    }
+
+    /// The same by a table that need not be the text's.
+    pub fn answer_by(&self, table: &Table) -> String {
         let (code, count) = (&self.code.bytes, self.code.count);
-        let found = span(&table, &self.tape, code, count, self.node, self.visit);
-        let (shown, part) = piece(&table, &self.tape, code, count, self.node, self.visit);
+        let found = span(table, &self.tape, code, count, self.node, self.visit);
+        let (shown, part) = piece(table, &self.tape, code, count, self.node, self.visit);
         assert_eq!(shown, found.map(|_| ()));
         let (number, value) = number_and_value(&found.map(|_| 0));
         let Span { start, length } = found.unwrap_or(Span {

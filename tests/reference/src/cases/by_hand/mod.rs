@@ -88,6 +88,18 @@ pub fn account_cases() -> Vec<Case> {
     hand.cases
 }
 
+/// 0 to 260 as the account of a line: 1 to 200 is one.
+pub fn account_numbers() -> Vec<Case> {
+    let mut hand = Hand { cases: Vec::new() };
+    for account in 0..=260 {
+        let name = format!("account numbers: {account}");
+        let good = (1..=200).contains(&account);
+        let (number, value) = if good { (0, 1) } else { (1, 0) };
+        hand.text(&name, &format!("0\tE\t{account}\n"), number, value);
+    }
+    hand.cases
+}
+
 fn good(hand: &mut Hand) {
     hand.text("example of the listing", LISTING, 0, 6);
     hand.text("P1", P1, 0, 4);
