@@ -184,10 +184,12 @@ module _ (p : Pattern) (code : List ℕ) (count : ℕ) (start : Date) where
     term-digits e =
         let k = cleared e in
         let es = entries-of (root p) code count in
+        let known = root-accounts p (not-false (obeys p) (k .clear .0)) in
         ap sum-list (k .sums)
         ∙ sum-digits (within first last (dated start es))
         (within-all (λ x. x .1 < account-limit + 1) first last (dated start es)
-        (subst (All (λ x. x .1 < account-limit + 1)) (sym (dated-entries es start)) (entries-few (account-limit + 1) (root p) (root-accounts p (not-false (obeys p) (k .clear .0))) (omega arith) code count)))
+        (subst (All (λ x. x .1 < account-limit + 1)) (sym (dated-entries es start))
+        (entries-few (account-limit + 1) (root p) known (omega arith) code count)))
 
   -- the term of all days has the totals of the whole tape
   pub term-of-all : (r : TermTotalled) → Term-totals p code count start first-date last-date r → r .outcome ≡ Added

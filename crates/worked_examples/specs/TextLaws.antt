@@ -56,5 +56,6 @@ pub texts-write : map (λ text. bare (root (load-table text))) (P1 ∷ P2 ∷ P3
     ∷ rounds (range plain 126 161)
     ∷ []
 unfolding P1 P2 P3 P4 P5 Z1 Z2 Z3 Z4 Z5 Z6 Z7 H1 rows digit one-digit two-digits place single all-digits decimal account-number account
-    node-of-none node-of-one range-of parts-of node-of-two node-of line-of row-line forms table load-answer load-table is-letter wrongly-names unnamed tree-fault root tree-of
+    node-of-none node-of-one range-of parts-of node-of-two node-of line-of row-line forms table load-answer load-table is-letter wrongly-names
+    unnamed tree-fault root tree-of
 texts-write = refl
