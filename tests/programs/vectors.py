@@ -15,6 +15,8 @@ from sources import hand_out
 OVERLONG = 20_481
 MEGABYTES_5 = 5_000_000
 NO_CASE = b"not a case\n"
+# The fields of a case of kind `a`: its account, and the kind of what is done with the table.
+ACCOUNT, SERVICE = 3, 4
 
 
 def answers_of(cases, output):
@@ -30,6 +32,8 @@ def answers_of(cases, output):
 def lines_behind(case, first):
     """How many lines an answer has behind its first: a loaded table's nodes, and what a code's three services say."""
     kind = case[:1]
+    if kind == b"a":
+        kind = case.split(b" ")[SERVICE]
     if kind == b"l":
         number, value = first.split(b"\t")[:2]
         return int(value) if number == b"0" else 0
@@ -61,8 +65,18 @@ def faults(program, stored):
         ("half a byte", good[:-2] + b"\n" + good, NO_CASE + right, None),
         ("a digit that is none", good[:-2] + b"g\n" + good, NO_CASE + right, None),
         ("a digit with the highest bit set", good[:-2] + b"\xb1\n" + good, NO_CASE + right, None),
+        *((name, altered + good, NO_CASE + right, None) for name, altered in no_tables(cases)),
     ]
     return [(name, fault(program, given, expected, size)) for name, given, expected, size in told]
+
+
+def no_tables(cases):
+    """Lines of kind `a` that are no cases: an account that a table has no room for, and no service that the kind has."""
+    fields = next(case for case in cases if case[:1] == b"a").split(b" ")
+    told = [(f"the account {account} in a table", ACCOUNT, b"%d" % account) for account in (256, 456, 4_294_967_296)]
+    told += [(f"kind {kind.decode()} in kind a", SERVICE, kind) for kind in (b"a", b"l", b"x")]
+    lines = [(name, b" ".join(fields[:at] + [other] + fields[at + 1 :])) for name, at, other in told]
+    return [*lines, ("an account and no kind", b" ".join(fields[:SERVICE]) + b"\n")]
 
 
 def fault(program, given, expected, size):
