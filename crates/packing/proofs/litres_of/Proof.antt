@@ -6,7 +6,7 @@ use Rattle.packing.proofs.litres_of.Statement.{statement}
 use Rattle.packing.proofs.litres_of.Tie as tie
 
 returns : tie.Need-returns
-returns c = sym (List·getD-eq-default (c .before .args .litres .now) 0 (search needs))
+returns c = sym (List·getD-eq-default (c .before .args .litres .now) 0 (c .if1 .taken))
 
 mul-result : tie.Need-mul-result
 mul-result c = search needs
