@@ -68,15 +68,24 @@ module _ (p : Pattern) (r : Rules p) where
       bits l (yes h) = at-node l (node-at good l h)
       bits l (no h) = f .past l (omega arith) ∙ sym (g .past l (omega arith))
 
-  -- ---- by masks
-  -- the word of a position is the union of the masks of the open leaves, with that of the end where the tape ends
-  pub state-masks : (w : List ℕ) (g : ℕ → Bool)
+  -- ---- by leaves
+  -- the word of a position is that of the nodes which come to one of the open leaves by empty steps, or to the end where the tape ends
+  pub state-reached : (w : List ℕ) (g : ℕ → Bool)
       → ((m : Label) (c : ℕ) (s : Location (root p) (letter m c)) (b : Bool) → g (m .index) ≡ can (letter m c) (after s) b w)
       → ((m : Label) (a e : ℕ) (s : Location (root p) (range m a e)) (b : Bool) → g (m .index) ≡ can (range m a e) (after s) b w)
-      → ((x : ℕ) → 64 ≤ x → g x ≡ false)
-      → (b : Bool) → state-set p b w ≡ bitOr (pick (at-end b w) (end-mask (root p) (p .count) b)) (union 64 g (leaf-mask (root p) (p .count) b))
-  unfolding state-set leaf-mask end-mask
-  state-masks w g letters ranges out b = sym (word-is good (λ t s. can t (after s) b w) word small bits)
+      → (b : Bool) → node-word (root p) (p .count) (reaches b g (at-end b w)) ≡ state-set p b w
+  unfolding state-set
+  state-reached w g letters ranges b =
+      word-is good (λ t s. can t (after s) b w) (node-word (root p) (p .count) (reaches b g (at-end b w))) (word-small good (reaches b g (at-end b w)))
+      (λ t s. word-says good (reaches b g (at-end b w)) t s ∙ reaches-can (root p) w g letters ranges t s b)
+
+  -- ---- by masks
+  -- the word of the nodes that come to one of some leaves, or to the end where e allows it, is the union of the masks of those leaves, with
+  -- that of the end
+  pub reached-masks : (g : ℕ → Bool) → ((x : ℕ) → 64 ≤ x → g x ≡ false) → (e b : Bool)
+      → node-word (root p) (p .count) (reaches b g e) ≡ bitOr (pick e (end-mask (root p) (p .count) b)) (union 64 g (leaf-mask (root p) (p .count) b))
+  unfolding leaf-mask end-mask
+  reached-masks g out e b = sym (word-is good (reaches b g e) word small bits)
     where
       leaves : ℕ → ℕ
       leaves x = node-word (root p) (p .count) (reaches b (eqb x) false)
@@ -85,19 +94,19 @@ module _ (p : Pattern) (r : Rules p) where
       ends = node-word (root p) (p .count) (reaches b nowhere true)
 
       word : ℕ
-      word = bitOr (pick (at-end b w) ends) (union 64 g leaves)
+      word = bitOr (pick e ends) (union 64 g leaves)
 
       small : word < 2 ^ p .count
-      small = or-lt (p .count) (pick (at-end b w) ends) (union 64 g leaves)
-          (pick-lt (p .count) (at-end b w) ends (word-small good (reaches b nowhere true)))
+      small = or-lt (p .count) (pick e ends) (union 64 g leaves)
+          (pick-lt (p .count) e ends (word-small good (reaches b nowhere true)))
           (union-lt (p .count) 64 g leaves (λ x h. word-small good (reaches b (eqb x) false)))
 
-      bits : (t : Tree) (s : Location (root p) t) → test-bit word (index t) ≡ can t (after s) b w
+      bits : (t : Tree) (s : Location (root p) t) → test-bit word (index t) ≡ reaches b g e t s
       bits t s =
-          test-or (pick (at-end b w) ends) (union 64 g leaves) (index t)
+          test-or (pick e ends) (union 64 g leaves) (index t)
           ∙ ap₂ (λ x y. x || y)
-          (pick-bit (at-end b w) ends (index t) ∙ ap (λ z. at-end b w && z) (word-says good (reaches b nowhere true) t s))
+          (pick-bit e ends (index t) ∙ ap (λ z. e && z) (word-says good (reaches b nowhere true) t s))
           (union-bit 64 g leaves (index t)
           ∙ any-same 64 (λ x. g x && test-bit (leaves x) (index t)) (λ x. g x && reaches b (eqb x) false t s)
           (λ x h. ap (λ z. g x && z) (word-says good (reaches b (eqb x) false) t s)))
-          ∙ sym (reaches-split t s b g 64 (at-end b w) out) ∙ reaches-can (root p) w g letters ranges t s b
+          ∙ sym (reaches-split t s b g 64 e out)
