@@ -24,12 +24,12 @@ pub record Fillable (p : Pattern) (tape words : List ℕ) : Type 0 where
   pub letters : (i : ℕ) → i < length tape → is-letter (getD tape i 0) ≡ true
   pub room : 2 * (length tape + 1) ≤ length words
 
-small-letters : (w : List ℕ) → ((i : ℕ) → i < length w → is-letter (getD w i 0) ≡ true) → (i : ℕ) → getD w i 0 < letter-cells
+pub small-letters : (w : List ℕ) → ((i : ℕ) → i < length w → is-letter (getD w i 0) ≡ true) → (i : ℕ) → getD w i 0 < letter-cells
 small-letters [] h i = omega arith
 small-letters (c ∷ w) h zero = letter-cell c (h 0 (omega arith))
 small-letters (c ∷ w) h (suc i) = small-letters w (λ j k. h (suc j) (omega arith)) i
 
-all-letters : (w : List ℕ) → ((i : ℕ) → i < length w → is-letter (getD w i 0) ≡ true) → All-letters w
+pub all-letters : (w : List ℕ) → ((i : ℕ) → i < length w → is-letter (getD w i 0) ≡ true) → All-letters w
 all-letters [] h = tt
 all-letters (c ∷ w) h = (h 0 (omega arith), all-letters w (λ j k. h (suc j) (omega arith)))
 

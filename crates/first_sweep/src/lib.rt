@@ -1,10 +1,20 @@
-// The first sweep: the state sets of a tape's positions (01: marks), from the tape's end to its start.
+// The first sweep: the state sets of a tape's positions (01: marks), from the tape's end to its start. `fill` has the tape as a whole, and
+// counts its words from the first position; `put_end` and `grow` have it in pages, the latest letters first, and count from the end.
 ghost use mathlib.Core.Path.{_≡_};
+ghost use mathlib.Core.List.{[]};
+ghost use Prim.Native.Nat.{_+_, _*_, _≤_, _<_};
+ghost use lib.Dec.{eqb};
+ghost use lib.ListN.{length, getD};
+ghost use lib.Seq.{sets};
+ghost use Rattle.syntax.specs.TreeLaws.{Rules};
 ghost use Rattle.bits.specs.Bits.{in-front};
 ghost use Rattle.table.specs.Cells.{Holds};
 ghost use Rattle.steps.specs.StateSets.{words as words-of};
 ghost use Rattle.first_sweep.specs.Sweep.{Sweepable, sweep-of};
 ghost use Rattle.first_sweep.specs.Fill.{Fillable};
+ghost use Rattle.first_sweep.specs.Tail.{tail-words};
+ghost use Rattle.first_sweep.specs.Grow.{stored-step, grown};
+ghost use Rattle.first_sweep.specs.Growing.{Puts-words, Page-sweepable, Sweeps-page, Growable};
 use masks::LETTER_CELLS;
 use masks::put_masks;
 use masks::scatter::put_takers;
@@ -56,4 +66,74 @@ pub fn fill(p: Pattern, table: &[u64; 64], tape: &[u8], words: &mut [u64])
     let mut takers = [0u64; LETTER_CELLS];
     put_takers(table, p.count, &mut takers);
     sweep(&zero, &one, table, &takers, end, tape, words);
+}
+
+// The two words of a position, that of flag 0 first.
+fn put_words(words: &mut [u64], at: usize, zero: u64, one: u64)
+    requires { ⌜ at + 1 < length (now words) ⌝ }
+    ensures { λ _. ⌜ Puts-words zero one at (now (words .entry)) (now (words .exit)) ⌝ }
+{
+    words[at] = zero;
+    words[at + 1] = one;
+}
+
+// The state sets of a page's letters, over the masks of a pattern: from its last letter to its first, behind the words of the letters held.
+// `next` is the flag 1 word behind the page; whether the tape's end lies there is known by the letters held, since a word does not say it.
+fn sweep_page(
+    zero: &[u64; 64],
+    one: &[u64; 64],
+    table: &[u64; 64],
+    takers: &[u64; LETTER_CELLS],
+    page: &[u8],
+    held: usize,
+    next: u64,
+    words: &mut [u64],
+)
+    requires { ⌜ Page-sweepable (now page) held (now words) ⌝ }
+    ensures { λ _.
+        ⌜ Sweeps-page (stored-step (now (zero .entry)) (now (one .entry)) (now (table .entry)) (now (takers .entry)))
+        next held (now (page .entry)) (now (words .entry)) (now (words .exit)) ⌝ }
+{
+    let mut memo = [0u64; 128];
+    let mut behind = next;
+    let mut last = held == 0;
+    let mut at = 2 * held + 2;
+    let mut i = page.len();
+    while 0 < i {
+        i -= 1;
+        let c = page[i] as usize;
+        let r = recall(zero, one, table, takers[c], behind, last, c % 32, &mut memo);
+        put_words(words, at, r.zero, r.one);
+        at += 2;
+        behind = r.one;
+        last = false;
+    }
+}
+
+// GROWING: the words of a page that is put before the letters held, from word 2 × (held + 1) on, those of the page's last letter first. It
+// starts from the flag 1 word of the letters held as it stands. No other word changes.
+pub fn grow(p: Pattern, table: &[u64; 64], page: &[u8], held: usize, words: &mut [u64])
+    requires { ⌜ Growable p (now page) held (now words) × Holds p (now table) ⌝ }
+    ensures { λ _.
+        ⌜ now (words .exit) ≡
+        sets (now (words .entry)) (2 * (held + 1)) (grown p (getD (now (words .entry)) (2 * held + 1) 0) (eqb held 0) (now (page .entry))) ⌝ }
+{
+    let mut zero = [0u64; 64];
+    let mut one = [0u64; 64];
+    put_masks(table, p.count, &mut zero, &mut one);
+    let mut takers = [0u64; LETTER_CELLS];
+    put_takers(table, p.count, &mut takers);
+    let next = words[2 * held + 1];
+    sweep_page(&zero, &one, table, &takers, page, held, next, words);
+}
+
+// The two words of the tape's end, from which pages grow. No other word changes.
+pub fn put_end(p: Pattern, table: &[u64; 64], words: &mut [u64])
+    requires { ⌜ Rules p × Holds p (now table) × (2 ≤ length (now words)) ⌝ }
+    ensures { λ _. ⌜ now (words .exit) ≡ in-front (tail-words p []) (now (words .entry)) ⌝ }
+{
+    let mut zero = [0u64; 64];
+    let mut one = [0u64; 64];
+    let end = put_masks(table, p.count, &mut zero, &mut one);
+    put_words(words, 0, 0, end);
 }

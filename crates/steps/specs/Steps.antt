@@ -139,7 +139,8 @@ module _ (p : Pattern) (r : Rules p) (zs os ts ks : List ℕ) (e : ℕ) (held : 
             → live (takers (root p) (p .count) c) next last (follower-in ts) x ≡ test-bit (open-leaves p c next last) x
         line q =
             ap₂ (λ y z. y && z)
-            (ap (test-bit (takers (root p) (p .count) c)) (sym (q .node .is)) ∙ word-says (root-planted p r) (λ t s. takes t c) (q .node .tree) (q .node .place))
+            (ap (test-bit (takers (root p) (p .count) c)) (sym (q .node .is))
+            ∙ word-says (root-planted p r) (λ t s. takes t c) (q .node .tree) (q .node .place))
             (ap (behind next last) (q .is))
             ∙ sym (open-says p r c next last (q .node .tree) (q .node .place)) ∙ ap (test-bit (open-leaves p c next last)) (q .node .is)
 
