@@ -1,0 +1,64 @@
+// The page desk: a tape that arrives in pages, the latest letters first. A page is put before the letters held, and the last page put can be
+// withdrawn.
+ghost use mathlib.Core.Path.{_≡_};
+ghost use Rattle.desk.specs.Desks.{desk-number, desk-value};
+
+use refusals::Refusal;
+use refusals::number_of;
+use refusals::value_of;
+
+// How many pages are held, and how many letters each has, in the order of their putting. Lengths at or past the count mean nothing.
+pub struct Desk {
+    pub count: u8,
+    pub lengths: [u8; 30],
+}
+
+impl Desk {
+    pub const MAX_PAGES: usize = 30;
+
+    pub const MAX_PAGE_LETTERS: usize = 120;
+}
+
+// Why a call of the desk refuses: for a cause that 01 has, or for one of the desk's own.
+pub enum DeskRefusal {
+    Base(Refusal),
+    DeskLimits,
+    DeskFull,
+    DeskEmpty,
+}
+
+// What a call answers: the letters held then, or why it is refused.
+pub enum Desked {
+    Letters(u32),
+    Refused(DeskRefusal),
+}
+
+// The desk after a call, and the call's answer.
+pub struct Changed {
+    pub desk: Desk,
+    pub answer: Desked,
+}
+
+// The number of a cause: 02 gives 13, 14 and 15, 01's table the others.
+pub fn desk_number_of(why: DeskRefusal) -> u32
+    ensures { λ r. ⌜ r ≡ desk-number why ⌝ }
+{
+    match why {
+        DeskRefusal::Base(base) => number_of(base),
+        DeskRefusal::DeskLimits => 13,
+        DeskRefusal::DeskFull => 14,
+        DeskRefusal::DeskEmpty => 15,
+    }
+}
+
+// The value beside it: 0 for a cause that 02 adds.
+pub fn desk_value_of(why: DeskRefusal) -> u32
+    ensures { λ r. ⌜ r ≡ desk-value why ⌝ }
+{
+    match why {
+        DeskRefusal::Base(base) => value_of(base),
+        DeskRefusal::DeskLimits => 0,
+        DeskRefusal::DeskFull => 0,
+        DeskRefusal::DeskEmpty => 0,
+    }
+}
