@@ -159,7 +159,7 @@ pub record Puts (p : Pattern) (page : List ℕ) (d d-now : Desk) (letters letter
       if-accepted (put-answer d p page letters (length marks)) (sets letters (letter-limit - (held d + length page)) page) letters
   pub marks-left : marks-now ≡
       if-accepted (put-answer d p page letters (length marks))
-          (sets marks (2 * (held d + 1)) (grown p (getD marks (2 * held d + 1) 0) (eqb (held d) 0) page)) marks
+      (sets marks (2 * (held d + 1)) (grown p (getD marks (2 * held d + 1) 0) (eqb (held d) 0) page)) marks
 
 -- 02: "a withdrawal none"
 pub record Withdraws (p : Pattern) (d d-now : Desk) (letters : List ℕ) (r : Desked) : Type 0 where

@@ -2,4 +2,5 @@ pub mod Causes
 pub mod TailWords
 pub mod Desks
 pub mod Stacks
--- pub mod StackLaws
+pub mod Lists
+pub mod StackLaws

@@ -2,7 +2,6 @@
 // withdrawn.
 ghost use mathlib.Core.Path.{_≡_};
 ghost use Rattle.desk.specs.Desks.{desk-number, desk-value};
-
 use refusals::Refusal;
 use refusals::number_of;
 use refusals::value_of;
