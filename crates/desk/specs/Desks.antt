@@ -19,6 +19,7 @@ use Rattle.desk.specs.declared.DeskRefusal.{DeskRefusal}
 use Rattle.desk.specs.declared.DeskRefusal.the-variants.{Base, DeskLimits, DeskFull, DeskEmpty}
 use Rattle.desk.specs.declared.Desked.{Desked}
 use Rattle.desk.specs.declared.Desked.the-variants.{Letters, Refused}
+use Rattle.desk.specs.declared.Changed.{Changed}
 
 -- ── a desk and its letters ──
 -- 02: "At most 30 pages are held."
@@ -144,6 +145,9 @@ withdraw-answer d p letters = first-of desk-refused (withdraw-order d p letters)
 -- 02: "A refused call leaves desk, letters and marks alike."
 abbrev pub if-accepted : {A : Type 0} → Answer → (new old : A) → A
 if-accepted a new old = cond (eqb (a .number) 0) new old
+
+abbrev pub refused-change : Desk → DeskRefusal → Changed
+refused-change d why = record { desk = d; answer = Refused why }
 
 -- ── THE PROMISES, for every desk, table, page and lent buffers ──
 pub record Opens (p : Pattern) (d d-now : Desk) (marks marks-now : List ℕ) (r : Desked) : Type 0 where

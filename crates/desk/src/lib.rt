@@ -1,10 +1,12 @@
 // The page desk: a tape that arrives in pages, the latest letters first. A page is put before the letters held, and the last page put can be
 // withdrawn.
 ghost use mathlib.Core.Path.{_≡_};
-ghost use Rattle.desk.specs.Desks.{desk-number, desk-value};
+ghost use Rattle.desk.specs.Desks.{desk-number, desk-value, refused-change, Opens};
 use refusals::Refusal;
 use refusals::number_of;
 use refusals::value_of;
+use syntax::Pattern;
+use syntax::obeys_rules;
 
 // How many pages are held, and how many letters each has, in the order of their putting. Lengths at or past the count mean nothing.
 pub struct Desk {
@@ -60,4 +62,43 @@ pub fn desk_value_of(why: DeskRefusal) -> u32
         DeskRefusal::DeskFull => 0,
         DeskRefusal::DeskEmpty => 0,
     }
+}
+
+// A call that is refused leaves the desk as it was.
+fn unchanged(desk: Desk, why: DeskRefusal) -> Changed
+    ensures { λ r. ⌜ r ≡ refused-change desk why ⌝ }
+{
+    Changed {
+        desk,
+        answer: Desked::Refused(why),
+    }
+}
+
+// Empties a desk, whatever it held, and writes the two words of the tape's end.
+pub(crate) fn open_desk(desk: Desk, p: Pattern, marks: &mut [u64]) -> Changed
+    ensures { λ r. ⌜ Opens p desk (r .desk) (now (marks .entry)) (now (marks .exit)) (r .answer) ⌝ }
+{
+    if !obeys_rules(p) {
+        return unchanged(desk, DeskRefusal::Base(Refusal::Tree(0)));
+    }
+    let needed = 2;
+    if marks.len() < needed {
+        return unchanged(desk, DeskRefusal::Base(Refusal::WordsTooShort(2)));
+    }
+    Changed {
+        desk: Desk {
+            count: 0,
+            lengths: [0; Desk::MAX_PAGES],
+        },
+        answer: Desked::Letters(0),
+    }
+}
+
+// Opens a desk: it is empty then, whatever it held before.
+pub fn open(desk: &mut Desk, p: Pattern, marks: &mut [u64]) -> Desked
+    ensures { λ r. ⌜ Opens p (now (desk .entry)) (now (desk .exit)) (now (marks .entry)) (now (marks .exit)) r ⌝ }
+{
+    let changed = open_desk(*desk, p, marks);
+    *desk = changed.desk;
+    changed.answer
 }
