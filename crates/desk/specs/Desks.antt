@@ -12,7 +12,7 @@ use Rattle.syntax.specs.Table.{obeys}
 use Rattle.refusals.specs.declared.Refusal.the-variants.{Tree as Tree-fault, TapeByte, WordsTooShort, TapeTooShort}
 use Rattle.refusals.specs.Refusals.{number, value, Answer, answer}
 use Rattle.bits.specs.Bits.{in-front}
-use Rattle.desk.specs.Causes.{first-of}
+use Rattle.refusals.specs.Checks.{Check-of, first-of}
 use Rattle.desk.specs.TailWords.{tail-words, grown}
 use Rattle.desk.specs.declared.Desk.{Desk}
 use Rattle.desk.specs.declared.DeskRefusal.{DeskRefusal}
@@ -94,7 +94,7 @@ desk-answer (Letters n) = answer 0 n
 desk-answer (Refused r) = desk-refused r
 
 abbrev pub Desk-check : Type 0
-Desk-check = Bool × DeskRefusal
+Desk-check = Check-of DeskRefusal
 
 -- the words of so many letters: 02 counts them "from the tape's end, the words for j letters from 2 × j on"
 abbrev pub words-for : (letters : ℕ) → ℕ

@@ -1,7 +1,7 @@
-pub mod Causes
 pub mod TailWords
 pub mod Desks
+pub mod Lists
+pub mod Limits
 pub mod DeskWays
 pub mod Stacks
-pub mod Lists
 pub mod StackLaws

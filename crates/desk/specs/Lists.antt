@@ -26,6 +26,16 @@ no-bad (x ∷ xs) h = go (is-letter x) refl h (no-bad xs)
     go true e h ih = and-intro e (ih (omega arith))
     go false e h ih = absurd (omega arith)
 
+pub some-bad : (xs : List ℕ) → first-bad xs < length xs → every is-letter xs ≡ false
+unfolding first-bad
+some-bad [] h = absurd (omega arith)
+some-bad (x ∷ xs) h = go (is-letter x) refl h (some-bad xs)
+  where
+    go : (b : Bool) → is-letter x ≡ b → cond b (suc (first-bad xs)) 0 < suc (length xs) → (first-bad xs < length xs → every is-letter xs ≡ false)
+        → (is-letter x && every is-letter xs) ≡ false
+    go true e h ih = ap (λ b. b && every is-letter xs) e ∙ ih (omega arith)
+    go false e h ih = ap (λ b. b && every is-letter xs) e
+
 -- ── sum ──
 pub sum-append : (xs ys : List ℕ) → sum (xs ++ ys) ≡ sum xs + sum ys
 sum-append [] ys = omega arith

@@ -15,7 +15,8 @@ use Rattle.syntax.specs.Letter.{is-letter, first-bad, letter-limit}
 use Rattle.refusals.specs.declared.Refusal.the-variants.{TapeByte}
 use Rattle.refusals.specs.Refusals.{Answer, answer}
 use Rattle.refusals.specs.RefusalLaws.{number-positive}
-use Rattle.desk.specs.Causes.{first-of, None-of, zero-none}
+use Rattle.refusals.specs.Checks.{first-of, Clear}
+use Rattle.refusals.specs.CheckLaws.{zero-said}
 use Rattle.desk.specs.declared.Desk.{Desk}
 use Rattle.desk.specs.declared.DeskRefusal.{DeskRefusal}
 use Rattle.desk.specs.declared.DeskRefusal.the-variants.{Base, DeskLimits, DeskFull, DeskEmpty}
@@ -236,10 +237,10 @@ module _ (cells : ℕ) (c : Call) (s : Stack) (d e new : Desk) (letters after fr
       }
 
 -- no cause of the stack's order holds where it accepts
-accepted-none : (cells : ℕ) (c : Call) (s : Stack) → stack-answer cells c s .number ≡ 0 → None-of (stack-order cells c s)
+accepted-none : (cells : ℕ) (c : Call) (s : Stack) → stack-answer cells c s .number ≡ 0 → Clear (stack-order cells c s)
 unfolding stack-answer
 accepted-none cells c s e =
-    zero-none desk-refused desk-number-positive (stack-order cells c s) (answer 0 (length (joined (stack-next c s)))) e
+    zero-said desk-refused desk-number-positive (stack-order cells c s) (answer 0 (length (joined (stack-next c s)))) e
 
 -- opening
 module _ (cells : ℕ) (s : Stack) (d e : Desk) (letters : List ℕ) (h : Holds cells s d letters) where

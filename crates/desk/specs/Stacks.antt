@@ -9,7 +9,7 @@ use Rattle.syntax.specs.declared.Pattern.{Pattern}
 use Rattle.syntax.specs.Letter.{first-bad}
 use Rattle.refusals.specs.declared.Refusal.the-variants.{TapeByte}
 use Rattle.refusals.specs.Refusals.{Answer, answer}
-use Rattle.desk.specs.Causes.{first-of}
+use Rattle.refusals.specs.Checks.{first-of}
 use Rattle.desk.specs.declared.Desk.{Desk}
 use Rattle.desk.specs.declared.DeskRefusal.the-variants.{Base, DeskLimits, DeskFull, DeskEmpty}
 use Rattle.desk.specs.declared.Desked.{Desked}

@@ -2,6 +2,9 @@
 // withdrawn.
 ghost use mathlib.Core.Path.{_≡_};
 ghost use Rattle.desk.specs.Desks.{desk-number, desk-value, refused-change, Opens};
+
+mod limits; // limits.rt: what a desk holds, and whether it keeps the limits
+
 use refusals::Refusal;
 use refusals::number_of;
 use refusals::value_of;

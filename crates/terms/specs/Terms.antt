@@ -7,7 +7,7 @@ use lib.Dec.{eqb}
 use Rattle.syntax.specs.declared.Pattern.{Pattern}
 use Rattle.syntax.specs.Trees.{root}
 use Rattle.refusals.specs.Refusals.{number, value, Answer, answer}
-use Rattle.refusals.specs.Checks.{first-cause}
+use Rattle.refusals.specs.Checks.{Check-of, first-of, first-cause}
 use Rattle.calendar.specs.declared.Date.{Date}
 use Rattle.calendar.specs.Dates.{is-date, next-date, is-after}
 use Rattle.semantics.specs.Accounts.{totals}
@@ -76,13 +76,11 @@ term-value NotATerm = 0
 abbrev pub term-refused : TermRefusal → Answer
 term-refused r = answer (term-number r) (term-value r)
 
--- `Check` and `first-cause` of crate refusals, for the causes that this service adds
 abbrev pub Term-check : Type 0
-Term-check = Bool × TermRefusal
+Term-check = Check-of TermRefusal
 
 abbrev pub first-term-cause : (order : List Term-check) → (success : Answer) → Answer
-first-term-cause [] success = success
-first-term-cause (c ∷ cs) success = cond (c .0) (term-refused (c .1)) (first-term-cause cs success)
+first-term-cause = first-of term-refused
 
 abbrev pub dates-order : (start first last : Date) → Entries → List Term-check
 dates-order start first last es = (not (dates-good start es), TapeUndated) ∷ (not (is-term first last), NotATerm) ∷ []
