@@ -4,6 +4,7 @@ ghost use mathlib.Core.Path.{_≡_};
 ghost use Rattle.desk.specs.Desks.{desk-number, desk-value, refused-change, Opens};
 
 mod limits; // limits.rt: what a desk holds, and whether it keeps the limits
+mod pages; // pages.rt: a page's letters and its length
 
 use refusals::Refusal;
 use refusals::number_of;

@@ -25,7 +25,7 @@ pub(crate) fn good_page(n: usize) -> bool
     n <= Desk::MAX_PAGE_LETTERS
 }
 
-fn page_size(n: u8) -> usize
+pub(crate) fn page_size(n: u8) -> usize
     ensures { λ r. ⌜ r ≡ n ⌝ }
 {
     n as usize

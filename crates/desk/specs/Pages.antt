@@ -1,0 +1,63 @@
+-- What the functions on pages do, and the laws of their loop.
+use mathlib.Core.Path.{_≡_, refl, sym, ap, ap₂, subst, _∙_}
+use mathlib.Core.List.{List, [], _∷_}
+use Prim.Native.Nat.{ℕ, zero, suc, _+_, _-_, _≤_, _<_}
+use native.Mathlib.Omega.{arith}
+use lib.ListN.{length, getD, take, drop, set, drop-of-length-le, length-set}
+use lib.Seq.{drop-cons, sets}
+use Rattle.desk.specs.declared.Desk.{Desk}
+use Rattle.desk.specs.declared.Desked.the-variants.{Letters}
+use Rattle.desk.specs.declared.Changed.{Changed}
+use Rattle.desk.specs.Desks.{sum, lengths-held, held, with-page, without-page}
+
+-- the desk without its last page, and the letters then held
+abbrev pub less-page : Desk → Changed
+less-page d = record { desk = without-page d; answer = Letters (held (without-page d)) }
+
+-- ── `put_letters`: what is left to copy gives what was to be copied ──
+pub record Copying (page old now : List ℕ) (at i : ℕ) : Type 0 where
+  pub within : i ≤ length page
+  pub size : length now ≡ length old
+  pub rest : sets now (at + i) (drop i page) ≡ sets old at page
+
+pub copying-start : (page old : List ℕ) (at : ℕ) → Copying page old old at 0
+copying-start page old at = record { within = omega arith; size = refl; rest = let e : at + 0 ≡ at = omega arith in ap (λ k. sets old k page) e }
+
+module _ (page old now : List ℕ) (at i : ℕ) (c : Copying page old now at i) where
+  pub copying-end : length page ≤ i → now ≡ sets old at page
+  copying-end h = ap (sets now (at + i)) (sym (drop-of-length-le page h)) ∙ c .rest
+
+  pub copying-next : i < length page → Copying page old (set now (at + i) (getD page i 0)) at (i + 1)
+  copying-next h =
+      let j : suc i ≡ i + 1 = omega arith in
+      let k : suc (at + i) ≡ at + (i + 1) = omega arith in
+      record {
+        within = omega arith;
+        size = length-set now (at + i) (getD page i 0) ∙ c .size;
+        rest = ap₂ (λ n m. sets (set now (at + i) (getD page i 0)) n (drop m page)) (sym k) (sym j)
+            ∙ ap (sets now (at + i)) (sym (drop-cons page i 0 h)) ∙ c .rest;
+      }
+
+-- ── `with_page`, `take_page` ──
+pub with-page-made : (d : Desk) (n : ℕ) → record { count = d .count + 1; lengths = set (d .lengths) (d .count) n } ≡ with-page d n
+with-page-made d n = let e : d .count + 1 ≡ suc (d .count) = omega arith in ap (λ c. record { count = c; lengths = set (d .lengths) (d .count) n }) e
+
+sum-last : (xs : List ℕ) (n : ℕ) → sum (take (suc n) xs) ≡ sum (take n xs) + getD xs n 0
+sum-last [] zero = refl
+sum-last [] (suc n) = refl
+sum-last (x ∷ xs) zero = omega arith
+sum-last (x ∷ xs) (suc n) = omega (arith, sum-last xs n)
+
+module _ (d : Desk) (h : 1 ≤ d .count) where
+  -- the letters held without the last page
+  pub less-held : held d ≡ held (without-page d) + getD (d .lengths) (d .count - 1) 0
+  unfolding held lengths-held
+  less-held =
+      let e : d .count ≡ suc (d .count - 1) = omega arith in
+      ap (λ n. sum (take n (d .lengths))) e ∙ sum-last (d .lengths) (d .count - 1)
+
+  pub less-made : (letters size : ℕ) → letters ≡ held d → size ≡ getD (d .lengths) (d .count - 1) 0
+      → record { desk = without-page d; answer = Letters (letters - size) } ≡ less-page d
+  less-made letters size e f =
+      let g : letters - size ≡ held (without-page d) = omega (arith, e, f, less-held) in
+      ap (λ n. record { desk = without-page d; answer = Letters n }) g
