@@ -3,6 +3,7 @@ pub mod Desks
 pub mod Lists
 pub mod Limits
 pub mod Pages
+pub mod Checking
 pub mod DeskWays
 pub mod Stacks
 pub mod StackLaws

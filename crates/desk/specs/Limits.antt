@@ -28,6 +28,10 @@ desk-of n ls = record { count = n; lengths = ls }
 unfoldable pub held-limits : Desk → (letters : List ℕ) → Limits
 held-limits d letters = cond (desk-good d letters) (Kept (held d)) Broken
 
+-- the same, where a page of so many letters is to be put
+unfoldable pub put-limits : (letters : ℕ) → Desk → (cells : List ℕ) → Limits
+put-limits n d cells = cond (good-page n && desk-good d cells) (Kept (held d)) Broken
+
 kept-broken : (n : ℕ) → Kept n ≡ Broken → ⊥
 kept-broken n e = let z : _≡_ {A = ℕ} 0 1 = ap (λ l. told l) e in omega arith
   where
@@ -41,6 +45,22 @@ kept-same n m e = ap (λ l. told l) e
     told : Limits → ℕ
     told (Kept j) = j
     told Broken = 0
+
+-- what is told of a test by what was answered
+module _ (b : Bool) (h : ℕ) (r : Limits) (e : r ≡ cond b (Kept h) Broken) where
+  pub by-kept : (n : ℕ) → r ≡ Kept n → (b ≡ true) × (n ≡ h)
+  by-kept n k = go b refl (sym k ∙ e)
+    where
+      go : (t : Bool) → b ≡ t → Kept n ≡ cond t (Kept h) Broken → (b ≡ true) × (n ≡ h)
+      go true q f = (q, kept-same n h f)
+      go false q f = absurd (kept-broken n f)
+
+  pub by-broken : r ≡ Broken → b ≡ false
+  by-broken k = go b refl (sym k ∙ e)
+    where
+      go : (t : Bool) → b ≡ t → Broken ≡ cond t (Kept h) Broken → b ≡ false
+      go true q f = absurd (kept-broken h (sym f))
+      go false q f = q
 
 -- ── `good_page` ──
 module _ (n : ℕ) where
@@ -60,6 +80,19 @@ pub pages-upto : (xs : List ℕ) → every good-page xs ≡ true → sum xs ≤ 
 pages-upto [] h = omega arith
 pages-upto (x ∷ xs) h =
     omega (arith, page-upto x (and-fst (good-page x) (every good-page xs) h), pages-upto xs (and-snd (good-page x) (every good-page xs) h))
+
+-- so many letters are on a desk at most
+limits-count : (d : Desk) → limits-kept d ≡ true → d .count ≤ page-limit
+unfolding limits-kept
+limits-count d h = leb-true (d .count) page-limit (and-fst (leb (d .count) page-limit) (every good-page (lengths-held d)) h)
+
+pub limits-few : (d : Desk) → limits-kept d ≡ true → (held d ≤ letter-limit) × (held d ≤ page-letters * d .count) × (d .count ≤ page-limit)
+unfolding limits-kept held lengths-held
+limits-few d h =
+    let few = limits-count d h in
+    let upto = pages-upto (take (d .count) (d .lengths)) (and-snd (leb (d .count) page-limit) (every good-page (take (d .count) (d .lengths))) h) in
+    let size = length-take (d .count) (d .lengths) in
+    (omega (arith, few, upto, size), omega (arith, upto, size), few)
 
 -- ── `sum_pages`: what is summed up to position i ──
 pub record Summed (xs : List ℕ) (i total : ℕ) : Type 0 where
@@ -119,28 +152,16 @@ module _ (count : ℕ) (lengths : List ℕ) where
 module _ (d : Desk) (letters : List ℕ) (r : Limits) (e : r ≡ desk-limits d) where
   limits-told : (n : ℕ) → r ≡ Kept n → (limits-kept d ≡ true) × (n ≡ held d)
   unfolding desk-limits
-  limits-told n k = go (limits-kept d) refl (sym k ∙ e)
-    where
-      go : (b : Bool) → limits-kept d ≡ b → Kept n ≡ cond b (Kept (held d)) Broken → (limits-kept d ≡ true) × (n ≡ held d)
-      go true q f = (q, kept-same n (held d) f)
-      go false q f = absurd (kept-broken n f)
+  limits-told = by-kept (limits-kept d) (held d) r e
 
   pub held-broken : r ≡ Broken → Broken ≡ held-limits d letters
   unfolding desk-limits held-limits desk-good
-  held-broken k = go (limits-kept d) (sym k ∙ e)
-    where
-      go : (b : Bool) → Broken ≡ cond b (Kept (held d)) Broken → Broken ≡ cond (b && every is-letter (letters-held d letters)) (Kept (held d)) Broken
-      go true f = absurd (kept-broken (held d) (sym f))
-      go false f = refl
+  held-broken k =
+      sym (ap (λ b. cond (b && every is-letter (letters-held d letters)) (Kept (held d)) Broken) (by-broken (limits-kept d) (held d) r e k))
 
   module _ (n : ℕ) (k : r ≡ Kept n) where
     pub held-upto : n ≤ letter-limit
-    unfolding limits-kept held lengths-held
-    held-upto =
-        let t = limits-told n k in
-        let few = leb-true (d .count) page-limit (and-fst (leb (d .count) page-limit) (every good-page (take (d .count) (d .lengths))) (t .0)) in
-        let good = and-snd (leb (d .count) page-limit) (every good-page (take (d .count) (d .lengths))) (t .0) in
-        omega (arith, t .1, pages-upto (take (d .count) (d .lengths)) good, length-take (d .count) (d .lengths))
+    held-upto = let t = limits-told n k in omega (arith, t .1, limits-few d (t .0))
 
     -- the cells that were looked at are those that are held
     part-held : (part : List ℕ) → part ≡ take (letter-limit - (letter-limit - n)) (drop (letter-limit - n) letters) → letter-limit ≤ length letters
@@ -176,3 +197,13 @@ module _ (d : Desk) (letters : List ℕ) (r : Limits) (e : r ≡ desk-limits d) 
           ap (every is-letter) (sym (part-held part q l)) ∙ no-bad part (omega (arith, f, h, part-length)) in
           sym (ap (λ b. cond (limits-kept d && b) (Kept (held d)) Broken) good
           ∙ ap (λ b. cond (b && true) (Kept (held d)) Broken) (limits-told n k .0) ∙ ap Kept (sym (limits-told n k .1)))
+
+-- ── `limits_put` ──
+module _ (n : ℕ) (d : Desk) (cells : List ℕ) where
+  pub put-page-wrong : good-page n ≡ false → Broken ≡ put-limits n d cells
+  unfolding put-limits
+  put-page-wrong e = rw e
+
+  pub put-page-right : good-page n ≡ true → (r : Limits) → r ≡ held-limits d cells → r ≡ put-limits n d cells
+  unfolding put-limits held-limits
+  put-page-right e r f = f ∙ rw e

@@ -3,6 +3,7 @@
 ghost use mathlib.Core.Path.{_≡_};
 ghost use Rattle.desk.specs.Desks.{desk-number, desk-value, refused-change, Opens};
 
+mod checks; // checks.rt: the checks of a call, in 02's order
 mod limits; // limits.rt: what a desk holds, and whether it keeps the limits
 mod pages; // pages.rt: a page's letters and its length
 

@@ -1,0 +1,119 @@
+-- `desk::checks::check_put` meets its contract.
+use mathlib.Core.Path.{refl, sym, _∙_}
+use native.Mathlib.Omega.{arith}
+use borrow.Author.Tests.{not-true, not-false}
+use Rattle.desk.specs.Checking.{put-2, put-9, put-13, put-14, put-4, put-6, put-clear, put-few}
+use borrow.Author.Needs.{needs}
+use Rattle.desk.proofs.checks.check_put.Statement.{statement}
+use Rattle.desk.proofs.checks.check_put.Tie as tie
+
+obeys-rules-requires : tie.Need-obeys-rules-requires
+obeys-rules-requires c κs = search needs
+
+returns : tie.Need-returns
+returns c =
+    put-2 _ _ (c .before .before .before .before .args .page .now) (c .before .before .before .before .args .letters .now) (c .before .before .before .before .args .words) (sym (c .before .obeys-rules .ensures) ∙ not-true _ (c .if1 .taken))
+
+returns-2 : tie.Need-returns-2
+returns-2 c =
+    put-9 _ _ (c .before .before .before .before .before .args .page .now) (c .before .before .before .before .before .args .letters .now) (c .before .before .before .before .before .args .words)
+    (sym (c .before .before .obeys-rules .ensures) ∙ not-false _ (c .before .if1 .left))
+    (c .if2 .taken)
+
+limits-put-requires : tie.Need-limits-put-requires
+limits-put-requires c κs = search needs
+
+enum-known-limits : tie.Need-enum-known-limits
+enum-known-limits c = search needs
+
+enum-told : tie.Need-enum-told
+enum-told c = search needs
+
+returns-3 : tie.Need-returns-3
+returns-3 c =
+    put-13 _ _ (c .before .before .before .before .before .before .before .before .args .page .now) (c .before .before .before .before .before .before .before .before .args .letters .now) (c .before .before .before .before .before .before .before .before .args .words)
+    (sym (c .before .before .before .before .before .obeys-rules .ensures) ∙ not-false _ (c .before .before .before .before .if1 .left)) (c .before .before .before .if2 .left) _ (c .before .before .limits-put .ensures)
+    (c .enum-told .given .1)
+
+cast-if3 : tie.Need-cast-if3
+cast-if3 c = search needs
+
+returns-4 : tie.Need-returns-4
+returns-4 c =
+    put-14 _ _ (c .before .before .before .before .before .before .before .before .before .before .before .args .page .now) (c .before .before .before .before .before .before .before .before .before .before .before .args .letters .now) (c .before .before .before .before .before .before .before .before .before .before .before .args .words)
+    (sym (c .before .before .before .before .before .before .before .before .obeys-rules .ensures) ∙ not-false _ (c .before .before .before .before .before .before .before .if1 .left)) (c .before .before .before .before .before .before .if2 .left) _ (c .before .before .before .before .before .limits-put .ensures) _ (c .before .before .before .limits .given .1)
+    (c .if3 .taken)
+
+first-bad-requires : tie.Need-first-bad-requires
+first-bad-requires c κs = search needs
+
+cast-t20 : tie.Need-cast-t20
+cast-t20 c =
+    let few = put-few _ _ (c .before .before .before .before .before .before .before .before .before .before .before .before .before .args .page .now) (c .before .before .before .before .before .before .before .before .before .before .before .before .before .args .letters .now) (c .before .before .before .before .before .before .before .before .before .before .before .before .before .args .words)
+    (sym (c .before .before .before .before .before .before .before .before .before .before .obeys-rules .ensures) ∙ not-false _ (c .before .before .before .before .before .before .before .before .before .if1 .left)) (c .before .before .before .before .before .before .before .before .if2 .left) _ (c .before .before .before .before .before .before .before .limits-put .ensures) _ (c .before .before .before .before .before .limits .given .1) in
+    record { fits = omega (arith, few .1) }
+
+returns-5 : tie.Need-returns-5
+returns-5 c =
+    put-4 _ _ (c .before .before .before .before .before .before .before .before .before .before .before .before .before .args .page .now) (c .before .before .before .before .before .before .before .before .before .before .before .before .before .args .letters .now) (c .before .before .before .before .before .before .before .before .before .before .before .before .before .args .words)
+    (sym (c .before .before .before .before .before .before .before .before .before .before .obeys-rules .ensures) ∙ not-false _ (c .before .before .before .before .before .before .before .before .before .if1 .left)) (c .before .before .before .before .before .before .before .before .if2 .left) _ (c .before .before .before .before .before .before .before .limits-put .ensures) _ (c .before .before .before .before .before .limits .given .1) (c .before .before .if3 .left)
+    _ (c .before .first-bad .ensures) (c .if4 .taken)
+
+add-needed : tie.Need-add-needed
+add-needed c =
+    let few = put-few _ _ (c .before .before .before .before .before .before .before .before .before .before .before .before .before .args .page .now) (c .before .before .before .before .before .before .before .before .before .before .before .before .before .args .letters .now) (c .before .before .before .before .before .before .before .before .before .before .before .before .before .args .words)
+    (sym (c .before .before .before .before .before .before .before .before .before .before .obeys-rules .ensures) ∙ not-false _ (c .before .before .before .before .before .before .before .before .before .if1 .left)) (c .before .before .before .before .before .before .before .before .if2 .left) _ (c .before .before .before .before .before .before .before .limits-put .ensures) _ (c .before .before .before .before .before .limits .given .1) in
+    record { fits = omega (arith, few .0, few .1) }
+
+add-needed-2 : tie.Need-add-needed-2
+add-needed-2 c =
+    let few = put-few _ _ (c .before .before .before .before .before .before .before .before .before .before .before .before .before .args .page .now) (c .before .before .before .before .before .before .before .before .before .before .before .before .before .args .letters .now) (c .before .before .before .before .before .before .before .before .before .before .before .before .before .args .words)
+    (sym (c .before .before .before .before .before .before .before .before .before .before .obeys-rules .ensures) ∙ not-false _ (c .before .before .before .before .before .before .before .before .before .if1 .left)) (c .before .before .before .before .before .before .before .before .if2 .left) _ (c .before .before .before .before .before .before .before .limits-put .ensures) _ (c .before .before .before .before .before .limits .given .1) in
+    record { fits = omega (arith, few .0, few .1) }
+
+mul-needed : tie.Need-mul-needed
+mul-needed c =
+    let few = put-few _ _ (c .before .before .before .before .before .before .before .before .before .before .before .before .before .args .page .now) (c .before .before .before .before .before .before .before .before .before .before .before .before .before .args .letters .now) (c .before .before .before .before .before .before .before .before .before .before .before .before .before .args .words)
+    (sym (c .before .before .before .before .before .before .before .before .before .before .obeys-rules .ensures) ∙ not-false _ (c .before .before .before .before .before .before .before .before .before .if1 .left)) (c .before .before .before .before .before .before .before .before .if2 .left) _ (c .before .before .before .before .before .before .before .limits-put .ensures) _ (c .before .before .before .before .before .limits .given .1) in
+    record { fits = omega (arith, few .0, few .1) }
+
+cast-t24 : tie.Need-cast-t24
+cast-t24 c =
+    let few = put-few _ _ (c .before .before .before .before .before .before .before .before .before .before .before .before .before .before .args .page .now) (c .before .before .before .before .before .before .before .before .before .before .before .before .before .before .args .letters .now) (c .before .before .before .before .before .before .before .before .before .before .before .before .before .before .args .words)
+    (sym (c .before .before .before .before .before .before .before .before .before .before .before .obeys-rules .ensures) ∙ not-false _ (c .before .before .before .before .before .before .before .before .before .before .if1 .left)) (c .before .before .before .before .before .before .before .before .before .if2 .left) _ (c .before .before .before .before .before .before .before .before .limits-put .ensures) _ (c .before .before .before .before .before .before .limits .given .1) in
+    record { fits = omega (arith, few .0, few .1) }
+
+returns-6 : tie.Need-returns-6
+returns-6 c =
+    put-6 _ _ (c .before .before .before .before .before .before .before .before .before .before .before .before .before .before .args .page .now) (c .before .before .before .before .before .before .before .before .before .before .before .before .before .before .args .letters .now) (c .before .before .before .before .before .before .before .before .before .before .before .before .before .before .args .words)
+    (sym (c .before .before .before .before .before .before .before .before .before .before .before .obeys-rules .ensures) ∙ not-false _ (c .before .before .before .before .before .before .before .before .before .before .if1 .left)) (c .before .before .before .before .before .before .before .before .before .if2 .left) _ (c .before .before .before .before .before .before .before .before .limits-put .ensures) _ (c .before .before .before .before .before .before .limits .given .1) (c .before .before .before .if3 .left) _ (c .before .before .first-bad .ensures) (c .before .if4 .left) _ refl
+    (c .if5 .taken)
+
+returns-7 : tie.Need-returns-7
+returns-7 c =
+    put-clear _ _ (c .before .before .before .before .before .before .before .before .before .before .before .before .before .before .args .page .now) (c .before .before .before .before .before .before .before .before .before .before .before .before .before .before .args .letters .now) (c .before .before .before .before .before .before .before .before .before .before .before .before .before .before .args .words)
+    (sym (c .before .before .before .before .before .before .before .before .before .before .before .obeys-rules .ensures) ∙ not-false _ (c .before .before .before .before .before .before .before .before .before .before .if1 .left)) (c .before .before .before .before .before .before .before .before .before .if2 .left) _ (c .before .before .before .before .before .before .before .before .limits-put .ensures) _ (c .before .before .before .before .before .before .limits .given .1) (c .before .before .before .if3 .left) _ (c .before .before .first-bad .ensures) (c .before .if4 .left) _ refl
+    (c .if5 .left)
+
+pub check-put-spec : {M : Type 1} → statement M
+check-put-spec =
+    tie.close
+    (tie.spec
+    obeys-rules-requires
+    returns
+    returns-2
+    limits-put-requires
+    enum-known-limits
+    enum-told
+    returns-3
+    cast-if3
+    returns-4
+    first-bad-requires
+    cast-t20
+    returns-5
+    add-needed
+    add-needed-2
+    mul-needed
+    cast-t24
+    returns-6
+    returns-7)

@@ -1,0 +1,61 @@
+-- `desk::checks::check_withdraw` meets its contract.
+use mathlib.Core.Path.{sym, _∙_}
+use borrow.Author.Tests.{not-true, not-false}
+use Rattle.desk.specs.Checking.{withdraw-2, withdraw-9, withdraw-13, withdraw-15, withdraw-clear}
+use borrow.Author.Needs.{needs}
+use Rattle.desk.proofs.checks.check_withdraw.Statement.{statement}
+use Rattle.desk.proofs.checks.check_withdraw.Tie as tie
+
+obeys-rules-requires : tie.Need-obeys-rules-requires
+obeys-rules-requires c κs = search needs
+
+returns : tie.Need-returns
+returns c =
+    withdraw-2 _ _ (c .before .before .before .args .letters .now) (sym (c .before .obeys-rules .ensures) ∙ not-true _ (c .if1 .taken))
+
+returns-2 : tie.Need-returns-2
+returns-2 c =
+    withdraw-9 _ _ (c .before .before .before .before .args .letters .now)
+    (sym (c .before .before .obeys-rules .ensures) ∙ not-false _ (c .before .if1 .left))
+    (c .if2 .taken)
+
+limits-held-requires : tie.Need-limits-held-requires
+limits-held-requires c κs = search needs
+
+enum-known-limits : tie.Need-enum-known-limits
+enum-known-limits c = search needs
+
+enum-told : tie.Need-enum-told
+enum-told c = search needs
+
+returns-3 : tie.Need-returns-3
+returns-3 c =
+    withdraw-13 _ _ (c .before .before .before .before .before .before .before .args .letters .now)
+    (sym (c .before .before .before .before .before .obeys-rules .ensures) ∙ not-false _ (c .before .before .before .before .if1 .left)) (c .before .before .before .if2 .left) _ (c .before .before .limits-held .ensures)
+    (c .enum-told .given .1)
+
+returns-4 : tie.Need-returns-4
+returns-4 c =
+    withdraw-15 _ _ (c .before .before .before .before .before .before .before .before .before .before .args .letters .now)
+    (sym (c .before .before .before .before .before .before .before .before .obeys-rules .ensures) ∙ not-false _ (c .before .before .before .before .before .before .before .if1 .left)) (c .before .before .before .before .before .before .if2 .left) _ (c .before .before .before .before .before .limits-held .ensures) _ (c .before .before .before .limits .given .1)
+    (c .if3 .taken)
+
+returns-5 : tie.Need-returns-5
+returns-5 c =
+    withdraw-clear _ _ (c .before .before .before .before .before .before .before .before .before .before .args .letters .now)
+    (sym (c .before .before .before .before .before .before .before .before .obeys-rules .ensures) ∙ not-false _ (c .before .before .before .before .before .before .before .if1 .left)) (c .before .before .before .before .before .before .if2 .left) _ (c .before .before .before .before .before .limits-held .ensures) _ (c .before .before .before .limits .given .1)
+    (c .if3 .left)
+
+pub check-withdraw-spec : {M : Type 1} → statement M
+check-withdraw-spec =
+    tie.close
+    (tie.spec
+    obeys-rules-requires
+    returns
+    returns-2
+    limits-held-requires
+    enum-known-limits
+    enum-told
+    returns-3
+    returns-4
+    returns-5)

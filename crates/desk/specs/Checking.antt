@@ -1,0 +1,174 @@
+-- What each way of a call's checks must show: the first cause that holds, or that none holds.
+use mathlib.Core.Path.{_≡_, refl, sym, ap, subst, _∙_}
+use mathlib.Core.Bool.{Bool, true, false, _&&_, not}
+use mathlib.Core.List.{List, [], _∷_}
+use Prim.Native.Nat.{ℕ, zero, suc, _+_, _*_, _≤_, _<_}
+use native.Mathlib.Omega.{arith}
+use borrow.Author.Tests.{lt-ltb, le-ltb, le-leb, lt-leb, eq-eqb, ne-eqb, eqb-false, leb-false, ltb-false, not-false}
+use lib.ListN.{length}
+use Rattle.syntax.specs.declared.Pattern.{Pattern}
+use Rattle.syntax.specs.Bools.{and-fst, and-snd}
+use Rattle.syntax.specs.Letter.{first-bad, letter-limit}
+use Rattle.syntax.specs.Table.{obeys}
+use Rattle.refusals.specs.declared.Refusal.the-variants.{Tree as Tree-fault, TapeByte, WordsTooShort, TapeTooShort}
+use Rattle.refusals.specs.Checks.{First, here, past, Clear}
+use Rattle.desk.specs.declared.Desk.{Desk}
+use Rattle.desk.specs.declared.DeskRefusal.{DeskRefusal}
+use Rattle.desk.specs.declared.DeskRefusal.the-variants.{Base, DeskLimits, DeskFull, DeskEmpty}
+use Rattle.desk.specs.declared.limits.Limits.{Limits}
+use Rattle.desk.specs.declared.limits.Limits.the-variants.{Kept, Broken}
+use Rattle.desk.specs.declared.checks.Checked.{Checked}
+use Rattle.desk.specs.declared.checks.Checked.the-variants.{Held, Refused}
+use Rattle.desk.specs.Desks.{page-limit, page-letters, good-page, held, limits-kept, desk-good, Desk-check, words-for, put-order, withdraw-order}
+use Rattle.desk.specs.Limits.{put-limits, held-limits, by-kept, by-broken, page-upto, limits-few}
+
+-- the promise of a call's checks: the letters held where no cause of the order holds, or the first that does
+abbrev pub Checks : (order : List Desk-check) → (letters : ℕ) → Checked → Type 0
+Checks order n (Held m) = Clear order × (m ≡ n)
+Checks order n (Refused why) = First why order
+
+module _ (order : List Desk-check) (n : ℕ) (r : Checked) (c : Checks order n r) where
+  pub checked-why : (why : DeskRefusal) → r ≡ Refused why → First why order
+  checked-why why e = subst (Checks order n) e c
+
+  pub checked-held : (m : ℕ) → r ≡ Held m → Clear order × (m ≡ n)
+  checked-held m e = subst (Checks order n) e c
+
+-- ── the desk's part ──
+module _ (d : Desk) (letters : List ℕ) where
+  good-limits : desk-good d letters ≡ true → limits-kept d ≡ true
+  unfolding desk-good
+  good-limits h = and-fst (limits-kept d) _ h
+
+  pub good-few : desk-good d letters ≡ true → (held d ≤ letter-limit) × (held d ≤ page-letters * d .count) × (d .count ≤ page-limit)
+  good-few h = limits-few d (good-limits h)
+
+-- ── putting ──
+module _ (d : Desk) (p : Pattern) (page letters : List ℕ) (words : ℕ) where
+  pub put-2 : obeys p ≡ false → First (Base (Tree-fault 0)) (put-order d p page letters words)
+  put-2 e = here (ap not e)
+
+  module _ (table : obeys p ≡ true) where
+    pub put-9 : length letters < letter-limit → First (Base (TapeTooShort letter-limit)) (put-order d p page letters words)
+    put-9 h = past (ap not table) (here (lt-ltb (length letters) letter-limit h))
+
+    module _ (cells : letter-limit ≤ length letters) (r : Limits) (e : r ≡ put-limits (length page) d letters) where
+      pub put-13 : r ≡ Broken → First DeskLimits (put-order d p page letters words)
+      unfolding put-limits
+      put-13 k =
+          past (ap not table) (past (le-ltb (length letters) letter-limit cells)
+          (here (ap not (by-broken (good-page (length page) && desk-good d letters) (held d) r e k))))
+
+      module _ (h : ℕ) (k : r ≡ Kept h) where
+        right : ((good-page (length page) && desk-good d letters) ≡ true) × (h ≡ held d)
+        unfolding put-limits
+        right = by-kept (good-page (length page) && desk-good d letters) (held d) r e h k
+
+        -- the bounds that the sums need
+        pub put-few : (h ≤ letter-limit) × (length page ≤ page-letters)
+        put-few =
+            let t = right .0 in
+            let g = and-fst (good-page (length page)) (desk-good d letters) t in
+            let f = good-few d letters (and-snd (good-page (length page)) (desk-good d letters) t) in
+            (omega (arith, f .0, right .1), page-upto (length page) g)
+
+        pub put-14 : page-limit ≤ d .count → First DeskFull (put-order d p page letters words)
+        put-14 f =
+            past (ap not table) (past (le-ltb (length letters) letter-limit cells) (past (ap not (right .0)) (here (le-leb page-limit (d .count) f))))
+
+        module _ (room : d .count < page-limit) where
+          pub put-4 : (bad : ℕ) → bad ≡ first-bad page → bad < length page → First (Base (TapeByte bad)) (put-order d p page letters words)
+          put-4 bad f l =
+              subst (λ b. First (Base (TapeByte b)) (put-order d p page letters words)) (sym f)
+              (past (ap not table) (past (le-ltb (length letters) letter-limit cells) (past (ap not (right .0))
+              (past (lt-leb page-limit (d .count) room) (here (lt-ltb (first-bad page) (length page) (omega (arith, f, l))))))))
+
+          module _ (bad : ℕ) (f : bad ≡ first-bad page) (spelt : length page ≤ bad) (needed : ℕ) (w : needed ≡ words-for (h + length page)) where
+            needs : needed ≡ words-for (held d + length page)
+            needs = w ∙ ap (λ m. words-for (m + length page)) (right .1)
+
+            pub put-6 : words < needed → First (Base (WordsTooShort needed)) (put-order d p page letters words)
+            put-6 l =
+                subst (λ n. First (Base (WordsTooShort n)) (put-order d p page letters words)) (sym needs)
+                (past (ap not table) (past (le-ltb (length letters) letter-limit cells) (past (ap not (right .0)) (past (lt-leb page-limit (d .count) room)
+                (past (le-ltb (first-bad page) (length page) (omega (arith, f, spelt)))
+                (here (lt-ltb words (words-for (held d + length page)) (subst (λ n. words < n) needs l))))))))
+
+            pub put-clear : needed ≤ words → Clear (put-order d p page letters words) × (h ≡ held d)
+            put-clear l = (
+              (
+                ap not table,
+                (
+                  le-ltb (length letters) letter-limit cells,
+                  (
+                    ap not (right .0),
+                    (
+                      lt-leb page-limit (d .count) room,
+                      (
+                        le-ltb (first-bad page) (length page) (omega (arith, f, spelt)),
+                        (le-ltb words (words-for (held d + length page)) (subst (λ n. n ≤ words) needs l), tt),
+                      ),
+                    ),
+                  ),
+                ),
+              ),
+              right .1,
+            )
+
+-- ── withdrawing ──
+module _ (d : Desk) (p : Pattern) (letters : List ℕ) where
+  pub withdraw-2 : obeys p ≡ false → First (Base (Tree-fault 0)) (withdraw-order d p letters)
+  withdraw-2 e = here (ap not e)
+
+  module _ (table : obeys p ≡ true) where
+    pub withdraw-9 : length letters < letter-limit → First (Base (TapeTooShort letter-limit)) (withdraw-order d p letters)
+    withdraw-9 h = past (ap not table) (here (lt-ltb (length letters) letter-limit h))
+
+    module _ (cells : letter-limit ≤ length letters) (r : Limits) (e : r ≡ held-limits d letters) where
+      pub withdraw-13 : r ≡ Broken → First DeskLimits (withdraw-order d p letters)
+      unfolding held-limits
+      withdraw-13 k =
+          past (ap not table) (past (le-ltb (length letters) letter-limit cells) (here (ap not (by-broken (desk-good d letters) (held d) r e k))))
+
+      module _ (h : ℕ) (k : r ≡ Kept h) where
+        good : (desk-good d letters ≡ true) × (h ≡ held d)
+        unfolding held-limits
+        good = by-kept (desk-good d letters) (held d) r e h k
+
+        pub withdraw-15 : d .count ≡ 0 → First DeskEmpty (withdraw-order d p letters)
+        withdraw-15 f =
+            past (ap not table) (past (le-ltb (length letters) letter-limit cells) (past (ap not (good .0)) (here (eq-eqb (d .count) 0 f))))
+
+        pub withdraw-clear : (d .count ≡ 0 → ⊥) → Clear (withdraw-order d p letters) × (h ≡ held d)
+        withdraw-clear f =
+            ((ap not table, (le-ltb (length letters) letter-limit cells, (ap not (good .0), (ne-eqb (d .count) 0 f, tt)))), good .1)
+
+-- what holds where no cause does
+module _ (d : Desk) (p : Pattern) (page letters : List ℕ) (words : ℕ) (c : Clear (put-order d p page letters words)) where
+  pub put-room : d .count < page-limit
+  put-room = leb-false page-limit (d .count) (c .1 .1 .1 .0)
+
+  both : (good-page (length page) && desk-good d letters) ≡ true
+  both = not-false (good-page (length page) && desk-good d letters) (c .1 .1 .0)
+
+  pub put-page-upto : length page ≤ page-letters
+  put-page-upto = page-upto (length page) (and-fst (good-page (length page)) (desk-good d letters) both)
+
+  pub put-upto : held d + length page ≤ letter-limit
+  put-upto =
+      let few = good-few d letters (and-snd (good-page (length page)) (desk-good d letters) both) in
+      omega (arith, few .1, put-room, put-page-upto)
+
+  pub put-cells : letter-limit ≤ length letters
+  put-cells = ltb-false (length letters) letter-limit (c .1 .0)
+
+-- a count that is not 0
+some-page : (n : ℕ) → (n ≡ 0 → ⊥) → 1 ≤ n
+some-page zero h = absurd (h refl)
+some-page (suc n) h = omega arith
+
+module _ (d : Desk) (p : Pattern) (letters : List ℕ) (c : Clear (withdraw-order d p letters)) where
+  pub withdraw-few : (1 ≤ d .count) × (d .count ≤ page-limit) × (held d ≤ letter-limit)
+  withdraw-few =
+      let few = good-few d letters (not-false (desk-good d letters) (c .1 .1 .0)) in
+      (some-page (d .count) (eqb-false (d .count) 0 (c .1 .1 .1 .0)), few .2, few .0)
