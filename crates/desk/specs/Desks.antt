@@ -13,7 +13,8 @@ use Rattle.refusals.specs.declared.Refusal.the-variants.{Tree as Tree-fault, Ta
 use Rattle.refusals.specs.Refusals.{number, value, Answer, answer}
 use Rattle.bits.specs.Bits.{in-front}
 use Rattle.refusals.specs.Checks.{Check-of, first-of}
-use Rattle.desk.specs.TailWords.{tail-words, grown}
+use Rattle.first_sweep.specs.Tail.{tail-words}
+use Rattle.first_sweep.specs.Grow.{grown}
 use Rattle.desk.specs.declared.Desk.{Desk}
 use Rattle.desk.specs.declared.DeskRefusal.{DeskRefusal}
 use Rattle.desk.specs.declared.DeskRefusal.the-variants.{Base, DeskLimits, DeskFull, DeskEmpty}

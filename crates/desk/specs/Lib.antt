@@ -1,5 +1,5 @@
-pub mod TailWords
 pub mod Desks
+pub mod Numbers
 pub mod Lists
 pub mod Limits
 pub mod Pages

@@ -14,7 +14,6 @@ use Rattle.syntax.specs.Bools.{and-intro, and-fst, and-snd}
 use Rattle.syntax.specs.Letter.{is-letter, first-bad, letter-limit}
 use Rattle.refusals.specs.declared.Refusal.the-variants.{TapeByte}
 use Rattle.refusals.specs.Refusals.{Answer, answer}
-use Rattle.refusals.specs.RefusalLaws.{number-positive}
 use Rattle.refusals.specs.Checks.{first-of, Clear}
 use Rattle.refusals.specs.CheckLaws.{zero-said}
 use Rattle.desk.specs.declared.Desk.{Desk}
@@ -26,14 +25,8 @@ use Rattle.desk.specs.Desks.{empty-desk, with-page, without-page, desk-n
 use Rattle.desk.specs.Desks.{words-for, table-check, cells-check, words-check, put-order, withdraw-order, open-answer, put-answer, withdraw-answer, Opens, Puts, Withdraws}
 use Rattle.desk.specs.Stacks.{Stack, joined, Call, opening, putting, withdrawing, stack-order, stack-next, stack-answer, stack-step}
 use Rattle.desk.specs.Stacks.{stack-answers, stack-behind, Does, Run, rest, next, Like-a-stack, top-off}
+use Rattle.desk.specs.Numbers.{desk-number-positive}
 use Rattle.desk.specs.Lists.{every-append, no-bad, sum-append, sets-part}
-
--- 0 is no cause's number
-pub desk-number-positive : (r : DeskRefusal) → 1 ≤ desk-number r
-desk-number-positive (Base r) = number-positive r
-desk-number-positive DeskLimits = omega arith
-desk-number-positive DeskFull = omega arith
-desk-number-positive DeskEmpty = omega arith
 
 -- ── the pages of a stack ──
 -- their lengths, the first put first: as a desk keeps them

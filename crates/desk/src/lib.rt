@@ -1,17 +1,20 @@
 // The page desk: a tape that arrives in pages, the latest letters first. A page is put before the letters held, and the last page put can be
 // withdrawn.
 ghost use mathlib.Core.Path.{_≡_};
-ghost use Rattle.desk.specs.Desks.{desk-number, desk-value, refused-change, Opens};
+ghost use Rattle.desk.specs.Desks.{desk-number, desk-value, Opens, Puts, Withdraws};
 
+mod calls; // calls.rt: the calls on a desk by value
 mod checks; // checks.rt: the checks of a call, in 02's order
 mod limits; // limits.rt: what a desk holds, and whether it keeps the limits
 mod pages; // pages.rt: a page's letters and its length
 
+use calls::open_desk;
+use calls::put_page;
+use calls::withdraw_page;
 use refusals::Refusal;
 use refusals::number_of;
 use refusals::value_of;
 use syntax::Pattern;
-use syntax::obeys_rules;
 
 // How many pages are held, and how many letters each has, in the order of their putting. Lengths at or past the count mean nothing.
 pub struct Desk {
@@ -69,41 +72,37 @@ pub fn desk_value_of(why: DeskRefusal) -> u32
     }
 }
 
-// A call that is refused leaves the desk as it was.
-fn unchanged(desk: Desk, why: DeskRefusal) -> Changed
-    ensures { λ r. ⌜ r ≡ refused-change desk why ⌝ }
-{
-    Changed {
-        desk,
-        answer: Desked::Refused(why),
-    }
-}
-
-// Empties a desk, whatever it held, and writes the two words of the tape's end.
-pub(crate) fn open_desk(desk: Desk, p: Pattern, marks: &mut [u64]) -> Changed
-    ensures { λ r. ⌜ Opens p desk (r .desk) (now (marks .entry)) (now (marks .exit)) (r .answer) ⌝ }
-{
-    if !obeys_rules(p) {
-        return unchanged(desk, DeskRefusal::Base(Refusal::Tree(0)));
-    }
-    let needed = 2;
-    if marks.len() < needed {
-        return unchanged(desk, DeskRefusal::Base(Refusal::WordsTooShort(2)));
-    }
-    Changed {
-        desk: Desk {
-            count: 0,
-            lengths: [0; Desk::MAX_PAGES],
-        },
-        answer: Desked::Letters(0),
-    }
-}
-
 // Opens a desk: it is empty then, whatever it held before.
 pub fn open(desk: &mut Desk, p: Pattern, marks: &mut [u64]) -> Desked
     ensures { λ r. ⌜ Opens p (now (desk .entry)) (now (desk .exit)) (now (marks .entry)) (now (marks .exit)) r ⌝ }
 {
     let changed = open_desk(*desk, p, marks);
+    *desk = changed.desk;
+    changed.answer
+}
+
+// Puts a page before the letters held.
+pub fn put(
+    desk: &mut Desk,
+    p: Pattern,
+    page: &[u8],
+    letters: &mut [u8],
+    marks: &mut [u64],
+) -> Desked
+    ensures { λ r.
+        ⌜ Puts p (now (page .entry)) (now (desk .entry)) (now (desk .exit)) (now (letters .entry)) (now (letters .exit))
+        (now (marks .entry)) (now (marks .exit)) r ⌝ }
+{
+    let changed = put_page(*desk, p, page, letters, marks);
+    *desk = changed.desk;
+    changed.answer
+}
+
+// Withdraws the last page put.
+pub fn withdraw(desk: &mut Desk, p: Pattern, letters: &[u8]) -> Desked
+    ensures { λ r. ⌜ Withdraws p (now (desk .entry)) (now (desk .exit)) (now (letters .entry)) r ⌝ }
+{
+    let changed = withdraw_page(*desk, p, letters);
     *desk = changed.desk;
     changed.answer
 }

@@ -1,0 +1,56 @@
+-- `desk::calls::open_desk` meets its contract.
+use mathlib.Core.Path.{sym, _∙_}
+use native.Mathlib.Omega.{arith}
+use borrow.Author.Tests.{not-true, not-false}
+use Rattle.syntax.specs.TreeLaws.{obeys-iff}
+use Rattle.desk.specs.DeskWays.{open-refused, open-2, open-6, open-done}
+use borrow.Author.Needs.{needs}
+use Rattle.desk.proofs.calls.open_desk.Statement.{statement}
+use Rattle.desk.proofs.calls.open_desk.Tie as tie
+
+obeys-rules-requires : tie.Need-obeys-rules-requires
+obeys-rules-requires c κs = search needs
+
+unchanged-requires : tie.Need-unchanged-requires
+unchanged-requires c κs = search needs
+
+returns : tie.Need-returns
+returns c =
+    rw (c .unchanged .ensures)
+    (open-refused _ _ _ _ (open-2 _ (c .before .before .before .before .args .desk) (c .before .before .before .before .args .marks .now) (sym (c .before .before .obeys-rules .ensures) ∙ not-true _ (c .before .if1 .taken))))
+
+unchanged-requires-2 : tie.Need-unchanged-requires-2
+unchanged-requires-2 c κs = search needs
+
+returns-2 : tie.Need-returns-2
+returns-2 c =
+    rw (c .unchanged2 .ensures)
+    (open-refused _ _ _ _ (open-6 _ (c .before .before .before .before .before .args .desk) (c .before .before .before .before .before .args .marks .now) (sym (c .before .before .before .obeys-rules .ensures) ∙ not-false _ (c .before .before .if1 .left)) (c .before .if2 .taken)))
+
+table-of-requires : tie.Need-table-of-requires
+table-of-requires c κs = obeys-iff _ .0 (sym (c .before .before .obeys-rules .ensures) ∙ not-false _ (c .before .if1 .left))
+
+put-end-requires : tie.Need-put-end-requires
+put-end-requires c κs =
+    (obeys-iff _ .0 (sym (c .before .before .before .before .before .obeys-rules .ensures) ∙ not-false _ (c .before .before .before .before .if1 .left)), c .before .before .table-of .ensures, c .before .before .before .if2 .left)
+
+same-length : tie.Need-same-length
+same-length c = search needs
+
+returns-3 : tie.Need-returns-3
+returns-3 c =
+    open-done _ _ _ (sym (c .before .before .before .before .before .before .before .before .obeys-rules .ensures) ∙ not-false _ (c .before .before .before .before .before .before .before .if1 .left)) (c .before .before .before .before .before .before .if2 .left) _ (c .before .before .put-end .ensures)
+
+pub open-desk-spec : {M : Type 1} → statement M
+open-desk-spec =
+    tie.close
+    (tie.spec
+    obeys-rules-requires
+    unchanged-requires
+    returns
+    unchanged-requires-2
+    returns-2
+    table-of-requires
+    put-end-requires
+    same-length
+    returns-3)

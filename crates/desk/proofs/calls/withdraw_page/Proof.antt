@@ -1,0 +1,43 @@
+-- `desk::calls::withdraw_page` meets its contract.
+use Rattle.desk.specs.DeskWays.{withdraw-why, withdraw-held, takeable, withdraw-done}
+use borrow.Author.Needs.{needs}
+use Rattle.desk.proofs.calls.withdraw_page.Statement.{statement}
+use Rattle.desk.proofs.calls.withdraw_page.Tie as tie
+
+check-withdraw-requires : tie.Need-check-withdraw-requires
+check-withdraw-requires c κs = search needs
+
+enum-known-checked : tie.Need-enum-known-checked
+enum-known-checked c = search needs
+
+unchanged-requires : tie.Need-unchanged-requires
+unchanged-requires c κs = search needs
+
+enum-known-checked-2 : tie.Need-enum-known-checked-2
+enum-known-checked-2 c = search needs
+
+take-page-requires : tie.Need-take-page-requires
+take-page-requires c κs =
+    takeable (c .before .before .before .before .before .args .p) (c .before .before .before .before .before .args .desk) (c .before .before .before .before .before .args .letters .now) _ (c .before .before .before .check-withdraw .ensures) _ (c .before .checked2 .given .1)
+
+returns : tie.Need-returns
+returns c =
+    rw (c .unchanged .ensures)
+    (withdraw-why (c .before .before .before .before .before .before .args .p) (c .before .before .before .before .before .before .args .desk) (c .before .before .before .before .before .before .args .letters .now) _ (c .before .before .before .before .check-withdraw .ensures) _ (c .before .before .checked .given .1))
+
+returns-2 : tie.Need-returns-2
+returns-2 c =
+    withdraw-done (c .before .before .before .before .before .before .args .p) (c .before .before .before .before .before .before .args .desk) (c .before .before .before .before .before .before .args .letters .now)
+    (withdraw-held (c .before .before .before .before .before .before .args .p) (c .before .before .before .before .before .before .args .desk) (c .before .before .before .before .before .before .args .letters .now) _ (c .before .before .before .before .check-withdraw .ensures) _ (c .before .before .checked2 .given .1) .0) _ (c .take-page .ensures)
+
+pub withdraw-page-spec : {M : Type 1} → statement M
+withdraw-page-spec =
+    tie.close
+    (tie.spec
+    check-withdraw-requires
+    enum-known-checked
+    unchanged-requires
+    enum-known-checked-2
+    take-page-requires
+    returns
+    returns-2)
