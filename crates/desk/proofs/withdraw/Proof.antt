@@ -203,9 +203,13 @@ withdraw-meets : {M : Type 1} (𝓤 : URA M) (H : Heap 𝓤) (A : Atoms 𝓤) �
     → Triple 𝓤 (𝓣 .C #desk·calls·withdraw-page) (Callee 𝓤 H A mem run)
     → Meets 𝓤 H A f.signature (WpFn 𝓤 H (𝓣 .C) (𝓣 .Λ) code.function) (f.spec 𝓤 H A mem run)
 withdraw-meets 𝓤 H A W mem run 𝓣 known =
-    walk-meets 𝓤 H A f.ended stayed W
-    (goes-ref 𝓤 H A W 2 0 tt (plain (λ _. D.the-row)), (goes-none 𝓤 H A W 2 (λ _. P.the-row) yes (λ κs x f. refl),
-    (goes-none-slice 𝓤 H A W 2 (1 ∷ []) tt (plain (λ _. u8)) yes, tt)))
+    walk-meets 𝓤 H A f.ended stayed W (
+      goes-ref 𝓤 H A W 2 0 tt (plain (λ _. D.the-row)),
+      (
+        goes-none 𝓤 H A W 2 (λ _. P.the-row) yes (λ κs x f. refl),
+        (goes-none-slice 𝓤 H A W 2 (1 ∷ []) tt (plain (λ _. u8)) yes, tt),
+      ),
+    )
     (f.clauses 𝓤 H A mem run) (WpFn 𝓤 H (𝓣 .C) (𝓣 .Λ) code.function) (WpFn-mono 𝓤 H (W .laws) 𝓣 code.function)
     (withdraw-walks 𝓤 H A W mem run (𝓣 .C) (𝓣 .Λ) (fmOf 𝓤 H (W .laws) 𝓣) known)
 
