@@ -3,6 +3,7 @@ pub mod Numbers
 pub mod Lists
 pub mod Limits
 pub mod Pages
+pub mod Moves
 pub mod Checking
 pub mod DeskWays
 pub mod Stacks

@@ -7,8 +7,8 @@ use Prim.Native.Nat.{ℕ, zero, suc, _+_, _-_, _*_, _≤_, _<_}
 use native.Mathlib.Omega.{arith}
 use borrow.Author.Tests.{ltb-false, leb-true, leb-false, le-leb, eq-eqb, eqb-true, eqb-false, not-false}
 use lib.Dec.{eqb, leb, ltb}
-use lib.ListN.{length, take, drop, set, replicate, length-set, length-append, length-take, length-drop}
-use lib.Seq.{take-suc-set, take-take, take-at, drop-drop, drop-at, slice-empty, length-sets, sets}
+use lib.ListN.{length, getD, take, drop, set, replicate, length-set, length-append, length-take, length-drop}
+use lib.Seq.{take-suc-set, take-take, take-at, drop-at, length-sets, sets}
 use Rattle.syntax.specs.declared.Pattern.{Pattern}
 use Rattle.syntax.specs.Bools.{and-intro, and-fst, and-snd}
 use Rattle.syntax.specs.Letter.{is-letter, first-bad, letter-limit}
@@ -26,7 +26,10 @@ use Rattle.desk.specs.Desks.{words-for, table-check, cells-check, words-
 use Rattle.desk.specs.Stacks.{Stack, joined, Call, opening, putting, withdrawing, stack-order, stack-next, stack-answer, stack-step}
 use Rattle.desk.specs.Stacks.{stack-answers, stack-behind, Does, Run, rest, next, Like-a-stack, top-off}
 use Rattle.desk.specs.Numbers.{desk-number-positive}
-use Rattle.desk.specs.Lists.{every-append, no-bad, sum-append, sets-part}
+use Rattle.desk.specs.Lists.{every-append, no-bad, sum-append}
+use Rattle.desk.specs.Limits.{page-upto}
+use Rattle.desk.specs.Pages.{less-held}
+use Rattle.desk.specs.Moves.{none-held, put-letters, less-letters}
 
 -- ── the pages of a stack ──
 -- their lengths, the first put first: as a desk keeps them
@@ -47,10 +50,6 @@ lengths-sum (page ∷ s) =
 abbrev Pages : Stack → Type 0
 Pages [] = Unit {0}
 Pages (page ∷ s) = (good-page (length page) ≡ true) × (every is-letter page ≡ true) × Pages s
-
-page-upto : (n : ℕ) → good-page n ≡ true → n ≤ page-letters
-unfolding good-page
-page-upto n h = leb-true n page-letters (and-snd (leb 1 n) (leb n page-letters) h)
 
 pages-upto : (s : Stack) → Pages s → length (joined s) ≤ page-letters * length s
 pages-upto [] h = omega arith
@@ -96,7 +95,6 @@ module _ (cells : ℕ) (s : Stack) (d : Desk) (letters : List ℕ) (h : Holds ce
 
 -- nothing is held
 empty-holds : (letters : List ℕ) → Holds (length letters) [] empty-desk letters
-unfolding letters-held held lengths-held
 empty-holds letters =
     record {
       room = refl;
@@ -106,7 +104,7 @@ empty-holds letters =
       pages = tt;
       size = refl;
       long = λ k. absurd (omega arith);
-      holds = slice-empty letter-limit letters;
+      holds = none-held letters;
     }
 
 -- ── a page is put ──
@@ -118,26 +116,9 @@ module _ (cells : ℕ) (s : Stack) (d : Desk) (letters page : List ℕ) (h : Hol
       ∙ take-suc-set (d .lengths) (length s) (length page) (omega (arith, few, h .room))
       ∙ ap (λ xs. xs ++ (length page ∷ [])) (h .lengths)
 
-  put-held : held (with-page d (length page)) ≡ held d + length page
-  unfolding held lengths-held
-  put-held =
-      let e : held (with-page d (length page)) ≡ length (joined (page ∷ s)) =
-      ap (λ n. sum (take (suc n) (set (d .lengths) (d .count) (length page)))) (h .count) ∙ ap sum put-lengths ∙ lengths-sum (page ∷ s) in
-      omega (arith, e, length-append page (joined s), held-joined cells s d letters h)
-
   put-upto : held d + length page ≤ letter-limit
   put-upto =
       omega (arith, pages-upto (page ∷ s) (good, spelt, h .pages), length-append page (joined s), held-joined cells s d letters h, few)
-
-  put-letters : letters-held (with-page d (length page)) (sets letters (letter-limit - (held d + length page)) page) ≡ page ++ joined s
-  unfolding letters-held
-  put-letters =
-      let at = letter-limit - (held d + length page) in
-      let e : at + length page ≡ letter-limit - held d = omega (arith, put-upto) in
-      ap (λ n. drop (letter-limit - n) (take letter-limit (sets letters at page))) put-held
-      ∙ sets-part page letters at letter-limit (omega (arith, e)) (omega (arith, long, h .size))
-      ∙ ap (λ n. page ++ drop n (take letter-limit letters)) e
-      ∙ ap (λ xs. page ++ xs) (h .holds)
 
   put-holds : Holds cells (page ∷ s) (with-page d (length page)) (sets letters (letter-limit - (held d + length page)) page)
   put-holds =
@@ -149,7 +130,8 @@ module _ (cells : ℕ) (s : Stack) (d : Desk) (letters page : List ℕ) (h : Hol
         pages = (good, spelt, h .pages);
         size = length-sets letters (letter-limit - (held d + length page)) page ∙ h .size;
         long = λ k. long;
-        holds = put-letters;
+        holds = put-letters d page (omega (arith, h .count, few, h .room)) letters (omega (arith, long, h .size)) put-upto
+            ∙ ap (λ xs. page ++ xs) (h .holds);
       }
 
 -- ── the last page put is withdrawn ──
@@ -163,20 +145,18 @@ module _ (cells : ℕ) (s : Stack) (d : Desk) (letters page : List ℕ) (h : Hol
   less-count : d .count - 1 ≡ length s
   less-count = omega (arith, h .count)
 
-  less-held : held (without-page d) ≡ length (joined s)
+  left-held : held (without-page d) ≡ length (joined s)
   unfolding held lengths-held
-  less-held = ap (λ n. sum (take n (d .lengths))) less-count ∙ ap sum less-lengths ∙ lengths-sum s
+  left-held = ap (λ n. sum (take n (d .lengths))) less-count ∙ ap sum less-lengths ∙ lengths-sum s
 
-  less-letters : letters-held (without-page d) letters ≡ joined s
-  unfolding letters-held
-  less-letters =
+  left-letters : letters-held (without-page d) letters ≡ joined s
+  left-letters =
+      let one : 1 ≤ d .count = omega (arith, h .count) in
       let all = held-joined cells (page ∷ s) d letters h in
-      let e : letter-limit - held (without-page d) ≡ letter-limit - held d + length page =
-      omega (arith, all, less-held, length-append page (joined s), held-upto cells (page ∷ s) d letters h) in
-      ap (λ n. drop n (take letter-limit letters)) e
-      ∙ sym (drop-drop (length page) (letter-limit - held d) (take letter-limit letters))
-      ∙ ap (drop (length page)) (h .holds)
-      ∙ drop-at page (joined s) (length page) refl
+      let size : getD (d .lengths) (d .count - 1) 0 ≡ length page =
+          omega (arith, less-held d one, left-held, all, length-append page (joined s)) in
+      less-letters d letters (omega (arith, h .long (omega arith), h .size)) (held-upto cells (page ∷ s) d letters h) one
+      ∙ ap (λ n. drop n (letters-held d letters)) size ∙ ap (drop (length page)) (h .holds) ∙ drop-at page (joined s) (length page) refl
 
   less-holds : Holds cells s (without-page d) letters
   less-holds =
@@ -188,7 +168,7 @@ module _ (cells : ℕ) (s : Stack) (d : Desk) (letters page : List ℕ) (h : Hol
         pages = h .pages .2;
         size = h .size;
         long = λ k. h .long (omega arith);
-        holds = less-letters;
+        holds = left-letters;
       }
 
 -- ── a call ──
@@ -297,10 +277,10 @@ abbrev less-by : Pattern → (cells : ℕ) → (wrong : Bool) → (count success
 less-by p cells wrong count success =
     first-of desk-refused (table-check p ∷ cells-check cells ∷ (wrong, DeskLimits) ∷ (eqb count 0, DeskEmpty) ∷ []) (answer 0 success)
 
-left-held : (cells : ℕ) (s : Stack) (d : Desk) (letters : List ℕ) → Holds cells s d letters → held (without-page d) ≡ length (joined (top-off s))
+top-held : (cells : ℕ) (s : Stack) (d : Desk) (letters : List ℕ) → Holds cells s d letters → held (without-page d) ≡ length (joined (top-off s))
 unfolding held lengths-held
-left-held cells [] d letters h = let e : d .count - 1 ≡ 0 = omega (arith, h .count) in ap (λ n. sum (take n (d .lengths))) e
-left-held cells (page ∷ s) d letters h = less-held cells s d letters page h
+top-held cells [] d letters h = let e : d .count - 1 ≡ 0 = omega (arith, h .count) in ap (λ n. sum (take n (d .lengths))) e
+top-held cells (page ∷ s) d letters h = left-held cells s d letters page h
 
 -- an empty stack is refused with 15, so that a page is there where a withdrawal is accepted
 less-new : (cells : ℕ) (s : Stack) (d : Desk) (letters : List ℕ) (p : Pattern) → Holds cells s d letters → stack-answer cells (withdrawing p) s .number ≡ 0
@@ -316,7 +296,7 @@ module _ (cells : ℕ) (s : Stack) (d : Desk) (letters : List ℕ) (h : Holds ce
       ap (λ x. less-by p x (not (desk-good d letters)) (d .count) left) (h .size)
       ∙ ap (λ x. less-by p cells (not x) (d .count) left) (good-held cells s d letters h)
       ∙ ap (λ x. less-by p cells false x left) (h .count)
-      ∙ ap (less-by p cells false (length s)) (left-held cells s d letters h)
+      ∙ ap (less-by p cells false (length s)) (top-held cells s d letters h)
 
   withdraws-like : (e : Desk) (after : List ℕ) (p : Pattern) (r : Desked) → Withdraws p d e letters r → after ≡ letters
       → Answers-like cells (withdrawing p) s e after r
