@@ -172,3 +172,6 @@ module _ (d : Desk) (p : Pattern) (letters : List ℕ) (c : Clear (withdraw-orde
   withdraw-few =
       let few = good-few d letters (not-false (desk-good d letters) (c .1 .1 .0)) in
       (some-page (d .count) (eqb-false (d .count) 0 (c .1 .1 .1 .0)), few .2, few .0)
+
+  pub withdraw-cells : letter-limit ≤ length letters
+  withdraw-cells = ltb-false (length letters) letter-limit (c .1 .0)

@@ -64,17 +64,19 @@ module _ (p : Pattern) (d : Desk) (marks : List ℕ) where
   pub open-6 : obeys p ≡ true → length marks < 2 → First (Base (WordsTooShort 2)) (open-order p (length marks))
   open-6 e h = past (ap not e) (here (lt-ltb (length marks) 2 h))
 
-  pub open-done : obeys p ≡ true → 2 ≤ length marks → (now : List ℕ) → now ≡ in-front (tail-words p []) marks
-      → Opens p d empty-desk marks now (Letters 0)
+  pub open-clear : Clear (open-order p (length marks)) → (now : List ℕ) → now ≡ in-front (tail-words p []) marks → Opens p d empty-desk marks now (Letters 0)
   unfolding open-answer
-  open-done e h now k =
+  open-clear c now k =
       let order = open-order p (length marks) in
-      let c : Clear order = (ap not e, (le-ltb (length marks) 2 h, tt)) in
       record {
         answers = sym (clear-said desk-refused order (answer 0 0) c);
         leaves = taken order 0 empty-desk d c;
         marks-left = k ∙ taken order 0 (in-front (tail-words p []) marks) marks c;
       }
+
+  pub open-done : obeys p ≡ true → 2 ≤ length marks → (now : List ℕ) → now ≡ in-front (tail-words p []) marks
+      → Opens p d empty-desk marks now (Letters 0)
+  open-done e h = open-clear (ap not e, (le-ltb (length marks) 2 h, tt))
 
 -- ── `put_page` ──
 module _ (p : Pattern) (d : Desk) (page letters marks : List ℕ) where
@@ -106,7 +108,7 @@ module _ (p : Pattern) (d : Desk) (page letters marks : List ℕ) where
     put-held m e = checked-held order (held d) r c m e
 
   module _ (c : Clear (put-order d p page letters (length marks))) where
-    put-done : (e : Desk) (after now : List ℕ) (n : ℕ) → e ≡ with-page d (length page) → after ≡ sets letters at page → now ≡ put-words
+    pub put-done : (e : Desk) (after now : List ℕ) (n : ℕ) → e ≡ with-page d (length page) → after ≡ sets letters at page → now ≡ put-words
         → n ≡ held d + length page → Puts p page d e letters after marks now (Letters n)
     unfolding put-answer
     put-done e after now n f g h k =
@@ -121,6 +123,9 @@ module _ (p : Pattern) (d : Desk) (page letters marks : List ℕ) where
     pub put-rules : Rules p
     put-rules = obeys-iff p .0 (not-false (obeys p) (c .0))
 
+    pub put-words-room : words-for (held d + length page) ≤ length marks
+    put-words-room = ltb-false (length marks) (words-for (held d + length page)) (c .1 .1 .1 .1 .1 .0)
+
     -- the letters behind the page, as they were counted
     module _ (b : ℕ) (e : b ≡ held d) where
       pub behind-upto : b + length page ≤ letter-limit
@@ -133,7 +138,7 @@ module _ (p : Pattern) (d : Desk) (page letters marks : List ℕ) where
             rules = put-rules;
             few = behind-upto;
             letters = all-letters page (ltb-false (first-bad page) (length page) (c .1 .1 .1 .1 .0));
-            room = omega (arith, e, ltb-false (length marks) (words-for (held d + length page)) (c .1 .1 .1 .1 .1 .0));
+            room = omega (arith, e, put-words-room);
           }
 
       pub put-made : (f : Desk) (after now : List ℕ) → f ≡ with-page d (length page) → after ≡ sets letters (letter-limit - (b + length page)) page

@@ -150,6 +150,10 @@ if-accepted a new old = cond (eqb (a .number) 0) new old
 abbrev pub refused-change : Desk → DeskRefusal → Changed
 refused-change d why = record { desk = d; answer = Refused why }
 
+-- 02: "the marks are those of the joined letters under its table"
+abbrev pub Marks-of : Pattern → (letters marks : List ℕ) → Type 0
+Marks-of p w marks = take (words-for (length w)) marks ≡ tail-words p w
+
 -- ── THE PROMISES, for every desk, table, page and lent buffers ──
 pub record Opens (p : Pattern) (d d-now : Desk) (marks marks-now : List ℕ) (r : Desked) : Type 0 where
   pub answers : desk-answer r ≡ open-answer p (length marks)

@@ -6,5 +6,8 @@ pub mod Pages
 pub mod Moves
 pub mod Checking
 pub mod DeskWays
+pub mod Unique
+pub mod Orders
+pub mod MarkLaws
 pub mod Stacks
 pub mod StackLaws

@@ -154,7 +154,7 @@ module _ (cells : ℕ) (s : Stack) (d : Desk) (letters page : List ℕ) (h : Hol
       let one : 1 ≤ d .count = omega (arith, h .count) in
       let all = held-joined cells (page ∷ s) d letters h in
       let size : getD (d .lengths) (d .count - 1) 0 ≡ length page =
-          omega (arith, less-held d one, left-held, all, length-append page (joined s)) in
+      omega (arith, less-held d one, left-held, all, length-append page (joined s)) in
       less-letters d letters (omega (arith, h .long (omega arith), h .size)) (held-upto cells (page ∷ s) d letters h) one
       ∙ ap (λ n. drop n (letters-held d letters)) size ∙ ap (drop (length page)) (h .holds) ∙ drop-at page (joined s) (length page) refl
 
