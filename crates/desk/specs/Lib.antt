@@ -1,4 +1,5 @@
 pub mod Desks
+pub mod CauseNumbers
 pub mod Numbers
 pub mod Lists
 pub mod Limits

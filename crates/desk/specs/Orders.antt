@@ -1,14 +1,14 @@
 -- The calls of a desk: the first cause that holds is answered, whatever later causes hold, and all is left as it was.
 use mathlib.Core.Path.{_≡_, refl}
 use mathlib.Core.Logic.{_⊎_, inl, inr}
-use mathlib.Core.List.{List, [], _∷_}
+use mathlib.Core.List.{List, []}
 use Prim.Native.Nat.{ℕ, _+_, _-_, _*_}
 use lib.Dec.{eqb}
 use lib.ListN.{length, getD}
 use lib.Seq.{sets}
 use Rattle.syntax.specs.declared.Pattern.{Pattern}
 use Rattle.syntax.specs.Letter.{letter-limit}
-use Rattle.refusals.specs.Checks.{numbers-of, First, Clear}
+use Rattle.refusals.specs.Checks.{First, Clear}
 use Rattle.refusals.specs.CheckLaws.{which-first}
 use Rattle.bits.specs.Bits.{in-front}
 use Rattle.first_sweep.specs.Tail.{tail-words}
@@ -17,7 +17,7 @@ use Rattle.desk.specs.declared.Desk.{Desk}
 use Rattle.desk.specs.declared.DeskRefusal.{DeskRefusal}
 use Rattle.desk.specs.declared.Desked.{Desked}
 use Rattle.desk.specs.declared.Desked.the-variants.{Letters, Refused}
-use Rattle.desk.specs.Desks.{held, empty-desk, with-page, without-page, desk-refused, Desk-check, open-order, put-order, withdraw-order}
+use Rattle.desk.specs.Desks.{held, empty-desk, with-page, without-page, Desk-check, open-order, put-order, withdraw-order}
 use Rattle.desk.specs.Desks.{Opens, Puts, Withdraws}
 use Rattle.desk.specs.Pages.{less-page}
 use Rattle.desk.specs.DeskWays.{open-refused, open-clear, put-refused, put-done, withdraw-refused, withdraw-done}
@@ -29,10 +29,6 @@ Answered order n r = (Clear order × (r ≡ Letters n)) ⊎ ((why : DeskRefusal)
 
 -- ── opening ──
 module _ (p : Pattern) (d : Desk) (marks : List ℕ) where
-  -- 02: "refusing 2, then 6"
-  pub open-numbers : numbers-of desk-refused (open-order p (length marks)) ≡ 2 ∷ 6 ∷ []
-  open-numbers = refl
-
   module _ (e : Desk) (now : List ℕ) (r : Desked) (h : Opens p d e marks now r) where
     pub open-only : (why : DeskRefusal) → First why (open-order p (length marks)) → (r ≡ Refused why) × (e ≡ d) × (now ≡ marks)
     open-only why f = opens-one p d e d marks now marks r (Refused why) h (open-refused p d marks why f)
@@ -53,10 +49,6 @@ module _ (p : Pattern) (d : Desk) (marks : List ℕ) where
 module _ (p : Pattern) (d : Desk) (page letters marks : List ℕ) where
   abbrev put-checks : List Desk-check
   put-checks = put-order d p page letters (length marks)
-
-  -- 02: "after 2, fewer than 3,600 cells with 9 [..], with 13, a 31st page with 14, then a bad letter with 4 [..], then marks too few [..] with 6"
-  pub put-numbers : numbers-of desk-refused (put-order d p page letters (length marks)) ≡ 2 ∷ 9 ∷ 13 ∷ 14 ∷ 4 ∷ 6 ∷ []
-  put-numbers = refl
 
   module _ (e : Desk) (after now : List ℕ) (r : Desked) (h : Puts p page d e letters after marks now r) where
     pub put-only : (why : DeskRefusal) → First why (put-order d p page letters (length marks))
@@ -82,10 +74,6 @@ module _ (p : Pattern) (d : Desk) (page letters marks : List ℕ) where
 
 -- ── withdrawing ──
 module _ (p : Pattern) (d : Desk) (letters : List ℕ) where
-  -- 02: "withdrawal checks 2, 9 and 13 for the desk, and an empty one gives 15"
-  pub withdraw-numbers : numbers-of desk-refused (withdraw-order d p letters) ≡ 2 ∷ 9 ∷ 13 ∷ 15 ∷ []
-  withdraw-numbers = refl
-
   module _ (e : Desk) (r : Desked) (h : Withdraws p d e letters r) where
     pub withdraw-only : (why : DeskRefusal) → First why (withdraw-order d p letters) → (r ≡ Refused why) × (e ≡ d)
     withdraw-only why f = withdraws-one p d e d letters r (Refused why) h (withdraw-refused p d letters why f)

@@ -8,55 +8,48 @@ use Rattle.desk.proofs.calls.put_on.Tie as tie
 
 add-total : tie.Need-add-total
 add-total c =
-    record {
-      fits = omega (
-        arith,
-        behind-upto (c .before .before .before .args .p) (c .before .before .before .args .desk) (c .before .before .before .args .page .now) (c .before .before .before .args .letters .now) (c .before .before .before .args .marks .now)
-            (c .before .before .before .pre .0) _ (c .before .before .before .pre .1),
-      );
-    }
+    let start = c .before .before .before in
+    let few = behind-upto (start .args .p) (start .args .desk) (start .args .page .now) (start .args .letters .now) (start .args .marks .now)
+    (start .pre .0) _ (start .pre .1) in
+    record { fits = omega (arith, few) }
 
 table-of-requires : tie.Need-table-of-requires
 table-of-requires c κs =
-    put-rules (c .before .before .before .args .p) (c .before .before .before .args .desk) (c .before .before .before .args .page .now) (c .before .before .before .args .letters .now) (c .before .before .before .args .marks .now)
-    (c .before .before .before .pre .0)
+    let start = c .before .before .before in
+    put-rules (start .args .p) (start .args .desk) (start .args .page .now) (start .args .letters .now) (start .args .marks .now) (start .pre .0)
 
 grow-requires : tie.Need-grow-requires
-grow-requires c κs = (
-  put-growable (c .before .before .before .before .before .before .args .p) (c .before .before .before .before .before .before .args .desk) (c .before .before .before .before .before .before .args .page .now) (c .before .before .before .before .before .before .args .letters .now) (c .before .before .before .before .before .before .args .marks .now)
-      (c .before .before .before .before .before .before .pre .0) _ (c .before .before .before .before .before .before .pre .1),
-  c .before .before .table-of .ensures,
-)
+grow-requires c κs =
+    let start = c .before .before .before .before .before .before in
+    (put-growable (start .args .p) (start .args .desk) (start .args .page .now) (start .args .letters .now) (start .args .marks .now) (start .pre .0) _ (start .pre .1), c .before .before .table-of .ensures)
 
 sub-put-letters : tie.Need-sub-put-letters
 sub-put-letters c =
-    behind-upto (c .before .before .before .before .before .before .before .before .before .before .args .p) (c .before .before .before .before .before .before .before .before .before .before .args .desk) (c .before .before .before .before .before .before .before .before .before .before .args .page .now) (c .before .before .before .before .before .before .before .before .before .before .args .letters .now) (c .before .before .before .before .before .before .before .before .before .before .args .marks .now)
-    (c .before .before .before .before .before .before .before .before .before .before .pre .0) _ (c .before .before .before .before .before .before .before .before .before .before .pre .1)
+    let start = c .before .before .before .before .before .before .before .before .before .before in
+    let few = behind-upto (start .args .p) (start .args .desk) (start .args .page .now) (start .args .letters .now) (start .args .marks .now)
+    (start .pre .0) _ (start .pre .1) in
+    omega (arith, few)
 
 put-letters-requires : tie.Need-put-letters-requires
 put-letters-requires c κs =
-    omega (
-      arith,
-      behind-upto (c .before .before .before .before .before .before .before .before .before .before .args .p) (c .before .before .before .before .before .before .before .before .before .before .args .desk) (c .before .before .before .before .before .before .before .before .before .before .args .page .now) (c .before .before .before .before .before .before .before .before .before .before .args .letters .now) (c .before .before .before .before .before .before .before .before .before .before .args .marks .now)
-          (c .before .before .before .before .before .before .before .before .before .before .pre .0) _ (c .before .before .before .before .before .before .before .before .before .before .pre .1),
-      put-cells (c .before .before .before .before .before .before .before .before .before .before .args .desk) (c .before .before .before .before .before .before .before .before .before .before .args .p) (c .before .before .before .before .before .before .before .before .before .before .args .page .now) (c .before .before .before .before .before .before .before .before .before .before .args .letters .now) _ (c .before .before .before .before .before .before .before .before .before .before .pre .0),
-    )
+    let start = c .before .before .before .before .before .before .before .before .before .before in
+    let few = behind-upto (start .args .p) (start .args .desk) (start .args .page .now) (start .args .letters .now) (start .args .marks .now)
+    (start .pre .0) _ (start .pre .1) in
+    omega (arith, few, put-cells (start .args .desk) (start .args .p) (start .args .page .now) (start .args .letters .now) _ (start .pre .0))
 
 with-page-requires : tie.Need-with-page-requires
-with-page-requires c κs = (
-  put-room (c .before .before .before .before .before .before .before .before .before .before .before .before .before .args .desk) (c .before .before .before .before .before .before .before .before .before .before .before .before .before .args .p) (c .before .before .before .before .before .before .before .before .before .before .before .before .before .args .page .now) (c .before .before .before .before .before .before .before .before .before .before .before .before .before .args .letters .now) _ (c .before .before .before .before .before .before .before .before .before .before .before .before .before .pre .0),
-  put-page-upto (c .before .before .before .before .before .before .before .before .before .before .before .before .before .args .desk) (c .before .before .before .before .before .before .before .before .before .before .before .before .before .args .p) (c .before .before .before .before .before .before .before .before .before .before .before .before .before .args .page .now) (c .before .before .before .before .before .before .before .before .before .before .before .before .before .args .letters .now) _ (c .before .before .before .before .before .before .before .before .before .before .before .before .before .pre .0),
-)
+with-page-requires c κs =
+    let start = c .before .before .before .before .before .before .before .before .before .before .before .before .before in (
+      put-room (start .args .desk) (start .args .p) (start .args .page .now) (start .args .letters .now) _ (start .pre .0),
+      put-page-upto (start .args .desk) (start .args .p) (start .args .page .now) (start .args .letters .now) _ (start .pre .0),
+    )
 
 cast-t19 : tie.Need-cast-t19
 cast-t19 c =
-    record {
-      fits = omega (
-        arith,
-        behind-upto (c .before .before .before .before .before .before .before .before .before .before .before .before .before .before .args .p) (c .before .before .before .before .before .before .before .before .before .before .before .before .before .before .args .desk) (c .before .before .before .before .before .before .before .before .before .before .before .before .before .before .args .page .now) (c .before .before .before .before .before .before .before .before .before .before .before .before .before .before .args .letters .now) (c .before .before .before .before .before .before .before .before .before .before .before .before .before .before .args .marks .now)
-            (c .before .before .before .before .before .before .before .before .before .before .before .before .before .before .pre .0) _ (c .before .before .before .before .before .before .before .before .before .before .before .before .before .before .pre .1),
-      );
-    }
+    let start = c .before .before .before .before .before .before .before .before .before .before .before .before .before .before in
+    let few = behind-upto (start .args .p) (start .args .desk) (start .args .page .now) (start .args .letters .now) (start .args .marks .now)
+    (start .pre .0) _ (start .pre .1) in
+    record { fits = omega (arith, few) }
 
 same-length : tie.Need-same-length
 same-length c = search needs
@@ -66,8 +59,11 @@ same-length-2 c = search needs
 
 returns : tie.Need-returns
 returns c =
-    put-made (c .before .before .before .before .before .before .before .before .before .before .before .before .before .before .args .p) (c .before .before .before .before .before .before .before .before .before .before .before .before .before .before .args .desk) (c .before .before .before .before .before .before .before .before .before .before .before .before .before .before .args .page .now) (c .before .before .before .before .before .before .before .before .before .before .before .before .before .before .args .letters .now) (c .before .before .before .before .before .before .before .before .before .before .before .before .before .before .args .marks .now)
-    (c .before .before .before .before .before .before .before .before .before .before .before .before .before .before .pre .0) _ (c .before .before .before .before .before .before .before .before .before .before .before .before .before .before .pre .1) _ _ _ (c .with-page .ensures) (c .before .before .before .put-letters .ensures) (c .before .before .before .before .before .before .before .grow .ensures)
+    let at-put-letters = c .before .before .before in
+    let at-grow = at-put-letters .before .before .before .before in
+    let start = at-grow .before .before .before .before .before .before .before in
+    put-made (start .args .p) (start .args .desk) (start .args .page .now) (start .args .letters .now) (start .args .marks .now) (start .pre .0) _
+    (start .pre .1) _ _ _ (c .with-page .ensures) (at-put-letters .put-letters .ensures) (at-grow .grow .ensures)
 
 pub put-on-spec : {M : Type 1} → statement M
 put-on-spec =

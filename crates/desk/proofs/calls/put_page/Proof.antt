@@ -18,17 +18,21 @@ enum-known-checked-2 c = search needs
 
 put-on-requires : tie.Need-put-on-requires
 put-on-requires c κs =
-    put-held (c .before .before .before .before .before .before .before .before .before .before .args .p) (c .before .before .before .before .before .before .before .before .before .before .args .desk) (c .before .before .before .before .before .before .before .before .before .before .args .page .now) (c .before .before .before .before .before .before .before .before .before .before .args .letters .now) (c .before .before .before .before .before .before .before .before .before .before .args .marks .now)
-    _ (c .before .before .before .before .before .check-put .ensures) _ (c .before .before .before .checked2 .given .1)
+    let at-checked2 = c .before .before .before in
+    let at-check-put = at-checked2 .before .before in
+    let start = at-check-put .before .before .before .before .before in
+    put-held (start .args .p) (start .args .desk) (start .args .page .now) (start .args .letters .now) (start .args .marks .now) _
+    (at-check-put .check-put .ensures) _ (at-checked2 .checked2 .given .1)
 
 same-length : tie.Need-same-length
 same-length c = search needs
 
 returns : tie.Need-returns
 returns c =
+    let at-check-put = c .before .before .before .before in
+    let start = at-check-put .before .before .before .before .before in
     rw (c .unchanged .ensures)
-    (put-why (c .before .before .before .before .before .before .before .before .before .args .p) (c .before .before .before .before .before .before .before .before .before .args .desk) (c .before .before .before .before .before .before .before .before .before .args .page .now) (c .before .before .before .before .before .before .before .before .before .args .letters .now) (c .before .before .before .before .before .before .before .before .before .args .marks .now)
-    _ (c .before .before .before .before .check-put .ensures) _ (c .before .before .checked .given .1))
+    (put-why (start .args .p) (start .args .desk) (start .args .page .now) (start .args .letters .now) (start .args .marks .now) _ (at-check-put .check-put .ensures) _ (c .before .before .checked .given .1))
 
 same-length-2 : tie.Need-same-length-2
 same-length-2 c = search needs
@@ -37,7 +41,9 @@ same-length-3 : tie.Need-same-length-3
 same-length-3 c = search needs
 
 returns-2 : tie.Need-returns-2
-returns-2 c = c .before .before .before .before .put-on .ensures
+returns-2 c =
+    let at-put-on = c .before .before .before .before in
+    at-put-on .put-on .ensures
 
 pub put-page-spec : {M : Type 1} → statement M
 put-page-spec =

@@ -18,17 +18,24 @@ enum-known-checked-2 c = search needs
 
 take-page-requires : tie.Need-take-page-requires
 take-page-requires c κs =
-    takeable (c .before .before .before .before .before .args .p) (c .before .before .before .before .before .args .desk) (c .before .before .before .before .before .args .letters .now) _ (c .before .before .before .check-withdraw .ensures) _ (c .before .checked2 .given .1)
+    let at-check-withdraw = c .before .before .before in
+    let start = at-check-withdraw .before .before in
+    takeable (start .args .p) (start .args .desk) (start .args .letters .now) _ (at-check-withdraw .check-withdraw .ensures) _
+    (c .before .checked2 .given .1)
 
 returns : tie.Need-returns
 returns c =
+    let at-check-withdraw = c .before .before .before .before in
+    let start = at-check-withdraw .before .before in
     rw (c .unchanged .ensures)
-    (withdraw-why (c .before .before .before .before .before .before .args .p) (c .before .before .before .before .before .before .args .desk) (c .before .before .before .before .before .before .args .letters .now) _ (c .before .before .before .before .check-withdraw .ensures) _ (c .before .before .checked .given .1))
+    (withdraw-why (start .args .p) (start .args .desk) (start .args .letters .now) _ (at-check-withdraw .check-withdraw .ensures) _ (c .before .before .checked .given .1))
 
 returns-2 : tie.Need-returns-2
 returns-2 c =
-    withdraw-done (c .before .before .before .before .before .before .args .p) (c .before .before .before .before .before .before .args .desk) (c .before .before .before .before .before .before .args .letters .now)
-    (withdraw-held (c .before .before .before .before .before .before .args .p) (c .before .before .before .before .before .before .args .desk) (c .before .before .before .before .before .before .args .letters .now) _ (c .before .before .before .before .check-withdraw .ensures) _ (c .before .before .checked2 .given .1) .0) _ (c .take-page .ensures)
+    let at-check-withdraw = c .before .before .before .before in
+    let start = at-check-withdraw .before .before in
+    withdraw-done (start .args .p) (start .args .desk) (start .args .letters .now)
+    (withdraw-held (start .args .p) (start .args .desk) (start .args .letters .now) _ (at-check-withdraw .check-withdraw .ensures) _ (c .before .before .checked2 .given .1) .0) _ (c .take-page .ensures)
 
 pub withdraw-page-spec : {M : Type 1} → statement M
 withdraw-page-spec =

@@ -12,13 +12,15 @@ obeys-rules-requires c κs = search needs
 
 returns : tie.Need-returns
 returns c =
-    put-2 _ _ (c .before .before .before .before .args .page .now) (c .before .before .before .before .args .letters .now) (c .before .before .before .before .args .words) (sym (c .before .obeys-rules .ensures) ∙ not-true _ (c .if1 .taken))
+    let start = c .before .before .before .before in
+    put-2 _ _ (start .args .page .now) (start .args .letters .now) (start .args .words)
+    (sym (c .before .obeys-rules .ensures) ∙ not-true _ (c .if1 .taken))
 
 returns-2 : tie.Need-returns-2
 returns-2 c =
-    put-9 _ _ (c .before .before .before .before .before .args .page .now) (c .before .before .before .before .before .args .letters .now) (c .before .before .before .before .before .args .words)
-    (sym (c .before .before .obeys-rules .ensures) ∙ not-false _ (c .before .if1 .left))
-    (c .if2 .taken)
+    let start = c .before .before .before .before .before in
+    put-9 _ _ (start .args .page .now) (start .args .letters .now) (start .args .words)
+    (sym (c .before .before .obeys-rules .ensures) ∙ not-false _ (c .before .if1 .left)) (c .if2 .taken)
 
 limits-put-requires : tie.Need-limits-put-requires
 limits-put-requires c κs = search needs
@@ -31,8 +33,12 @@ enum-told c = search needs
 
 returns-3 : tie.Need-returns-3
 returns-3 c =
-    put-13 _ _ (c .before .before .before .before .before .before .before .before .args .page .now) (c .before .before .before .before .before .before .before .before .args .letters .now) (c .before .before .before .before .before .before .before .before .args .words)
-    (sym (c .before .before .before .before .before .obeys-rules .ensures) ∙ not-false _ (c .before .before .before .before .if1 .left)) (c .before .before .before .if2 .left) _ (c .before .before .limits-put .ensures)
+    let at-if2 = c .before .before .before in
+    let at-if1 = at-if2 .before in
+    let at-obeys-rules = at-if1 .before in
+    let start = at-obeys-rules .before .before .before in
+    put-13 _ _ (start .args .page .now) (start .args .letters .now) (start .args .words)
+    (sym (at-obeys-rules .obeys-rules .ensures) ∙ not-false _ (at-if1 .if1 .left)) (at-if2 .if2 .left) _ (c .before .before .limits-put .ensures)
     (c .enum-told .given .1)
 
 cast-if3 : tie.Need-cast-if3
@@ -40,60 +46,121 @@ cast-if3 c = search needs
 
 returns-4 : tie.Need-returns-4
 returns-4 c =
-    put-14 _ _ (c .before .before .before .before .before .before .before .before .before .before .before .args .page .now) (c .before .before .before .before .before .before .before .before .before .before .before .args .letters .now) (c .before .before .before .before .before .before .before .before .before .before .before .args .words)
-    (sym (c .before .before .before .before .before .before .before .before .obeys-rules .ensures) ∙ not-false _ (c .before .before .before .before .before .before .before .if1 .left)) (c .before .before .before .before .before .before .if2 .left) _ (c .before .before .before .before .before .limits-put .ensures) _ (c .before .before .before .limits .given .1)
-    (c .if3 .taken)
+    let at-limits = c .before .before .before in
+    let at-limits-put = at-limits .before .before in
+    let at-if2 = at-limits-put .before in
+    let at-if1 = at-if2 .before in
+    let at-obeys-rules = at-if1 .before in
+    let start = at-obeys-rules .before .before .before in
+    put-14 _ _ (start .args .page .now) (start .args .letters .now) (start .args .words)
+    (sym (at-obeys-rules .obeys-rules .ensures) ∙ not-false _ (at-if1 .if1 .left)) (at-if2 .if2 .left) _ (at-limits-put .limits-put .ensures) _
+    (at-limits .limits .given .1) (c .if3 .taken)
 
 first-bad-requires : tie.Need-first-bad-requires
 first-bad-requires c κs = search needs
 
 cast-t20 : tie.Need-cast-t20
 cast-t20 c =
-    let few = put-few _ _ (c .before .before .before .before .before .before .before .before .before .before .before .before .before .args .page .now) (c .before .before .before .before .before .before .before .before .before .before .before .before .before .args .letters .now) (c .before .before .before .before .before .before .before .before .before .before .before .before .before .args .words)
-    (sym (c .before .before .before .before .before .before .before .before .before .before .obeys-rules .ensures) ∙ not-false _ (c .before .before .before .before .before .before .before .before .before .if1 .left)) (c .before .before .before .before .before .before .before .before .if2 .left) _ (c .before .before .before .before .before .before .before .limits-put .ensures) _ (c .before .before .before .before .before .limits .given .1) in
+    let at-limits = c .before .before .before .before .before in
+    let at-limits-put = at-limits .before .before in
+    let at-if2 = at-limits-put .before in
+    let at-if1 = at-if2 .before in
+    let at-obeys-rules = at-if1 .before in
+    let start = at-obeys-rules .before .before .before in
+    let few = put-few _ _ (start .args .page .now) (start .args .letters .now) (start .args .words)
+    (sym (at-obeys-rules .obeys-rules .ensures) ∙ not-false _ (at-if1 .if1 .left)) (at-if2 .if2 .left) _ (at-limits-put .limits-put .ensures) _
+    (at-limits .limits .given .1) in
     record { fits = omega (arith, few .1) }
 
 returns-5 : tie.Need-returns-5
 returns-5 c =
-    put-4 _ _ (c .before .before .before .before .before .before .before .before .before .before .before .before .before .args .page .now) (c .before .before .before .before .before .before .before .before .before .before .before .before .before .args .letters .now) (c .before .before .before .before .before .before .before .before .before .before .before .before .before .args .words)
-    (sym (c .before .before .before .before .before .before .before .before .before .before .obeys-rules .ensures) ∙ not-false _ (c .before .before .before .before .before .before .before .before .before .if1 .left)) (c .before .before .before .before .before .before .before .before .if2 .left) _ (c .before .before .before .before .before .before .before .limits-put .ensures) _ (c .before .before .before .before .before .limits .given .1) (c .before .before .if3 .left)
-    _ (c .before .first-bad .ensures) (c .if4 .taken)
+    let at-limits = c .before .before .before .before .before in
+    let at-limits-put = at-limits .before .before in
+    let at-if2 = at-limits-put .before in
+    let at-if1 = at-if2 .before in
+    let at-obeys-rules = at-if1 .before in
+    let start = at-obeys-rules .before .before .before in
+    put-4 _ _ (start .args .page .now) (start .args .letters .now) (start .args .words)
+    (sym (at-obeys-rules .obeys-rules .ensures) ∙ not-false _ (at-if1 .if1 .left)) (at-if2 .if2 .left) _ (at-limits-put .limits-put .ensures) _
+    (at-limits .limits .given .1) (c .before .before .if3 .left) _ (c .before .first-bad .ensures) (c .if4 .taken)
 
 add-needed : tie.Need-add-needed
 add-needed c =
-    let few = put-few _ _ (c .before .before .before .before .before .before .before .before .before .before .before .before .before .args .page .now) (c .before .before .before .before .before .before .before .before .before .before .before .before .before .args .letters .now) (c .before .before .before .before .before .before .before .before .before .before .before .before .before .args .words)
-    (sym (c .before .before .before .before .before .before .before .before .before .before .obeys-rules .ensures) ∙ not-false _ (c .before .before .before .before .before .before .before .before .before .if1 .left)) (c .before .before .before .before .before .before .before .before .if2 .left) _ (c .before .before .before .before .before .before .before .limits-put .ensures) _ (c .before .before .before .before .before .limits .given .1) in
+    let at-limits = c .before .before .before .before .before in
+    let at-limits-put = at-limits .before .before in
+    let at-if2 = at-limits-put .before in
+    let at-if1 = at-if2 .before in
+    let at-obeys-rules = at-if1 .before in
+    let start = at-obeys-rules .before .before .before in
+    let few = put-few _ _ (start .args .page .now) (start .args .letters .now) (start .args .words)
+    (sym (at-obeys-rules .obeys-rules .ensures) ∙ not-false _ (at-if1 .if1 .left)) (at-if2 .if2 .left) _ (at-limits-put .limits-put .ensures) _
+    (at-limits .limits .given .1) in
     record { fits = omega (arith, few .0, few .1) }
 
 add-needed-2 : tie.Need-add-needed-2
 add-needed-2 c =
-    let few = put-few _ _ (c .before .before .before .before .before .before .before .before .before .before .before .before .before .args .page .now) (c .before .before .before .before .before .before .before .before .before .before .before .before .before .args .letters .now) (c .before .before .before .before .before .before .before .before .before .before .before .before .before .args .words)
-    (sym (c .before .before .before .before .before .before .before .before .before .before .obeys-rules .ensures) ∙ not-false _ (c .before .before .before .before .before .before .before .before .before .if1 .left)) (c .before .before .before .before .before .before .before .before .if2 .left) _ (c .before .before .before .before .before .before .before .limits-put .ensures) _ (c .before .before .before .before .before .limits .given .1) in
+    let at-limits = c .before .before .before .before .before in
+    let at-limits-put = at-limits .before .before in
+    let at-if2 = at-limits-put .before in
+    let at-if1 = at-if2 .before in
+    let at-obeys-rules = at-if1 .before in
+    let start = at-obeys-rules .before .before .before in
+    let few = put-few _ _ (start .args .page .now) (start .args .letters .now) (start .args .words)
+    (sym (at-obeys-rules .obeys-rules .ensures) ∙ not-false _ (at-if1 .if1 .left)) (at-if2 .if2 .left) _ (at-limits-put .limits-put .ensures) _
+    (at-limits .limits .given .1) in
     record { fits = omega (arith, few .0, few .1) }
 
 mul-needed : tie.Need-mul-needed
 mul-needed c =
-    let few = put-few _ _ (c .before .before .before .before .before .before .before .before .before .before .before .before .before .args .page .now) (c .before .before .before .before .before .before .before .before .before .before .before .before .before .args .letters .now) (c .before .before .before .before .before .before .before .before .before .before .before .before .before .args .words)
-    (sym (c .before .before .before .before .before .before .before .before .before .before .obeys-rules .ensures) ∙ not-false _ (c .before .before .before .before .before .before .before .before .before .if1 .left)) (c .before .before .before .before .before .before .before .before .if2 .left) _ (c .before .before .before .before .before .before .before .limits-put .ensures) _ (c .before .before .before .before .before .limits .given .1) in
+    let at-limits = c .before .before .before .before .before in
+    let at-limits-put = at-limits .before .before in
+    let at-if2 = at-limits-put .before in
+    let at-if1 = at-if2 .before in
+    let at-obeys-rules = at-if1 .before in
+    let start = at-obeys-rules .before .before .before in
+    let few = put-few _ _ (start .args .page .now) (start .args .letters .now) (start .args .words)
+    (sym (at-obeys-rules .obeys-rules .ensures) ∙ not-false _ (at-if1 .if1 .left)) (at-if2 .if2 .left) _ (at-limits-put .limits-put .ensures) _
+    (at-limits .limits .given .1) in
     record { fits = omega (arith, few .0, few .1) }
 
 cast-t24 : tie.Need-cast-t24
 cast-t24 c =
-    let few = put-few _ _ (c .before .before .before .before .before .before .before .before .before .before .before .before .before .before .args .page .now) (c .before .before .before .before .before .before .before .before .before .before .before .before .before .before .args .letters .now) (c .before .before .before .before .before .before .before .before .before .before .before .before .before .before .args .words)
-    (sym (c .before .before .before .before .before .before .before .before .before .before .before .obeys-rules .ensures) ∙ not-false _ (c .before .before .before .before .before .before .before .before .before .before .if1 .left)) (c .before .before .before .before .before .before .before .before .before .if2 .left) _ (c .before .before .before .before .before .before .before .before .limits-put .ensures) _ (c .before .before .before .before .before .before .limits .given .1) in
+    let at-limits = c .before .before .before .before .before .before in
+    let at-limits-put = at-limits .before .before in
+    let at-if2 = at-limits-put .before in
+    let at-if1 = at-if2 .before in
+    let at-obeys-rules = at-if1 .before in
+    let start = at-obeys-rules .before .before .before in
+    let few = put-few _ _ (start .args .page .now) (start .args .letters .now) (start .args .words)
+    (sym (at-obeys-rules .obeys-rules .ensures) ∙ not-false _ (at-if1 .if1 .left)) (at-if2 .if2 .left) _ (at-limits-put .limits-put .ensures) _
+    (at-limits .limits .given .1) in
     record { fits = omega (arith, few .0, few .1) }
 
 returns-6 : tie.Need-returns-6
 returns-6 c =
-    put-6 _ _ (c .before .before .before .before .before .before .before .before .before .before .before .before .before .before .args .page .now) (c .before .before .before .before .before .before .before .before .before .before .before .before .before .before .args .letters .now) (c .before .before .before .before .before .before .before .before .before .before .before .before .before .before .args .words)
-    (sym (c .before .before .before .before .before .before .before .before .before .before .before .obeys-rules .ensures) ∙ not-false _ (c .before .before .before .before .before .before .before .before .before .before .if1 .left)) (c .before .before .before .before .before .before .before .before .before .if2 .left) _ (c .before .before .before .before .before .before .before .before .limits-put .ensures) _ (c .before .before .before .before .before .before .limits .given .1) (c .before .before .before .if3 .left) _ (c .before .before .first-bad .ensures) (c .before .if4 .left) _ refl
-    (c .if5 .taken)
+    let at-if3 = c .before .before .before in
+    let at-limits = at-if3 .before .before .before in
+    let at-limits-put = at-limits .before .before in
+    let at-if2 = at-limits-put .before in
+    let at-if1 = at-if2 .before in
+    let at-obeys-rules = at-if1 .before in
+    let start = at-obeys-rules .before .before .before in
+    put-6 _ _ (start .args .page .now) (start .args .letters .now) (start .args .words)
+    (sym (at-obeys-rules .obeys-rules .ensures) ∙ not-false _ (at-if1 .if1 .left)) (at-if2 .if2 .left) _ (at-limits-put .limits-put .ensures) _
+    (at-limits .limits .given .1) (at-if3 .if3 .left) _ (c .before .before .first-bad .ensures) (c .before .if4 .left) _ refl (c .if5 .taken)
 
 returns-7 : tie.Need-returns-7
 returns-7 c =
-    put-clear _ _ (c .before .before .before .before .before .before .before .before .before .before .before .before .before .before .args .page .now) (c .before .before .before .before .before .before .before .before .before .before .before .before .before .before .args .letters .now) (c .before .before .before .before .before .before .before .before .before .before .before .before .before .before .args .words)
-    (sym (c .before .before .before .before .before .before .before .before .before .before .before .obeys-rules .ensures) ∙ not-false _ (c .before .before .before .before .before .before .before .before .before .before .if1 .left)) (c .before .before .before .before .before .before .before .before .before .if2 .left) _ (c .before .before .before .before .before .before .before .before .limits-put .ensures) _ (c .before .before .before .before .before .before .limits .given .1) (c .before .before .before .if3 .left) _ (c .before .before .first-bad .ensures) (c .before .if4 .left) _ refl
-    (c .if5 .left)
+    let at-if3 = c .before .before .before in
+    let at-limits = at-if3 .before .before .before in
+    let at-limits-put = at-limits .before .before in
+    let at-if2 = at-limits-put .before in
+    let at-if1 = at-if2 .before in
+    let at-obeys-rules = at-if1 .before in
+    let start = at-obeys-rules .before .before .before in
+    put-clear _ _ (start .args .page .now) (start .args .letters .now) (start .args .words)
+    (sym (at-obeys-rules .obeys-rules .ensures) ∙ not-false _ (at-if1 .if1 .left)) (at-if2 .if2 .left) _ (at-limits-put .limits-put .ensures) _
+    (at-limits .limits .given .1) (at-if3 .if3 .left) _ (c .before .before .first-bad .ensures) (c .before .if4 .left) _ refl (c .if5 .left)
 
 pub check-put-spec : {M : Type 1} → statement M
 check-put-spec =

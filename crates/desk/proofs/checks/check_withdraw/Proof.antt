@@ -11,13 +11,13 @@ obeys-rules-requires c κs = search needs
 
 returns : tie.Need-returns
 returns c =
-    withdraw-2 _ _ (c .before .before .before .args .letters .now) (sym (c .before .obeys-rules .ensures) ∙ not-true _ (c .if1 .taken))
+    let start = c .before .before .before in
+    withdraw-2 _ _ (start .args .letters .now) (sym (c .before .obeys-rules .ensures) ∙ not-true _ (c .if1 .taken))
 
 returns-2 : tie.Need-returns-2
 returns-2 c =
-    withdraw-9 _ _ (c .before .before .before .before .args .letters .now)
-    (sym (c .before .before .obeys-rules .ensures) ∙ not-false _ (c .before .if1 .left))
-    (c .if2 .taken)
+    let start = c .before .before .before .before in
+    withdraw-9 _ _ (start .args .letters .now) (sym (c .before .before .obeys-rules .ensures) ∙ not-false _ (c .before .if1 .left)) (c .if2 .taken)
 
 limits-held-requires : tie.Need-limits-held-requires
 limits-held-requires c κs = search needs
@@ -30,21 +30,34 @@ enum-told c = search needs
 
 returns-3 : tie.Need-returns-3
 returns-3 c =
-    withdraw-13 _ _ (c .before .before .before .before .before .before .before .args .letters .now)
-    (sym (c .before .before .before .before .before .obeys-rules .ensures) ∙ not-false _ (c .before .before .before .before .if1 .left)) (c .before .before .before .if2 .left) _ (c .before .before .limits-held .ensures)
-    (c .enum-told .given .1)
+    let at-if2 = c .before .before .before in
+    let at-if1 = at-if2 .before in
+    let at-obeys-rules = at-if1 .before in
+    let start = at-obeys-rules .before .before in
+    withdraw-13 _ _ (start .args .letters .now) (sym (at-obeys-rules .obeys-rules .ensures) ∙ not-false _ (at-if1 .if1 .left))
+    (at-if2 .if2 .left) _ (c .before .before .limits-held .ensures) (c .enum-told .given .1)
 
 returns-4 : tie.Need-returns-4
 returns-4 c =
-    withdraw-15 _ _ (c .before .before .before .before .before .before .before .before .before .before .args .letters .now)
-    (sym (c .before .before .before .before .before .before .before .before .obeys-rules .ensures) ∙ not-false _ (c .before .before .before .before .before .before .before .if1 .left)) (c .before .before .before .before .before .before .if2 .left) _ (c .before .before .before .before .before .limits-held .ensures) _ (c .before .before .before .limits .given .1)
-    (c .if3 .taken)
+    let at-limits = c .before .before .before in
+    let at-limits-held = at-limits .before .before in
+    let at-if2 = at-limits-held .before in
+    let at-if1 = at-if2 .before in
+    let at-obeys-rules = at-if1 .before in
+    let start = at-obeys-rules .before .before in
+    withdraw-15 _ _ (start .args .letters .now) (sym (at-obeys-rules .obeys-rules .ensures) ∙ not-false _ (at-if1 .if1 .left))
+    (at-if2 .if2 .left) _ (at-limits-held .limits-held .ensures) _ (at-limits .limits .given .1) (c .if3 .taken)
 
 returns-5 : tie.Need-returns-5
 returns-5 c =
-    withdraw-clear _ _ (c .before .before .before .before .before .before .before .before .before .before .args .letters .now)
-    (sym (c .before .before .before .before .before .before .before .before .obeys-rules .ensures) ∙ not-false _ (c .before .before .before .before .before .before .before .if1 .left)) (c .before .before .before .before .before .before .if2 .left) _ (c .before .before .before .before .before .limits-held .ensures) _ (c .before .before .before .limits .given .1)
-    (c .if3 .left)
+    let at-limits = c .before .before .before in
+    let at-limits-held = at-limits .before .before in
+    let at-if2 = at-limits-held .before in
+    let at-if1 = at-if2 .before in
+    let at-obeys-rules = at-if1 .before in
+    let start = at-obeys-rules .before .before in
+    withdraw-clear _ _ (start .args .letters .now) (sym (at-obeys-rules .obeys-rules .ensures) ∙ not-false _ (at-if1 .if1 .left))
+    (at-if2 .if2 .left) _ (at-limits-held .limits-held .ensures) _ (at-limits .limits .given .1) (c .if3 .left)
 
 pub check-withdraw-spec : {M : Type 1} → statement M
 check-withdraw-spec =
