@@ -1,6 +1,6 @@
 -- What each way of a call's checks must show: the first cause that holds, or that none holds.
 use mathlib.Core.Path.{_≡_, refl, sym, ap, subst, _∙_}
-use mathlib.Core.Bool.{Bool, true, false, _&&_, not}
+use mathlib.Core.Bool.{true, false, _&&_, not}
 use mathlib.Core.List.{List, [], _∷_}
 use Prim.Native.Nat.{ℕ, zero, suc, _+_, _*_, _≤_, _<_}
 use native.Mathlib.Omega.{arith}
@@ -11,7 +11,7 @@ use Rattle.syntax.specs.Bools.{and-fst, and-snd}
 use Rattle.syntax.specs.Letter.{first-bad, letter-limit}
 use Rattle.syntax.specs.Table.{obeys}
 use Rattle.refusals.specs.declared.Refusal.the-variants.{Tree as Tree-fault, TapeByte, WordsTooShort, TapeTooShort}
-use Rattle.refusals.specs.Checks.{First, here, past, Clear}
+use Rattle.refusals.specs.Checks.{numbers-of, First, here, past, Clear}
 use Rattle.desk.specs.declared.Desk.{Desk}
 use Rattle.desk.specs.declared.DeskRefusal.{DeskRefusal}
 use Rattle.desk.specs.declared.DeskRefusal.the-variants.{Base, DeskLimits, DeskFull, DeskEmpty}
@@ -19,9 +19,27 @@ use Rattle.desk.specs.declared.limits.Limits.{Limits}
 use Rattle.desk.specs.declared.limits.Limits.the-variants.{Kept, Broken}
 use Rattle.desk.specs.declared.checks.Checked.{Checked}
 use Rattle.desk.specs.declared.checks.Checked.the-variants.{Held, Refused}
-use Rattle.desk.specs.Desks.{page-limit, page-letters, good-page, held, limits-kept, desk-good, Desk-check, words-for, put-order, withdraw-order}
+use Rattle.desk.specs.Desks.{page-limit, page-letters, good-page, held, limits-kept, desk-good, desk-refused, Desk-check, words-for}
+use Rattle.desk.specs.Desks.{open-order, put-order, withdraw-order}
 use Rattle.desk.specs.Limits.{put-limits, held-limits, by-kept, by-broken, page-upto, limits-few}
 
+-- ── the numbers of the orders, laid beside 02's lines ──
+module _ (p : Pattern) (words : ℕ) where
+  -- 02: "refusing 2, then 6"
+  pub open-numbers : numbers-of desk-refused (open-order p words) ≡ 2 ∷ 6 ∷ []
+  open-numbers = refl
+
+module _ (p : Pattern) (d : Desk) (page letters : List ℕ) (words : ℕ) where
+  -- 02: "after 2, fewer than 3,600 cells with 9 [..], with 13, a 31st page with 14, then a bad letter with 4 [..], then marks too few [..] with 6"
+  pub put-numbers : numbers-of desk-refused (put-order d p page letters words) ≡ 2 ∷ 9 ∷ 13 ∷ 14 ∷ 4 ∷ 6 ∷ []
+  put-numbers = refl
+
+module _ (p : Pattern) (d : Desk) (letters : List ℕ) where
+  -- 02: "withdrawal checks 2, 9 and 13 for the desk, and an empty one gives 15"
+  pub withdraw-numbers : numbers-of desk-refused (withdraw-order d p letters) ≡ 2 ∷ 9 ∷ 13 ∷ 15 ∷ []
+  withdraw-numbers = refl
+
+-- ── the checks ──
 -- the promise of a call's checks: the letters held where no cause of the order holds, or the first that does
 abbrev pub Checks : (order : List Desk-check) → (letters : ℕ) → Checked → Type 0
 Checks order n (Held m) = Clear order × (m ≡ n)
@@ -83,37 +101,22 @@ module _ (d : Desk) (p : Pattern) (page letters : List ℕ) (words : ℕ) where
               (past (ap not table) (past (le-ltb (length letters) letter-limit cells) (past (ap not (right .0))
               (past (lt-leb page-limit (d .count) room) (here (lt-ltb (first-bad page) (length page) (omega (arith, f, l))))))))
 
-          module _ (bad : ℕ) (f : bad ≡ first-bad page) (spelt : length page ≤ bad) (needed : ℕ) (w : needed ≡ words-for (h + length page)) where
-            needs : needed ≡ words-for (held d + length page)
-            needs = w ∙ ap (λ m. words-for (m + length page)) (right .1)
+          module _ (bad : ℕ) (f : bad ≡ first-bad page) (spelt : length page ≤ bad) (needed : ℕ) where
+            needs : needed ≡ words-for (h + length page) → needed ≡ words-for (held d + length page)
+            needs w = w ∙ ap (λ m. words-for (m + length page)) (right .1)
 
-            pub put-6 : words < needed → First (Base (WordsTooShort needed)) (put-order d p page letters words)
-            put-6 l =
-                subst (λ n. First (Base (WordsTooShort n)) (put-order d p page letters words)) (sym needs)
+            pub put-6 : words < needed → needed ≡ words-for (h + length page) → First (Base (WordsTooShort needed)) (put-order d p page letters words)
+            put-6 l w =
+                subst (λ n. First (Base (WordsTooShort n)) (put-order d p page letters words)) (sym (needs w))
                 (past (ap not table) (past (le-ltb (length letters) letter-limit cells) (past (ap not (right .0)) (past (lt-leb page-limit (d .count) room)
                 (past (le-ltb (first-bad page) (length page) (omega (arith, f, spelt)))
-                (here (lt-ltb words (words-for (held d + length page)) (subst (λ n. words < n) needs l))))))))
+                (here (lt-ltb words (words-for (held d + length page)) (subst (λ n. words < n) (needs w) l))))))))
 
-            pub put-clear : needed ≤ words → Clear (put-order d p page letters words) × (h ≡ held d)
-            put-clear l = (
-              (
-                ap not table,
-                (
-                  le-ltb (length letters) letter-limit cells,
-                  (
-                    ap not (right .0),
-                    (
-                      lt-leb page-limit (d .count) room,
-                      (
-                        le-ltb (first-bad page) (length page) (omega (arith, f, spelt)),
-                        (le-ltb words (words-for (held d + length page)) (subst (λ n. n ≤ words) needs l), tt),
-                      ),
-                    ),
-                  ),
-                ),
-              ),
-              right .1,
-            )
+            pub put-clear : needed ≤ words → needed ≡ words-for (h + length page) → Clear (put-order d p page letters words) × (h ≡ held d)
+            put-clear l w =
+                ((ap not table, (le-ltb (length letters) letter-limit cells, (ap not (right .0), (lt-leb page-limit (d .count) room,
+                (le-ltb (first-bad page) (length page) (omega (arith, f, spelt)),
+                (le-ltb words (words-for (held d + length page)) (subst (λ n. n ≤ words) (needs w) l), tt)))))), right .1)
 
 -- ── withdrawing ──
 module _ (d : Desk) (p : Pattern) (letters : List ℕ) where

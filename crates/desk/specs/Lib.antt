@@ -1,5 +1,4 @@
 pub mod Desks
-pub mod CauseNumbers
 pub mod Numbers
 pub mod Lists
 pub mod Limits

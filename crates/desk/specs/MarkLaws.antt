@@ -1,17 +1,16 @@
 -- RIGHT MARKS STAY RIGHT. 02: "If before a call the marks are those of the joined letters under its table, they are so after it; a put changes only
 -- its own letters' cells and mark words, a withdrawal none."
-use mathlib.Core.Path.{_≡_, refl, sym, ap, ap₂, subst, _∙_}
-use mathlib.Core.Bool.{Bool, true, false}
-use mathlib.Core.Logic.{_⊎_, inl, inr}
+use mathlib.Core.Path.{_≡_, sym, ap, ap₂, subst, _∙_}
+use mathlib.Core.Bool.{true}
+use mathlib.Core.Logic.{inl, inr}
 use mathlib.Core.List.{List, [], _∷_, _++_}
-use Prim.Native.Nat.{ℕ, zero, suc, _+_, _-_, _*_, _≤_, _<_}
+use Prim.Native.Nat.{ℕ, _+_, _-_, _*_, _≤_}
 use native.Mathlib.Omega.{arith}
-use borrow.Author.Tests.{ltb-false, leb-false, ne-eqb, not-false}
+use borrow.Author.Tests.{ne-eqb}
 use lib.Dec.{eqb}
 use lib.ListN.{length, getD, take, drop, length-append, take-append-drop}
 use lib.Seq.{take-take, take-at, getD-take, sets}
 use Rattle.syntax.specs.declared.Pattern.{Pattern}
-use Rattle.syntax.specs.Letter.{letter-limit}
 use Rattle.syntax.specs.TreeLaws.{Rules}
 use Rattle.refusals.specs.Checks.{Clear}
 use Rattle.bits.specs.Bits.{in-front}
@@ -21,12 +20,12 @@ use Rattle.first_sweep.specs.Tail.{tail-words, tail-length, tail-at, tail-front
 use Rattle.first_sweep.specs.Grow.{grown, step-by, grown-length, tail-grown}
 use Rattle.desk.specs.declared.Desk.{Desk}
 use Rattle.desk.specs.declared.Desked.{Desked}
-use Rattle.desk.specs.Desks.{page-limit, held, letters-held, empty-desk, with-page, without-page, words-for, open-order, put-order, withdraw-order}
+use Rattle.desk.specs.Desks.{page-limit, held, letters-held, without-page, words-for, open-order, put-order, withdraw-order}
 use Rattle.desk.specs.Desks.{Marks-of, Opens, Puts, Withdraws}
 use Rattle.desk.specs.Checking.{put-room, put-upto, put-cells, withdraw-few, withdraw-cells}
 use Rattle.desk.specs.DeskWays.{put-rules, put-words-room}
 use Rattle.desk.specs.Pages.{less-held}
-use Rattle.desk.specs.Moves.{none-held, held-length, put-held, put-letters, less-letters, sets-front}
+use Rattle.desk.specs.Moves.{none-held, held-length, put-letters, less-letters, sets-front}
 use Rattle.desk.specs.Orders.{Answered, opened, put-answered, was-put, put-only, withdraw-answered, was-withdrawn, withdraw-only}
 
 -- ── words ──

@@ -2,29 +2,28 @@
 -- stack of pages would, each accepted one with the count of letters then held, and its letters are those pages joined, the last put first."
 use mathlib.Core.Path.{_≡_, refl, sym, ap, ap₂, subst, _∙_}
 use mathlib.Core.Bool.{Bool, true, false, _&&_, not, cond, true≢false}
-use mathlib.Core.List.{List, [], _∷_, _++_, map}
-use Prim.Native.Nat.{ℕ, zero, suc, _+_, _-_, _*_, _≤_, _<_}
+use mathlib.Core.List.{List, [], _∷_, _++_}
+use Prim.Native.Nat.{ℕ, suc, _+_, _-_, _*_, _≤_, _<_}
 use native.Mathlib.Omega.{arith}
-use borrow.Author.Tests.{ltb-false, leb-true, leb-false, le-leb, eq-eqb, eqb-true, eqb-false, not-false}
+use borrow.Author.Tests.{ltb-false, leb-false, le-leb, eq-eqb, eqb-true, not-false}
 use lib.Dec.{eqb, leb, ltb}
-use lib.ListN.{length, getD, take, drop, set, replicate, length-set, length-append, length-take, length-drop}
+use lib.ListN.{length, getD, take, drop, set, length-set, length-append}
 use lib.Seq.{take-suc-set, take-take, take-at, drop-at, length-sets, sets}
 use Rattle.syntax.specs.declared.Pattern.{Pattern}
-use Rattle.syntax.specs.Bools.{and-intro, and-fst, and-snd}
+use Rattle.syntax.specs.Bools.{and-intro}
 use Rattle.syntax.specs.Letter.{is-letter, first-bad, letter-limit}
 use Rattle.refusals.specs.declared.Refusal.the-variants.{TapeByte}
 use Rattle.refusals.specs.Refusals.{Answer, answer}
 use Rattle.refusals.specs.Checks.{first-of, Clear}
 use Rattle.refusals.specs.CheckLaws.{zero-said}
 use Rattle.desk.specs.declared.Desk.{Desk}
-use Rattle.desk.specs.declared.DeskRefusal.{DeskRefusal}
 use Rattle.desk.specs.declared.DeskRefusal.the-variants.{Base, DeskLimits, DeskFull, DeskEmpty}
 use Rattle.desk.specs.declared.Desked.{Desked}
 use Rattle.desk.specs.Desks.{page-limit, page-letters, good-page, every, sum, lengths-held, held, letters-held, limits-kept, desk-good}
-use Rattle.desk.specs.Desks.{empty-desk, with-page, without-page, desk-number, desk-refused, desk-answer, if-accepted, Desk-check}
-use Rattle.desk.specs.Desks.{words-for, table-check, cells-check, words-check, put-order, withdraw-order, open-answer, put-answer, withdraw-answer, Opens, Puts, Withdraws}
+use Rattle.desk.specs.Desks.{empty-desk, with-page, without-page, desk-refused, desk-answer, if-accepted}
+use Rattle.desk.specs.Desks.{words-for, table-check, cells-check, words-check, open-answer, put-answer, withdraw-answer, Opens, Puts, Withdraws}
 use Rattle.desk.specs.Stacks.{Stack, joined, Call, opening, putting, withdrawing, stack-order, stack-next, stack-answer, stack-step}
-use Rattle.desk.specs.Stacks.{stack-answers, stack-behind, Does, Run, rest, next, Like-a-stack, top-off}
+use Rattle.desk.specs.Stacks.{Does, Run, rest, next, Like-a-stack, top-off}
 use Rattle.desk.specs.Numbers.{desk-number-positive}
 use Rattle.desk.specs.Lists.{every-append, no-bad, sum-append}
 use Rattle.desk.specs.Limits.{page-upto}

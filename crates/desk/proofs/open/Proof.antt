@@ -1,7 +1,7 @@
 -- `desk::open` meets its contract: a walk of its MIR, by hand. The borrow of the desk is opened, the desk is copied and passed to `open_desk`, and the
 -- borrow is closed at the desk that comes back. The marks are given up to the callee at their own lifetime, share and name.
 -- All that the proof knows of `open_desk` is that it meets its contract.
-use mathlib.Core.Path.{_≡_, refl, ap, subst}
+use mathlib.Core.Path.{_≡_, refl, ap}
 use Prim.Native.Nat.{ℕ}
 use mathlib.Core.List.{[], _∷_, List}
 use lib.ListN.{length}

@@ -1,6 +1,5 @@
 -- `desk::calls::open_desk` meets its contract.
 use mathlib.Core.Path.{sym, _∙_}
-use native.Mathlib.Omega.{arith}
 use borrow.Author.Tests.{not-true, not-false}
 use Rattle.syntax.specs.TreeLaws.{obeys-iff}
 use Rattle.desk.specs.DeskWays.{open-refused, open-2, open-6, open-done}

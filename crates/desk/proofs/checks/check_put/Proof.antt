@@ -147,7 +147,7 @@ returns-6 c =
     let start = at-obeys-rules .before .before .before in
     put-6 _ _ (start .args .page .now) (start .args .letters .now) (start .args .words)
     (sym (at-obeys-rules .obeys-rules .ensures) ∙ not-false _ (at-if1 .if1 .left)) (at-if2 .if2 .left) _ (at-limits-put .limits-put .ensures) _
-    (at-limits .limits .given .1) (at-if3 .if3 .left) _ (c .before .before .first-bad .ensures) (c .before .if4 .left) _ refl (c .if5 .taken)
+    (at-limits .limits .given .1) (at-if3 .if3 .left) _ (c .before .before .first-bad .ensures) (c .before .if4 .left) _ (c .if5 .taken) refl
 
 returns-7 : tie.Need-returns-7
 returns-7 c =
@@ -160,7 +160,7 @@ returns-7 c =
     let start = at-obeys-rules .before .before .before in
     put-clear _ _ (start .args .page .now) (start .args .letters .now) (start .args .words)
     (sym (at-obeys-rules .obeys-rules .ensures) ∙ not-false _ (at-if1 .if1 .left)) (at-if2 .if2 .left) _ (at-limits-put .limits-put .ensures) _
-    (at-limits .limits .given .1) (at-if3 .if3 .left) _ (c .before .before .first-bad .ensures) (c .before .if4 .left) _ refl (c .if5 .left)
+    (at-limits .limits .given .1) (at-if3 .if3 .left) _ (c .before .before .first-bad .ensures) (c .before .if4 .left) _ (c .if5 .left) refl
 
 pub check-put-spec : {M : Type 1} → statement M
 check-put-spec =

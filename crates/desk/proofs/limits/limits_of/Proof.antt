@@ -3,7 +3,6 @@ use mathlib.Core.Path.{sym}
 use native.Mathlib.Omega.{arith}
 use lib.Seq.{length-take-le}
 use Rattle.desk.specs.Limits.{count-over, limits-summed}
-use borrow.Author.Needs.{needs}
 use Rattle.desk.proofs.limits.limits_of.Statement.{statement}
 use Rattle.desk.proofs.limits.limits_of.Tie as tie
 

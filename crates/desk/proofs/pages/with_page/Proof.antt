@@ -1,5 +1,4 @@
 -- `desk::pages::with_page` meets its contract.
-use native.Mathlib.Omega.{arith}
 use Rattle.desk.specs.Pages.{with-page-made}
 use borrow.Author.Needs.{needs}
 use Rattle.desk.proofs.pages.with_page.Statement.{statement}
