@@ -113,10 +113,25 @@ module _ (d : Desk) (p : Pattern) (page letters : List ℕ) (words : ℕ) where
                 (here (lt-ltb words (words-for (held d + length page)) (subst (λ n. words < n) (needs w) l))))))))
 
             pub put-clear : needed ≤ words → needed ≡ words-for (h + length page) → Clear (put-order d p page letters words) × (h ≡ held d)
-            put-clear l w =
-                ((ap not table, (le-ltb (length letters) letter-limit cells, (ap not (right .0), (lt-leb page-limit (d .count) room,
-                (le-ltb (first-bad page) (length page) (omega (arith, f, spelt)),
-                (le-ltb words (words-for (held d + length page)) (subst (λ n. n ≤ words) (needs w) l), tt)))))), right .1)
+            put-clear l w = (
+              (
+                ap not table,
+                (
+                  le-ltb (length letters) letter-limit cells,
+                  (
+                    ap not (right .0),
+                    (
+                      lt-leb page-limit (d .count) room,
+                      (
+                        le-ltb (first-bad page) (length page) (omega (arith, f, spelt)),
+                        (le-ltb words (words-for (held d + length page)) (subst (λ n. n ≤ words) (needs w) l), tt),
+                      ),
+                    ),
+                  ),
+                ),
+              ),
+              right .1,
+            )
 
 -- ── withdrawing ──
 module _ (d : Desk) (p : Pattern) (letters : List ℕ) where

@@ -10,4 +10,5 @@ pub mod Unique
 pub mod Orders
 pub mod MarkLaws
 pub mod Stacks
+pub mod StackPages
 pub mod StackLaws
