@@ -9,6 +9,7 @@ pub mod DeskWays
 pub mod Unique
 pub mod Orders
 pub mod MarkLaws
+pub mod Untouched
 pub mod Stacks
 pub mod StackPages
 pub mod StackLaws
