@@ -6,6 +6,7 @@ pub mod Pages
 pub mod Moves
 pub mod Checking
 pub mod DeskWays
+pub mod Decided
 pub mod Unique
 pub mod Orders
 pub mod MarkLaws
