@@ -143,37 +143,78 @@ impl Automaton {
     }
 
     /// For each position, from the tape's end, the states from which the
-    /// letters from there on are accepted: those that read the letter into
-    /// such a state of the next position, and those that reach one silently.
+    /// letters from there on are accepted.
     fn accepted(&self, tape: &[u8]) -> Vec<Vec<bool>> {
-        let states = 2 * (self.count + 1);
-        let mut found = vec![vec![false; states]; tape.len() + 1];
-        for position in (0..=tape.len()).rev() {
-            let mut here = vec![false; states];
-            match tape.get(position) {
-                None => here[self.index(Automaton::accepting())] = true,
-                Some(&letter) => {
-                    for &(from, leaf, to) in &self.reading {
-                        let next = found[position + 1][self.index(to)];
-                        if leaf.reads(u64::from(letter)) && next {
-                            here[self.index(from)] = true;
-                        }
-                    }
-                }
-            }
-            let mut changed = true;
-            while changed {
-                changed = false;
-                for &(from, to) in &self.silent {
-                    if here[self.index(to)] && !here[self.index(from)] {
-                        here[self.index(from)] = true;
-                        changed = true;
-                    }
-                }
-            }
-            found[position] = here;
+        let mut found = vec![self.at_end()];
+        for (behind, &letter) in tape.iter().rev().enumerate() {
+            found.push(self.before(letter, &found[behind]));
         }
+        found.reverse();
         found
+    }
+
+    /// No letter is left: the accepting state, and those that reach it silently.
+    fn at_end(&self) -> Vec<bool> {
+        let mut here = vec![false; 2 * (self.count + 1)];
+        here[self.index(Automaton::accepting())] = true;
+        self.reach_silently(&mut here);
+        here
+    }
+
+    /// Those that read the letter into an accepted state of the next position,
+    /// and those that reach one of these silently.
+    fn before(&self, letter: u8, next: &[bool]) -> Vec<bool> {
+        let mut here = vec![false; 2 * (self.count + 1)];
+        for &(from, leaf, to) in &self.reading {
+            if leaf.reads(u64::from(letter)) && next[self.index(to)] {
+                here[self.index(from)] = true;
+            }
+        }
+        self.reach_silently(&mut here);
+        here
+    }
+
+    fn reach_silently(&self, here: &mut [bool]) {
+        let mut changed = true;
+        while changed {
+            changed = false;
+            for &(from, to) in &self.silent {
+                if here[self.index(to)] && !here[self.index(from)] {
+                    here[self.index(from)] = true;
+                    changed = true;
+                }
+            }
+        }
+    }
+
+    /// The words of flag 0 and flag 1 of one position.
+    fn words(&self, here: &[bool]) -> [u64; 2] {
+        [false, true].map(|flag| {
+            let bit = |place: usize| {
+                let state = State {
+                    place: Some(place),
+                    flag,
+                };
+                u64::from(here[self.index(state)]) << place
+            };
+            (0..self.count).map(bit).sum()
+        })
+    }
+
+    /// Both words of a position from its letter, the flag 1 word of the next
+    /// position, whatever that holds, and whether the tape's end lies there. A
+    /// letter is read into flag 1, so no more of the next position is asked for.
+    pub fn step(&self, letter: u8, next: u64, at_end: bool) -> [u64; 2] {
+        let mut states = vec![false; 2 * (self.count + 1)];
+        for place in 0..self.count {
+            let state = State {
+                place: Some(place),
+                flag: true,
+            };
+            states[self.index(state)] = next >> place & 1 == 1;
+        }
+        states[self.index(Automaton::accepting())] = at_end;
+        self.words(&self.before(letter, &states))
     }
 }
 
@@ -181,20 +222,9 @@ impl Automaton {
 /// language of node l with flag b. Bits past the last node are 0."
 pub fn marks(table: &Table, tape: &[u8]) -> Vec<u64> {
     let automaton = Automaton::new(table);
-    let mut words = Vec::with_capacity(2 * (tape.len() + 1));
-    for here in automaton.accepted(tape) {
-        for flag in [false, true] {
-            let mut word = 0_u64;
-            for place in 0..automaton.count {
-                if here[automaton.index(State {
-                    place: Some(place),
-                    flag,
-                })] {
-                    word |= 1 << place;
-                }
-            }
-            words.push(word);
-        }
-    }
-    words
+    let accepted = automaton.accepted(tape);
+    accepted
+        .iter()
+        .flat_map(|here| automaton.words(here))
+        .collect()
 }

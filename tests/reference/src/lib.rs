@@ -10,6 +10,7 @@ pub mod calendar;
 pub mod cases;
 pub mod code;
 pub mod codes;
+pub mod desks;
 pub mod full;
 pub mod hex;
 pub mod hot;

@@ -2,7 +2,7 @@
 //! kinds, one kind after the other, a later kind behind the earlier ones. A
 //! line's first field is the kind's letter.
 
-use crate::{altered, cases, codes, tapes, terms, visits};
+use crate::{altered, cases, codes, desks, tapes, terms, visits};
 
 /// One line a case, as the program reads it.
 pub fn lines() -> Vec<String> {
@@ -12,6 +12,7 @@ pub fn lines() -> Vec<String> {
     lines.extend(visits::all().iter().map(visits::Case::line));
     lines.extend(terms::all().iter().map(terms::Case::line));
     lines.extend(altered::all().iter().map(altered::Case::line));
+    lines.extend(desks::all().iter().map(desks::Case::line));
     lines
 }
 
@@ -23,11 +24,12 @@ pub fn names() -> Vec<String> {
     names.extend(visits::all().into_iter().map(|case| case.name));
     names.extend(terms::all().into_iter().map(|case| case.name));
     names.extend(altered::all().into_iter().map(|case| case.name));
+    names.extend(desks::all().into_iter().map(|case| case.name));
     names
 }
 
 /// The lines of their answers in the same order: after a load those of the
-/// nodes, for a code three.
+/// nodes, for a code three, for a run of a desk one a call.
 pub fn answers() -> Vec<String> {
     let mut answers: Vec<String> = cases::all().iter().flat_map(cases::Case::answer).collect();
     answers.extend(tapes::all().iter().map(tapes::Case::answer));
@@ -35,5 +37,6 @@ pub fn answers() -> Vec<String> {
     answers.extend(visits::all().iter().map(visits::Case::answer));
     answers.extend(terms::all().iter().map(terms::Case::answer));
     answers.extend(altered::all().iter().flat_map(altered::Case::answers));
+    answers.extend(desks::all().iter().flat_map(desks::Case::answers));
     answers
 }

@@ -2,6 +2,7 @@
 //! Lent buffers are slices with their old contents; what a service does not
 //! write keeps them.
 
+pub mod desk;
 pub mod reading;
 pub mod settling;
 pub mod spelling;
