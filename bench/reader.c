@@ -407,3 +407,79 @@ uint64_t totals(const Table *t, const uint8_t *code, size_t bytes, uint32_t coun
   charge(t, code, litres);
   return 0;
 }
+
+void grow_words(const Masks *m, const uint8_t *page, size_t n, size_t behind, uint64_t *words) {
+  uint64_t next = words[2 * behind + 1];
+  for (size_t j = 0; j < n; j++) {
+    uint64_t zero = 0, one = 0, last = -(uint64_t)(behind + j == 0);
+    for (uint64_t left = m->takers[page[n - 1 - j]]; left; left &= left - 1) {
+      const LeafMasks *x = &m->leaf[__builtin_ctzll(left)];
+      // A leaf that nothing follows is open at the tape's end alone.
+      uint64_t open = x->behind ? -(uint64_t)((next & x->behind) != 0) : last;
+      zero |= x->zero & open;
+      one |= x->one & open;
+    }
+    words[2 * (behind + j + 1)] = zero;
+    words[2 * (behind + j + 1) + 1] = next = one;
+  }
+}
+
+enum { MAX_PAGES = 30, MAX_PAGE_LETTERS = 120, DESK_BYTES = 1 + MAX_PAGES };
+
+static size_t first_bad(const uint8_t *letters, size_t n) {
+  size_t i = 0;
+  while (i < n && is_letter(letters[i])) i++;
+  return i;
+}
+
+// The letters held, or -1 where the desk is none.
+static int held(const uint8_t *desk, size_t size, const uint8_t *letters) {
+  if (size != DESK_BYTES || desk[0] > MAX_PAGES) return -1;
+  int sum = 0;
+  for (int k = 1; k <= desk[0]; k++) {
+    if (desk[k] < 1 || desk[k] > MAX_PAGE_LETTERS) return -1;
+    sum += desk[k];
+  }
+  return first_bad(letters + MAX_LETTERS - sum, sum) < (size_t)sum ? -1 : sum;
+}
+
+uint64_t desk_open(const Table *t, uint8_t *desk, size_t size, uint64_t *words, size_t room) {
+  if (!obeys(t)) return refused(2, 0);
+  if (room < 2) return refused(6, 2);
+  if (size != DESK_BYTES) return refused(13, 0);
+  Masks m;
+  make_masks(t, &m);
+  words[0] = 0;
+  words[1] = m.end;
+  memset(desk, 0, DESK_BYTES);
+  return 0;
+}
+
+uint64_t desk_put(const Table *t, uint8_t *desk, size_t size, const uint8_t *page, size_t n, uint8_t *letters, size_t cells,
+                  uint64_t *words, size_t room) {
+  if (!obeys(t)) return refused(2, 0);
+  if (cells < MAX_LETTERS) return refused(9, MAX_LETTERS);
+  if (n < 1 || n > MAX_PAGE_LETTERS) return refused(13, 0);
+  int behind = held(desk, size, letters);
+  if (behind < 0) return refused(13, 0);
+  if (desk[0] == MAX_PAGES) return refused(14, 0);
+  size_t bad = first_bad(page, n), after = behind + n;
+  if (bad < n) return refused(4, bad);
+  if (room < 2 * (after + 1)) return refused(6, 2 * (after + 1));
+  Masks m;
+  make_masks(t, &m);
+  grow_words(&m, page, n, behind, words);
+  memcpy(letters + MAX_LETTERS - after, page, n);
+  desk[0]++;
+  desk[desk[0]] = n;
+  return after;
+}
+
+uint64_t desk_withdraw(const Table *t, uint8_t *desk, size_t size, const uint8_t *letters, size_t cells) {
+  if (!obeys(t)) return refused(2, 0);
+  if (cells < MAX_LETTERS) return refused(9, MAX_LETTERS);
+  int sum = held(desk, size, letters);
+  if (sum < 0) return refused(13, 0);
+  if (desk[0] == 0) return refused(15, 0);
+  return sum - desk[desk[0]--];
+}

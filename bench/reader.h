@@ -51,4 +51,14 @@ void charge(const Table *t, const uint8_t *code, uint32_t litres[ACCOUNTS]);
 // interface: number << 32 | value, which is the number of letters for `flatten` and 0 for `totals`. Litres are zeros where it refuses.
 uint64_t flatten(const Table *t, const uint8_t *code, size_t bytes, uint32_t count, uint8_t *tape, size_t cells);
 uint64_t totals(const Table *t, const uint8_t *code, size_t bytes, uint32_t count, uint32_t litres[ACCOUNTS]);
+
+// The words of a page that is put before `behind` letters, counted from the tape's end: those of the last j letters are words[2 * j] and
+// words[2 * j + 1]. It tests nothing.
+void grow_words(const Masks *m, const uint8_t *page, size_t n, size_t behind, uint64_t *words);
+
+// The page desk with the tests that the proved one makes, in the same order. A desk is 31 bytes, as in the C interface.
+uint64_t desk_open(const Table *t, uint8_t *desk, size_t size, uint64_t *words, size_t room);
+uint64_t desk_put(const Table *t, uint8_t *desk, size_t size, const uint8_t *page, size_t n, uint8_t *letters, size_t cells,
+                  uint64_t *words, size_t room);
+uint64_t desk_withdraw(const Table *t, uint8_t *desk, size_t size, const uint8_t *letters, size_t cells);
 #endif

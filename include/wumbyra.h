@@ -8,7 +8,7 @@
  *
  * Rules for every call
  *  - A buffer is passed as a pointer and a length in elements. No pointer is NULL, even where the length is 0.
- *  - `words` is aligned for uint64_t, `litres` for uint32_t.
+ *  - `words` is aligned for uint64_t, `litres` for uint32_t; a desk, being bytes, needs no alignment.
  *  - A buffer that is written (not const) overlaps no other argument. Those that are read may overlap each other.
  *  - Whatever bytes the arguments hold, the call returns an answer. It keeps no pointer and has no state: calls on different
  *    buffers may run at the same time.
@@ -24,18 +24,25 @@
  *   WUMBYRA_TREE             2    the lines are no tree; in all calls but wumbyra_load:        line; else 0
  *                                 the text does not load, for whatever reason
  *   WUMBYRA_TAPE_TOO_LONG    3    a tape of over 3,600 letters                                 0
- *   WUMBYRA_TAPE_BYTE        4    a byte of the tape is outside 33 to 126 and 161 to 254       first such position
+ *   WUMBYRA_TAPE_BYTE        4    a byte of the tape is outside 33 to 126 and 161 to 254;      first such position
+ *                                 of a page: a byte of the page                                in the page
  *   WUMBYRA_UNREADABLE       5    no parse of the pattern spells the tape                      0
  *   WUMBYRA_WORDS_TOO_SHORT  6    fewer than 2 * (n + 1) words for n letters                   words needed
  *   WUMBYRA_CODE_TOO_SHORT   7    the code buffer is shorter than this code                    bytes needed
  *   WUMBYRA_NOT_A_CODE       8    not a whole code of the pattern: bits, range, count or       0
  *                                 padding; in wumbyra_span also a code of another tape
- *   WUMBYRA_TAPE_TOO_SHORT   9    the tape buffer is shorter than what the code spells         letters needed
+ *   WUMBYRA_TAPE_TOO_SHORT   9    the tape buffer is shorter than what the code spells;        letters needed
+ *                                 the letters of a desk have fewer than 3,600 cells            3,600
  *   WUMBYRA_NO_SUCH_VISIT   10    no such node, or it is visited at most `visit` times         0
  *   WUMBYRA_TAPE_UNDATED    11    the start is no date, or a letter of the tape is dated       0
  *                                 past 31 December 2099
  *   WUMBYRA_NOT_A_TERM      12    the first or the last date of the term is none, or the       0
  *                                 last is before the first
+ *   WUMBYRA_DESK_LIMITS     13    a page of no letter or of over 120; a desk that is not of    0
+ *                                 31 bytes, holds over 30 pages or a page of such a length,
+ *                                 or holds a byte that is no letter
+ *   WUMBYRA_DESK_FULL       14    a 31st page                                                  0
+ *   WUMBYRA_DESK_EMPTY      15    no page to withdraw                                          0
  *
  *  Where several causes hold, the first in the order that is given with the call is answered. A number that is not in that
  *  order is never answered by the call.
@@ -71,11 +78,27 @@
  *  On a tape `D`, byte 68, ends a day, whichever line of the pattern reads it, and belongs to the day that it ends. A letter's date
  *  is that of the first letter, stepped by a day for each `D` that stands before it.
  *
+ * Page desks
+ *  From 1.6.0 on a tape can be gathered in pages of 1 to 120 letters that arrive newest first, as a concentrator fetches them. A page is
+ *  put before the letters held, and the last page put can be withdrawn, as a page with a bad radio check is. The caller keeps three
+ *  buffers between the calls, and the library keeps nothing:
+ *   - the desk, WUMBYRA_DESK_BYTES bytes: how many pages are held, then the letters of each in the order of their putting. Bytes of pages
+ *     that are not held mean nothing;
+ *   - the letters, at least WUMBYRA_MAX_LETTERS cells, of which the first WUMBYRA_MAX_LETTERS are used: with n letters held, they stand
+ *     from letters[WUMBYRA_MAX_LETTERS - n] on, the last page put first, and are a tape for wumbyra_parse;
+ *   - the words, WUMBYRA_WORDS(n) of them for n letters, WUMBYRA_MAX_WORDS for any. They are those of wumbyra_parse, counted from the
+ *     tape's end: words[2 * j + b] is for the last j letters, that is words[2 * (n - j) + b] of a parse of n letters.
+ *  From an opening on, while nothing but these calls writes desk and letters, a desk answers as a plain stack of pages does. A desk and
+ *  letters that a caller wrote are taken all the same, if they keep the limits. Each call has a pattern text of its own. If the words are
+ *  right for the letters held under that text before a call, they are so after it; otherwise answers, desk and letters are the same, and
+ *  the words that a put writes follow from words[2 * n + 1] as it stands, where n letters were held.
+ *
  * Stack and time
  *  No call takes memory from the heap. Calls inside a call go as deep as the pattern's tree, at most 64, and never with the
  *  tape or the code, so the stack is bounded: WUMBYRA_STACK_BYTES suffice on the deepest patterns, by measurement.
  *  wumbyra_parse takes at most letters * lines steps, and twice that where the code buffer has fewer than WUMBYRA_CODE_BYTES(n)
- *  bytes: below 3 milliseconds on the worst that was measured. The calls that take a code take at most (bits + 1) * lines steps:
+ *  bytes: below 3 milliseconds on the worst that was measured. A put looks at each letter held once and takes at most page * lines
+ *  steps. The calls that take a code take at most (bits + 1) * lines steps:
  *  bits may stand for empty rounds, or for more letters than a tape may have, and all of them are walked before the code is
  *  accepted or refused. The worst is a code of 65,536 bytes, each bit a round of 63 lines: a quarter of a second, and in
  *  wumbyra_span twice that. Whoever takes codes from others bounds the time by the bytes that it accepts: a code that this library
@@ -95,7 +118,7 @@ extern "C" {
  * was compiled with another header than its library's. What is added, a call, a kind of line, letters or accounts, raises the minor
  * number, and so does a rule that gives litres to other accounts; a call that is changed or dropped raises the major number. */
 #define WUMBYRA_VERSION_MAJOR 1
-#define WUMBYRA_VERSION_MINOR 5
+#define WUMBYRA_VERSION_MINOR 6
 #define WUMBYRA_VERSION_PATCH 0
 #define WUMBYRA_VERSION_NUMBER (WUMBYRA_VERSION_MAJOR * 10000 + WUMBYRA_VERSION_MINOR * 100 + WUMBYRA_VERSION_PATCH)
 
@@ -112,7 +135,10 @@ enum {
     WUMBYRA_TAPE_TOO_SHORT = 9,
     WUMBYRA_NO_SUCH_VISIT = 10,
     WUMBYRA_TAPE_UNDATED = 11,
-    WUMBYRA_NOT_A_TERM = 12
+    WUMBYRA_NOT_A_TERM = 12,
+    WUMBYRA_DESK_LIMITS = 13,
+    WUMBYRA_DESK_FULL = 14,
+    WUMBYRA_DESK_EMPTY = 15
 };
 
 /* ---- limits */
@@ -145,6 +171,11 @@ enum {
  * of an older header lends ten cells for totals, and gets those of accounts 0 to 9. */
 #define WUMBYRA_ACCOUNTS 201
 #define WUMBYRA_MAX_LITRES 32400
+
+/* Pages that a desk holds, letters of a page, and bytes of a desk. All pages together are a tape of the most letters. */
+#define WUMBYRA_MAX_PAGES 30
+#define WUMBYRA_MAX_PAGE_LETTERS 120
+#define WUMBYRA_DESK_BYTES (1 + WUMBYRA_MAX_PAGES)
 
 /* Stack that suffices for any call, in bytes. The most that was measured is 30 KB, totals of 63 nested stars, in all or within a term;
  * tests/guard runs every call on a stack of this size. */
@@ -299,6 +330,42 @@ uint64_t wumbyra_totals(const uint8_t *text, size_t text_len, const uint8_t *cod
 WUMBYRA_CHECK_ANSWER
 uint64_t wumbyra_term_totals(const uint8_t *text, size_t text_len, const uint8_t *code, size_t code_len, uint32_t count,
                              uint32_t start, uint32_t first, uint32_t last, uint32_t *litres, size_t litres_len);
+
+/* Opens a page desk, whatever it held: it holds no page then, and all its bytes are 0. From 1.6.0 on, as the next two.
+ *
+ * Order: 2, 6, 13. Value: 0.
+ * Written: the desk; words[0] and words[1], those of the tape's end.
+ *
+ *   6            value: 2
+ *   13           a desk that is not of WUMBYRA_DESK_BYTES bytes, and nothing else: any bytes are opened
+ *   2, 6, 13     desk and words are left as they were */
+WUMBYRA_CHECK_ANSWER
+uint64_t wumbyra_desk_open(const uint8_t *text, size_t text_len, uint8_t *desk, size_t desk_len, uint64_t *words, size_t words_len);
+
+/* Puts a page before the letters held.
+ *
+ * Order: 2, 9, 13, 14, 4, 6. Value: the letters held then.
+ * Written, where n letters were held and m are held then: the desk; the page, to letters[WUMBYRA_MAX_LETTERS - m] and behind it; its
+ * words, to words[2 * (n + 1)] up to words[2 * m + 1].
+ *
+ *   9                     value: 3,600. Cells behind these are neither read nor written
+ *   13                    before 14: a page of a wrong length is told so on a full desk too
+ *   4                     value: the position in the page
+ *   6                     value: WUMBYRA_WORDS(m), the words needed with the page
+ *   2, 9, 13, 14, 4, 6    desk, letters and words are left as they were */
+WUMBYRA_CHECK_ANSWER
+uint64_t wumbyra_desk_put(const uint8_t *text, size_t text_len, uint8_t *desk, size_t desk_len, const uint8_t *page, size_t page_len,
+                          uint8_t *letters, size_t letters_len, uint64_t *words, size_t words_len);
+
+/* Withdraws the last page put.
+ *
+ * Order: 2, 9, 13, 15. Value: the letters held then.
+ * Written: the first byte of the desk. Letters and words stay: those of the letters then held stand where they stood.
+ *
+ *   2, 9, 13, 15    the desk is left as it was */
+WUMBYRA_CHECK_ANSWER
+uint64_t wumbyra_desk_withdraw(const uint8_t *text, size_t text_len, uint8_t *desk, size_t desk_len, const uint8_t *letters,
+                               size_t letters_len);
 
 #ifdef __cplusplus
 }

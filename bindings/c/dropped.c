@@ -13,4 +13,7 @@ void drop(const uint8_t *in, uint8_t *out, uint64_t *words, uint32_t *litres)
     wumbyra_total(in, 1, in, 1, 8, 0);
     wumbyra_totals(in, 1, in, 1, 8, litres, 1);
     wumbyra_term_totals(in, 1, in, 1, 8, 20240101, 20240101, 20240101, litres, 1);
+    wumbyra_desk_open(in, 1, out, 31, words, 2);
+    wumbyra_desk_put(in, 1, out, 31, in, 1, out + 31, 3600, words, 4);
+    wumbyra_desk_withdraw(in, 1, out, 31, in, 3600);
 }

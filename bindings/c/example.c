@@ -179,6 +179,51 @@ static void try_terms(void)
     expect("no code, start or term", wumbyra_term_totals(text, len, code, size, bits + 1, 0, 0, 0, litres, 2), WUMBYRA_NOT_A_CODE, 0);
 }
 
+/* The example's tape in three pages, the latest letters first, with one that is taken back; then every refusal. */
+static void try_desk(void)
+{
+    static uint8_t cells[WUMBYRA_MAX_LETTERS];
+    static const uint8_t bad[] = {'3', ' '}, spaces[WUMBYRA_MAX_PAGE_LETTERS + 1] = {0};
+    const uint8_t *text = (const uint8_t *)pattern, *page = (const uint8_t *)tape;
+    const size_t len = sizeof pattern - 1, size = WUMBYRA_DESK_BYTES;
+    uint8_t desk[WUMBYRA_DESK_BYTES + 1], code[WUMBYRA_CODE_BYTES(3)];
+    uint64_t words[2 * (3 + 1)], read[2 * (3 + 1)];
+    size_t j;
+    memset(desk, 255, sizeof desk);
+    expect("desk: open without words", wumbyra_desk_open(text, len, desk, size + 1, words, 1), WUMBYRA_WORDS_TOO_SHORT, 2);
+    expect("desk: open 32 bytes", wumbyra_desk_open(text, len, desk, size + 1, words, 2), WUMBYRA_DESK_LIMITS, 0);
+    expect("desk: withdraw from no desk", wumbyra_desk_withdraw(text, len, desk, size, cells, sizeof cells), WUMBYRA_DESK_LIMITS, 0);
+    expect("desk: open", wumbyra_desk_open(text, len, desk, size, words, 2), WUMBYRA_OK, 0);
+    if (desk[0] != 0 || desk[size - 1] != 0 || desk[size] != 255)
+        failed = 1;
+    expect("desk: put the last letter", wumbyra_desk_put(text, len, desk, size, page + 2, 1, cells, sizeof cells, words, 8), WUMBYRA_OK, 1);
+    expect("desk: put", wumbyra_desk_put(text, len, desk, size, page, 2, cells, sizeof cells, words, 8), WUMBYRA_OK, 3);
+    expect("desk: withdraw", wumbyra_desk_withdraw(text, len, desk, size, cells, sizeof cells), WUMBYRA_OK, 1);
+    expect("desk: put W", wumbyra_desk_put(text, len, desk, size, page + 1, 1, cells, sizeof cells, words, 6), WUMBYRA_OK, 2);
+    expect("desk: put short of words", wumbyra_desk_put(text, len, desk, size, page, 1, cells, sizeof cells, words, 7),
+           WUMBYRA_WORDS_TOO_SHORT, 8);
+    expect("desk: put the first letter", wumbyra_desk_put(text, len, desk, size, page, 1, cells, sizeof cells, words, 8), WUMBYRA_OK, 3);
+    printf("desk\t%u\t%.3s\n", desk[0], (const char *)cells + WUMBYRA_MAX_LETTERS - 3);
+    expect("desk: parse", wumbyra_parse(text, len, cells + WUMBYRA_MAX_LETTERS - 3, 3, read, 8, code, sizeof code), WUMBYRA_OK, 21);
+    for (j = 0; j <= 3; j++)
+        if (words[2 * j] != read[2 * (3 - j)] || words[2 * j + 1] != read[2 * (3 - j) + 1])
+            failed = 1;
+    expect("desk: no text", wumbyra_desk_put(text, 0, desk, size, bad, 2, cells, 0, words, 0), WUMBYRA_TREE, 0);
+    expect("desk: few cells", wumbyra_desk_put(text, len, desk, size, spaces, 0, cells, sizeof cells - 1, words, 0),
+           WUMBYRA_TAPE_TOO_SHORT, WUMBYRA_MAX_LETTERS);
+    expect("desk: no page", wumbyra_desk_put(text, len, desk, size, spaces, 0, cells, sizeof cells, words, 0), WUMBYRA_DESK_LIMITS, 0);
+    expect("desk: a long page", wumbyra_desk_put(text, len, desk, size, spaces, sizeof spaces, cells, sizeof cells, words, 0),
+           WUMBYRA_DESK_LIMITS, 0);
+    expect("desk: a bad letter", wumbyra_desk_put(text, len, desk, size, bad, 2, cells, sizeof cells, words, 0), WUMBYRA_TAPE_BYTE, 1);
+    for (j = 3; j > 0; j--)
+        expect("desk: withdraw all", wumbyra_desk_withdraw(text, len, desk, size, cells, sizeof cells), WUMBYRA_OK, (uint32_t)j - 1);
+    expect("desk: withdraw from an empty one", wumbyra_desk_withdraw(text, len, desk, size, cells, sizeof cells), WUMBYRA_DESK_EMPTY, 0);
+    memset(desk, 1, size);
+    desk[0] = WUMBYRA_MAX_PAGES;
+    memset(cells, '7', sizeof cells);
+    expect("desk: a full one", wumbyra_desk_put(text, len, desk, size, bad, 2, cells, sizeof cells, words, 8), WUMBYRA_DESK_FULL, 0);
+}
+
 int main(void)
 {
     enum { letters = 3 };
@@ -236,6 +281,7 @@ int main(void)
     try_stale();
     try_many_accounts();
     try_terms();
+    try_desk();
     expect("count past the bytes", wumbyra_total(text, len, code, 3, 25, 1), WUMBYRA_NOT_A_CODE, 0);
     return failed;
 }

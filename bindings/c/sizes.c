@@ -17,6 +17,8 @@ static_assert(WUMBYRA_MAX_LITRES == 9 * WUMBYRA_MAX_LETTERS, "nine litres a lett
 static_assert(WUMBYRA_ACCOUNTS == 201, "accounts 0 to 200");
 static_assert(WUMBYRA_FIRST_LETTER == 33 && WUMBYRA_LAST_LETTER == 126, "letters");
 static_assert(WUMBYRA_FIRST_HOT_LETTER == 161 && WUMBYRA_LAST_HOT_LETTER == 254, "letters of the hot side");
+static_assert(WUMBYRA_DESK_BYTES == 31, "a count and 30 lengths");
+static_assert(WUMBYRA_MAX_PAGES * WUMBYRA_MAX_PAGE_LETTERS == WUMBYRA_MAX_LETTERS, "all pages together are the longest tape");
 static_assert(WUMBYRA_MAX_TEXT_BYTES < WUMBYRA_DECISIVE_TEXT_BYTES, "a text that loads is decided whole");
 
 /* A number is that of one date: what would be another's is 0. */

@@ -78,11 +78,11 @@ class Wheel(unittest.TestCase):
     def test_a_library_of_another_version_is_refused(self):
         with tempfile.TemporaryDirectory() as room:
             source, other = pathlib.Path(room, "other.c"), pathlib.Path(room, "other.so")
-            for number in [10200, 20300]:
+            for number in [10500, 20600]:
                 source.write_text(f"unsigned wumbyra_version(void) {{ return {number}; }}\n")
                 subprocess.run(["gcc", "-shared", "-fPIC", "-o", str(other), str(source)], check=True)
                 refused = python("-c", TELL, PYTHONPATH=self.site, WUMBYRA_LIBRARY=other)
-                words = f"ImportError: this package is for version 1 of the library from 1.3 on, and the one found says {number}"
+                words = f"ImportError: this package is for version 1 of the library from 1.6 on, and the one found says {number}"
                 self.assertIn(words, refused.stderr)
 
     def test_a_missing_archive_is_one_sentence(self):

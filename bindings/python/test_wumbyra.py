@@ -1,4 +1,4 @@
-"""The worked examples of the scope, terms, refusals, numbers of any size, totals in any number of cells, and the version."""
+"""The worked examples of the scope, terms, page desks, refusals, numbers of any size, totals in any number of cells, and the version."""
 
 import concurrent.futures
 import copy
@@ -14,7 +14,7 @@ import unittest
 from array import array
 
 import wumbyra
-from wumbyra import ACCOUNTS, CAUSES, Pattern, Refused, version
+from wumbyra import ACCOUNTS, CAUSES, MAX_LETTERS, MAX_PAGE_LETTERS, MAX_PAGES, Desk, Pattern, Refused, version
 from wumbyra._library import LIBRARY
 
 LISTING = b"0\tR\t-\t0\t9\n1\tL\t-\tW\n2\tS\t9\t1\t0\n3\tR\t1\t0\t9\n4\tA\t-\t2\t3\n5\tK\t-\t4\n"
@@ -278,6 +278,83 @@ class Terms(Case):
                 self.assertEqual(list(lent), totals[:written] + (ROOM - written) * [77])
 
 
+def turned(words):
+    """The words of a parse, counted from the tape's end."""
+    return array("Q", [word for at in range(len(words) - 2, -1, -2) for word in words[at : at + 2]])
+
+
+class Desks(Case):
+    def test_pages_newest_first(self):
+        pattern = Pattern(LISTING)
+        desk = Desk(pattern)
+        self.assertEqual((desk.letters, desk.pages, list(desk.words)), (b"", [], [0, 0x20]))
+        self.refused(15, 0, desk.withdraw)
+        self.assertEqual(desk.put(b"2"), 1)
+        self.assertEqual(desk.put(b"9W9"), 4)
+        self.assertEqual((desk.letters, desk.pages), (b"9W92", [b"9W9", b"2"]))
+        self.assertEqual(desk.withdraw(), 1)
+        self.assertEqual(desk.put(bytearray(b"3W")), 3)
+        self.assertEqual(desk.letters, b"3W2")
+        self.assertEqual(desk.words, turned(pattern.parse(desk.letters).words))
+        self.assertEqual(repr(desk), "<Desk of 2 pages, 3 letters>")
+        held = desk.letters, desk.pages, desk.words
+        for page in [b"", (MAX_PAGE_LETTERS + 1) * b"3"]:
+            self.refused(13, 0, desk.put, page)
+        self.refused(4, 1, desk.put, b"3 ")
+        self.assertRaises(TypeError, desk.put, "3")
+        self.assertEqual((desk.letters, desk.pages, desk.words), held)
+        again = pickle.loads(pickle.dumps(desk.letters))
+        self.assertEqual(again, b"3W2")
+        desk.open()
+        self.assertEqual((desk.letters, len(desk.words)), (b"", 2))
+
+    def test_a_full_desk(self):
+        pattern = Pattern(P1)
+        desk = Desk(pattern)
+        for page in range(1, MAX_PAGES + 1):
+            self.assertEqual(desk.put(MAX_PAGE_LETTERS * b"a"), page * MAX_PAGE_LETTERS)
+        self.assertEqual(desk.letters, MAX_LETTERS * b"a")
+        self.assertEqual(desk.words, turned(pattern.parse(desk.letters).words))
+        self.refused(14, 0, desk.put, b"a")
+        for page in reversed(range(MAX_PAGES)):
+            self.assertEqual(desk.withdraw(), page * MAX_PAGE_LETTERS)
+        self.refused(15, 0, desk.withdraw)
+
+    def test_a_desk_is_copied(self):
+        desk = Desk(Pattern(LISTING))
+        desk.put(b"W2")
+        for again in [copy.deepcopy(desk), pickle.loads(pickle.dumps(desk))]:
+            self.assertEqual(again.put(b"3"), 3)
+            self.assertEqual((again.letters, desk.letters), (b"3W2", b"W2"))
+
+    def test_the_order_of_checks(self):
+        """Through the library itself: texts, desks and buffers that a Desk never lends."""
+        text = P1, len(P1)
+        letters, words = (ctypes.c_uint8 * 3600)(*(3600 * b"a")), (ctypes.c_uint64 * 8)()
+        for length, number in [(30, 13), (31, 0), (32, 13), (0, 13)]:
+            desk = (ctypes.c_uint8 * 32)(*(32 * b"\xff"))
+            self.assertEqual(LIBRARY.wumbyra_desk_open(b"", 0, desk, length, words, 0), 2 << 32)
+            self.assertEqual(LIBRARY.wumbyra_desk_open(*text, desk, length, words, 1), 6 << 32 | 2)
+            self.assertEqual(LIBRARY.wumbyra_desk_open(*text, desk, length, words, 2), number << 32)
+            self.assertEqual(bytes(desk), 32 * b"\xff" if number else 31 * b"\0" + b"\xff")
+        desk = (ctypes.c_uint8 * 31)(*([30] + 30 * [1]))
+        for page, cells, room, number, value in [
+            (b" ", 3599, 0, 9, 3600),
+            (b"", 3600, 0, 13, 0),
+            (121 * b" ", 3600, 0, 13, 0),
+            (b" ", 3600, 0, 14, 0),
+        ]:
+            answer = LIBRARY.wumbyra_desk_put(*text, desk, 31, page, len(page), letters, cells, words, room)
+            self.assertEqual(answer, number << 32 | value)
+        desk[0] = 0
+        self.assertEqual(LIBRARY.wumbyra_desk_put(*text, desk, 31, b"a ", 2, letters, 3600, words, 0), 4 << 32 | 1)
+        self.assertEqual(LIBRARY.wumbyra_desk_put(*text, desk, 31, b"aa", 2, letters, 3600, words, 5), 6 << 32 | 6)
+        self.assertEqual(bytes(desk), bytes([0] + 30 * [1]))
+        self.assertEqual(LIBRARY.wumbyra_desk_put(*text, desk, 31, b"aa", 2, letters, 3600, words, 6), 2)
+        self.assertEqual(LIBRARY.wumbyra_desk_withdraw(*text, desk, 31, letters, 3600), 0)
+        self.assertEqual(LIBRARY.wumbyra_desk_withdraw(*text, desk, 31, letters, 3600), 15 << 32)
+
+
 class Refusals(Case):
     def test_refusals(self):
         self.refused(1, 0, Pattern, b"")
@@ -322,7 +399,7 @@ class Refusals(Case):
         self.assertRaises(TypeError, pattern.flatten, found, 3.0)
 
     def test_a_refusal_is_copied_and_pickled(self):
-        for refused in [Refused(4, 17), Refused(12, 0), Refused(13, 0)]:
+        for refused in [Refused(4, 17), Refused(15, 0), Refused(99, 0)]:
             for again in [copy.copy(refused), copy.deepcopy(refused), pickle.loads(pickle.dumps(refused))]:
                 self.assertEqual((type(again), again.number, again.value), (Refused, refused.number, refused.value))
                 self.assertEqual(str(again), str(refused))
@@ -335,9 +412,9 @@ class Refusals(Case):
             self.refused(5, 0, bad.result, 60)
 
     def test_each_cause_has_words(self):
-        self.assertEqual(list(CAUSES), list(range(1, 13)))
+        self.assertEqual(list(CAUSES), list(range(1, 16)))
         self.assertEqual(str(Refused(4, 17)), "the byte at position 17 of the tape is no letter")
-        self.assertIn("number 13 with value 0", str(Refused(13, 0)))
+        self.assertIn("number 99 with value 0", str(Refused(99, 0)))
         # The same words as those of the Rust wrapper, which has {line}, {position} or {needed} where this one has {value}.
         rust = (REPOSITORY / "bindings/rust/src/refusal.rs").read_text()
         there = {re.sub(r"\{\w+\}", "{value}", words) for words in re.findall(r'write!\(\s*f,\s+"([^"]*)"', rust)}
@@ -350,11 +427,12 @@ class Package(unittest.TestCase):
         part = [int(re.search(rf"#define WUMBYRA_VERSION_{name} (\d+)\n", header)[1]) for name in ("MAJOR", "MINOR", "PATCH")]
         self.assertEqual(version(), part[0] * 10000 + part[1] * 100 + part[2])
         self.assertEqual(wumbyra.__version__, ".".join(map(str, part)))
-        for name in ["ACCOUNTS", "MAX_LETTERS", "MAX_CODE_BYTES"]:
+        for name in ["ACCOUNTS", "MAX_LETTERS", "MAX_CODE_BYTES", "MAX_PAGES", "MAX_PAGE_LETTERS"]:
             self.assertEqual(getattr(wumbyra, name), int(re.search(rf"#define WUMBYRA_{name} (\d+)\n", header)[1]))
 
     def test_every_function_has_type_hints(self):
-        functions = [version, Refused.__init__, *(call for _, call in inspect.getmembers(Pattern, inspect.isfunction))]
+        methods = (call for kind in (Pattern, Desk) for _, call in inspect.getmembers(kind, inspect.isfunction))
+        functions = [version, Refused.__init__, *methods]
         for function in functions:
             parameters = set(inspect.signature(function).parameters) - {"self"}
             self.assertEqual(set(typing.get_type_hints(function)), parameters | {"return"}, function)

@@ -27,13 +27,30 @@ from typing import TYPE_CHECKING, List, NamedTuple, Tuple, Union
 from ._library import LIBRARY
 from ._refused import CAUSES, Refused
 
-__version__ = "1.5.0"
-__all__ = ["ACCOUNTS", "CAUSES", "MAX_CODE_BYTES", "MAX_LETTERS", "Code", "Parsed", "Pattern", "Refused", "Span", "version"]
+__version__ = "1.6.0"
+__all__ = [
+    "ACCOUNTS",
+    "CAUSES",
+    "MAX_CODE_BYTES",
+    "MAX_LETTERS",
+    "MAX_PAGES",
+    "MAX_PAGE_LETTERS",
+    "Code",
+    "Desk",
+    "Parsed",
+    "Pattern",
+    "Refused",
+    "Span",
+    "version",
+]
 
 MAX_LETTERS = 3600
 MAX_CODE_BYTES = 65536
 # Accounts, 0 to 200: as many totals as `totals` and `term_totals` give.
 ACCOUNTS = 201
+# Pages that a desk holds, and letters of a page.
+MAX_PAGES = 30
+MAX_PAGE_LETTERS = 120
 
 if TYPE_CHECKING:
     Words = array[int]
@@ -191,3 +208,71 @@ class Pattern:
         """The arguments that all calls on a code begin with."""
         code = _bytes(code)
         return self.text, len(self.text), code, len(code), _count(bits, "a bit count")
+
+
+class Desk:
+    """A page desk: a tape that is gathered in pages which arrive newest first.
+
+        desk = Desk(pattern)
+        desk.put(b"52")                         # 2, the letters held then; the latest letters come first
+        desk.put(b"99")                         # 4
+        desk.withdraw()                         # 2, a page with a bad radio check is taken back
+        desk.put(b"3")                          # 3
+        pattern.parse(desk.letters)             # of b"352"
+
+    It has a pattern and buffers of its own, so that every buffer suffices and the words are always those of the letters held. A desk
+    is changed by its calls: threads that share one take turns.
+    """
+
+    pattern: Pattern
+
+    def __init__(self, pattern: Pattern) -> None:
+        self.pattern = pattern
+        self._desk = _cells("B", 1 + MAX_PAGES)
+        self._letters = _cells("B", MAX_LETTERS)
+        self._words = _cells("Q", 2 * (MAX_LETTERS + 1))
+        self.open()
+
+    def __repr__(self) -> str:
+        return f"<Desk of {self._desk[0]} pages, {self._held} letters>"
+
+    def open(self) -> None:
+        """Opens it again: it holds no page then."""
+        _value(LIBRARY.wumbyra_desk_open(*self._lent(), *self._words.buffer_info()))
+        self._held = 0
+
+    def put(self, page: BytesLike) -> int:
+        """Puts a page before the letters held, and gives how many letters are held then. Refused with 13, 14 or 4."""
+        page = _bytes(page)
+        lent = page, len(page), *self._letters.buffer_info(), *self._words.buffer_info()
+        self._held = _value(LIBRARY.wumbyra_desk_put(*self._lent(), *lent))
+        return self._held
+
+    def withdraw(self) -> int:
+        """Withdraws the last page put, and gives how many letters are held then. Refused with 15."""
+        self._held = _value(LIBRARY.wumbyra_desk_withdraw(*self._lent(), *self._letters.buffer_info()))
+        return self._held
+
+    @property
+    def letters(self) -> bytes:
+        """The letters held, the last page put first: a tape."""
+        return self._letters[MAX_LETTERS - self._held :].tobytes()
+
+    @property
+    def pages(self) -> List[bytes]:
+        """The pages held, the last put first."""
+        pages, end = [], self._held
+        letters = self.letters
+        for length in self._desk[1 : 1 + self._desk[0]]:
+            pages.insert(0, letters[end - length : end])
+            end -= length
+        return pages
+
+    @property
+    def words(self) -> Words:
+        """The words of the letters held, counted from the tape's end: words[2 * j + b] is for the last j letters."""
+        return self._words[: 2 * (self._held + 1)]
+
+    def _lent(self) -> tuple:
+        """The arguments that all calls on a desk begin with."""
+        return self.pattern.text, len(self.pattern.text), *self._desk.buffer_info()

@@ -7,7 +7,7 @@ import os
 import pathlib
 
 # The calls declared here are those of version 1. They are all there from this minor number on.
-MAJOR, MINOR = 1, 3
+MAJOR, MINOR = 1, 6
 INSIDE = pathlib.Path(__file__).resolve().with_name("libwumbyra.so")
 INSTALLED = [f"libwumbyra.so.{MAJOR}", "libwumbyra.so"]
 
@@ -50,6 +50,9 @@ def _declared(library: ctypes.CDLL) -> ctypes.CDLL:
         "wumbyra_total": 2 * buffer + 2 * number,
         "wumbyra_totals": 2 * buffer + number + buffer,
         "wumbyra_term_totals": 2 * buffer + 4 * number + buffer,
+        "wumbyra_desk_open": 3 * buffer,
+        "wumbyra_desk_put": 5 * buffer,
+        "wumbyra_desk_withdraw": 3 * buffer,
     }.items():
         function = getattr(library, name)
         function.argtypes = parameters

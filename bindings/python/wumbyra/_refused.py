@@ -16,6 +16,9 @@ CAUSES = {
     10: "there is no such node, or no such visit of it",
     11: "the start is no date, or a letter is dated past 31 December 2099",
     12: "the term's first or last date is none, or the last is before the first",
+    13: "a page of no letter or over 120, or a desk that breaks its limits",
+    14: "the desk holds 30 pages already",
+    15: "the desk holds no page",
 }
 
 

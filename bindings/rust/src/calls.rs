@@ -76,6 +76,34 @@ mod c {
             litres: *mut u32,
             litres_len: usize,
         ) -> u64;
+        pub fn wumbyra_desk_open(
+            text: *const u8,
+            text_len: usize,
+            desk: *mut u8,
+            desk_len: usize,
+            words: *mut u64,
+            words_len: usize,
+        ) -> u64;
+        pub fn wumbyra_desk_put(
+            text: *const u8,
+            text_len: usize,
+            desk: *mut u8,
+            desk_len: usize,
+            page: *const u8,
+            page_len: usize,
+            letters: *mut u8,
+            letters_len: usize,
+            words: *mut u64,
+            words_len: usize,
+        ) -> u64;
+        pub fn wumbyra_desk_withdraw(
+            text: *const u8,
+            text_len: usize,
+            desk: *mut u8,
+            desk_len: usize,
+            letters: *const u8,
+            letters_len: usize,
+        ) -> u64;
     }
 }
 
@@ -211,6 +239,55 @@ pub fn term_totals(
             last,
             litres.as_mut_ptr(),
             litres.len(),
+        )
+    })
+}
+
+pub fn desk_open(text: &[u8], desk: &mut [u8], words: &mut [u64]) -> Answer {
+    Answer(unsafe {
+        c::wumbyra_desk_open(
+            text.as_ptr(),
+            text.len(),
+            desk.as_mut_ptr(),
+            desk.len(),
+            words.as_mut_ptr(),
+            words.len(),
+        )
+    })
+}
+
+pub fn desk_put(
+    text: &[u8],
+    desk: &mut [u8],
+    page: &[u8],
+    letters: &mut [u8],
+    words: &mut [u64],
+) -> Answer {
+    Answer(unsafe {
+        c::wumbyra_desk_put(
+            text.as_ptr(),
+            text.len(),
+            desk.as_mut_ptr(),
+            desk.len(),
+            page.as_ptr(),
+            page.len(),
+            letters.as_mut_ptr(),
+            letters.len(),
+            words.as_mut_ptr(),
+            words.len(),
+        )
+    })
+}
+
+pub fn desk_withdraw(text: &[u8], desk: &mut [u8], letters: &[u8]) -> Answer {
+    Answer(unsafe {
+        c::wumbyra_desk_withdraw(
+            text.as_ptr(),
+            text.len(),
+            desk.as_mut_ptr(),
+            desk.len(),
+            letters.as_ptr(),
+            letters.len(),
         )
     })
 }

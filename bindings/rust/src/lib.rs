@@ -14,9 +14,11 @@
 #![deny(missing_docs)]
 
 mod calls;
+mod desk;
 mod refusal;
 
 use calls::Answer;
+pub use desk::Desk;
 pub use refusal::Refusal;
 use std::ops::Range;
 
@@ -26,6 +28,12 @@ pub const MAX_LETTERS: usize = 3_600;
 pub const MAX_CODE_BYTES: usize = 65_536;
 /// Accounts, 0 to 200.
 pub const ACCOUNTS: usize = 201;
+/// Pages that a desk holds at most.
+pub const MAX_PAGES: usize = 30;
+/// Letters of a page at most.
+pub const MAX_PAGE_LETTERS: usize = 120;
+/// Bytes of a desk that is lent: how many pages it holds, then the letters of each.
+pub const DESK_BYTES: usize = 1 + MAX_PAGES;
 
 /// The version of the library that is linked: major * 10000 + minor * 100 + patch.
 pub fn version() -> u32 {
@@ -258,6 +266,30 @@ impl Pattern {
         )
         .value()?;
         Ok(())
+    }
+
+    /// Opens a desk that is lent, whatever its `DESK_BYTES` bytes hold, and writes the two words of the tape's end. Refused with 6 or
+    /// 13. [`Desk`] has buffers of its own.
+    pub fn desk_open_into(&self, desk: &mut [u8], words: &mut [u64]) -> Result<(), Refusal> {
+        calls::desk_open(&self.text, desk, words).value()?;
+        Ok(())
+    }
+
+    /// Puts a page before the letters held, against the end of the first `MAX_LETTERS` cells, and writes its words: the letters held
+    /// then. Refused with 9, 13, 14, 4 or 6, and then all is left as it was.
+    pub fn desk_put_into(
+        &self,
+        desk: &mut [u8],
+        page: &[u8],
+        letters: &mut [u8],
+        words: &mut [u64],
+    ) -> Result<u32, Refusal> {
+        calls::desk_put(&self.text, desk, page, letters, words).value()
+    }
+
+    /// Withdraws the last page put: the letters held then. Refused with 9, 13 or 15, and then the desk is left as it was.
+    pub fn desk_withdraw_into(&self, desk: &mut [u8], letters: &[u8]) -> Result<u32, Refusal> {
+        calls::desk_withdraw(&self.text, desk, letters).value()
     }
 }
 

@@ -50,6 +50,12 @@ pub enum Refusal {
     TapeUndated,
     /// 12: the term's first or last date is none, or the last is before the first.
     NotATerm,
+    /// 13: a page of no letter or of over 120, or a desk that breaks the limits or holds a byte that is no letter.
+    DeskLimits,
+    /// 14: the desk holds 30 pages already.
+    DeskFull,
+    /// 15: the desk holds no page to withdraw.
+    DeskEmpty,
     /// A cause that this wrapper does not know: the library is a later one.
     Unknown {
         /// The cause's number.
@@ -76,11 +82,14 @@ impl Refusal {
             10 => Refusal::NoSuchVisit,
             11 => Refusal::TapeUndated,
             12 => Refusal::NotATerm,
+            13 => Refusal::DeskLimits,
+            14 => Refusal::DeskFull,
+            15 => Refusal::DeskEmpty,
             _ => Refusal::Unknown { number, value },
         })
     }
 
-    /// The cause's number, 1 to 12.
+    /// The cause's number, 1 to 15.
     pub fn number(self) -> u32 {
         match self {
             Refusal::LineForm { .. } => 1,
@@ -95,6 +104,9 @@ impl Refusal {
             Refusal::NoSuchVisit => 10,
             Refusal::TapeUndated => 11,
             Refusal::NotATerm => 12,
+            Refusal::DeskLimits => 13,
+            Refusal::DeskFull => 14,
+            Refusal::DeskEmpty => 15,
             Refusal::Unknown { number, .. } => number,
         }
     }
@@ -112,7 +124,10 @@ impl Refusal {
             | Refusal::NotACode
             | Refusal::NoSuchVisit
             | Refusal::TapeUndated
-            | Refusal::NotATerm => 0,
+            | Refusal::NotATerm
+            | Refusal::DeskLimits
+            | Refusal::DeskFull
+            | Refusal::DeskEmpty => 0,
             Refusal::Unknown { value, .. } => value,
         }
     }
@@ -154,6 +169,14 @@ impl fmt::Display for Refusal {
                     "the term's first or last date is none, or the last is before the first"
                 )
             }
+            Refusal::DeskLimits => {
+                write!(
+                    f,
+                    "a page of no letter or over 120, or a desk that breaks its limits"
+                )
+            }
+            Refusal::DeskFull => write!(f, "the desk holds 30 pages already"),
+            Refusal::DeskEmpty => write!(f, "the desk holds no page"),
             Refusal::Unknown { number, value } => {
                 write!(
                     f,

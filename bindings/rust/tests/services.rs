@@ -1,6 +1,9 @@
-//! The worked examples of the scope, each refusal with what is left in the buffers, terms, and the version.
+//! The worked examples of the scope, each refusal with what is left in the buffers, terms, page desks, and the version.
 
-use wumbyra::{code_bytes_for, version, words_for, Code, Date, Pattern, Refusal, ACCOUNTS};
+use wumbyra::{
+    code_bytes_for, version, words_for, Code, Date, Desk, Pattern, Refusal, ACCOUNTS, DESK_BYTES,
+    MAX_LETTERS, MAX_PAGES, MAX_PAGE_LETTERS,
+};
 
 const HEADER: &str = include_str!("../../../include/wumbyra.h");
 
@@ -431,6 +434,114 @@ fn terms_in_any_number_of_cells() {
     }
 }
 
+/// The words of a parse, counted from the tape's end.
+fn turned(words: &[u64]) -> Vec<u64> {
+    words.chunks(2).rev().flatten().copied().collect()
+}
+
+#[test]
+fn pages_newest_first() {
+    let listing = pattern(LISTING);
+    let mut desk = Desk::open(&listing).expect("it is opened");
+    assert_eq!((desk.letters(), desk.pages()), (&b""[..], vec![]));
+    assert_eq!(desk.words(), [0, 0x20]);
+    assert_eq!(desk.withdraw(), Err(Refusal::DeskEmpty));
+    assert_eq!(desk.put(b"2"), Ok(1));
+    assert_eq!(desk.put(b"9W9"), Ok(4));
+    assert_eq!(desk.pages(), [&b"9W9"[..], b"2"]);
+    assert_eq!(desk.withdraw(), Ok(1));
+    assert_eq!(desk.put(b"3W"), Ok(3));
+    assert_eq!(desk.letters(), b"3W2");
+    let parsed = desk.pattern().parse(desk.letters()).expect("it is read");
+    assert_eq!(desk.words(), turned(&parsed.words));
+    assert_eq!(parsed.code.bits, 21);
+    let before = desk.clone();
+    for page in [&b""[..], &[b'3'; MAX_PAGE_LETTERS + 1]] {
+        assert_eq!(desk.put(page), Err(Refusal::DeskLimits));
+    }
+    assert_eq!(desk.put(b"3 "), Err(Refusal::TapeByte { position: 1 }));
+    assert_eq!(desk, before);
+    desk.reopen().expect("it is opened");
+    assert_eq!((desk.letters(), desk.words().len()), (&b""[..], 2));
+}
+
+#[test]
+fn a_full_desk() {
+    let star = pattern(P2);
+    let mut desk = Desk::open(&star).expect("it is opened");
+    for page in 1..=MAX_PAGES {
+        assert_eq!(
+            desk.put(&[b'a'; MAX_PAGE_LETTERS]),
+            Ok(page * MAX_PAGE_LETTERS)
+        );
+    }
+    assert_eq!(desk.letters().len(), MAX_LETTERS);
+    assert_eq!(
+        desk.words(),
+        turned(&star.parse(desk.letters()).expect("it is read").words)
+    );
+    assert_eq!(desk.put(b"a"), Err(Refusal::DeskFull));
+    for page in (0..MAX_PAGES).rev() {
+        assert_eq!(desk.withdraw(), Ok(page * MAX_PAGE_LETTERS));
+    }
+    assert_eq!(desk.withdraw(), Err(Refusal::DeskEmpty));
+    assert_eq!(Refusal::DeskEmpty.to_string(), "the desk holds no page");
+    assert_eq!((Refusal::DeskFull.number(), Refusal::DeskFull.value()), (14, 0));
+}
+
+/// Desks that are lent: each buffer just long enough and one cell short, and desks that are none.
+#[test]
+fn desks_that_are_lent() {
+    let star = pattern(P1);
+    let mut letters = vec![b'x'; MAX_LETTERS + 1];
+    let mut words = vec![7; words_for(3)];
+    for length in [0, DESK_BYTES - 1, DESK_BYTES + 1] {
+        let mut desk = vec![0; length];
+        let none = Err(Refusal::DeskLimits);
+        assert_eq!(star.desk_open_into(&mut desk, &mut words), none);
+        assert_eq!(
+            star.desk_put_into(&mut desk, b" ", &mut letters, &mut []),
+            Err(Refusal::DeskLimits)
+        );
+        assert_eq!(
+            star.desk_withdraw_into(&mut desk, &letters),
+            Err(Refusal::DeskLimits)
+        );
+        assert_eq!(
+            star.desk_open_into(&mut desk, &mut words[..1]),
+            Err(Refusal::WordsTooShort { needed: 2 })
+        );
+    }
+    let mut desk = [255; DESK_BYTES];
+    assert_eq!(
+        star.desk_withdraw_into(&mut desk, &letters),
+        Err(Refusal::DeskLimits)
+    );
+    assert_eq!(star.desk_open_into(&mut desk, &mut words[..2]), Ok(()));
+    assert_eq!((desk, words[2]), ([0; DESK_BYTES], 7));
+    let short = Err(Refusal::TapeTooShort { needed: 3_600 });
+    assert_eq!(
+        star.desk_put_into(&mut desk, b"", &mut letters[..3_599], &mut []),
+        short
+    );
+    assert_eq!(
+        star.desk_put_into(&mut desk, b"aaa", &mut letters, &mut words[..7]),
+        Err(Refusal::WordsTooShort { needed: 8 })
+    );
+    assert_eq!((desk, letters[3_599]), ([0; DESK_BYTES], b'x'));
+    assert_eq!(
+        star.desk_put_into(&mut desk, b"aaa", &mut letters, &mut words),
+        Ok(3)
+    );
+    assert_eq!(letters[3_596..], *b"xaaax");
+    assert_eq!((desk[0], desk[1]), (1, 3));
+    letters[3_598] = b' ';
+    assert_eq!(
+        star.desk_withdraw_into(&mut desk, &letters),
+        Err(Refusal::DeskLimits)
+    );
+}
+
 /// The number of a macro of the header.
 fn defined(name: &str) -> u32 {
     let line = format!("#define WUMBYRA_{name} ");
@@ -446,6 +557,8 @@ fn the_library_has_the_headers_version() {
         ["MAJOR", "MINOR", "PATCH"].map(|part| defined(&format!("VERSION_{part}")));
     assert_eq!(version(), major * 10_000 + minor * 100 + patch);
     assert_eq!(ACCOUNTS as u32, defined("ACCOUNTS"));
+    assert_eq!(MAX_PAGES as u32, defined("MAX_PAGES"));
+    assert_eq!(MAX_PAGE_LETTERS as u32, defined("MAX_PAGE_LETTERS"));
     assert_eq!(
         env!("CARGO_PKG_VERSION"),
         format!("{major}.{minor}.{patch}")
