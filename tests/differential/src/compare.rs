@@ -10,11 +10,11 @@ use wumbyra_reference::services::{reading, settling, spelling, terms, totals, vi
 use wumbyra_reference::table::{Refusal, Table};
 
 /// Cells on each side of a lent buffer that no call may touch.
-const CANARIES: usize = 8;
+pub const CANARIES: usize = 8;
 /// Bytes of a code that is walked for every node.
 const SHORT: usize = 64;
 
-pub const CALLS: [&str; 8] = [
+pub const CALLS: [&str; 11] = [
     "load",
     "parse",
     "flatten",
@@ -23,17 +23,20 @@ pub const CALLS: [&str; 8] = [
     "total",
     "totals",
     "term_totals",
+    "desk_open",
+    "desk_put",
+    "desk_withdraw",
 ];
 
 /// Cells lent for totals, beside the case's own: none, as many as a caller of 1.4.0 lends, one short, all and one more.
 const CELLS: [usize; 5] = [0, 10, ACCOUNTS - 1, ACCOUNTS, ACCOUNTS + 1];
 
 /// The greatest number of a cause.
-pub const LAST_CAUSE: usize = 12;
+pub const LAST_CAUSE: usize = 15;
 
 /// How often each call answered each number.
 #[derive(Clone, Default)]
-pub struct Counts(pub [[u64; LAST_CAUSE + 1]; 8]);
+pub struct Counts(pub [[u64; LAST_CAUSE + 1]; 11]);
 
 impl Counts {
     pub fn calls(&self) -> u64 {

@@ -1,10 +1,11 @@
-//! Every date and every account, then random calls of the C interface, each compared with the reference.
+//! Every date and every account, then random runs of page desks and random calls of the C interface, each compared with the reference.
 //! Arguments: the number of cases, the seed, of how many cases one has a full tape, and the folder for a failing case.
 
 mod calls;
 mod case;
 mod compare;
 mod dates;
+mod desks;
 mod every_account;
 mod every_date;
 mod full;
@@ -68,6 +69,18 @@ fn main() {
         }
     }
     let mut counts = Counts::default();
+    match desks::runs(
+        cases.div_ceil(desks::CASES_A_RUN),
+        seed,
+        &mut counts,
+        Path::new(folder),
+    ) {
+        Ok(runs) => println!("{runs} runs of desks, {} calls: all equal", counts.calls()),
+        Err(words) => {
+            println!("{words}");
+            std::process::exit(1);
+        }
+    }
     let mut seeds = Prng::new(seed);
     for index in 0..cases {
         // Each case has a seed of its own: with it, and 1 for the number of cases, it is made again alone.
