@@ -44,6 +44,26 @@ static uint64_t term_of(uint32_t first, uint32_t last) {
 }
 static void p_term(void) { sink = term_of(START, END); }
 static void p_month(void) { sink = term_of(FIRST, LAST); }
+// The page desk: the tape of no parse in 30 pages, its last letters first. Without words a put is refused with 6 after all its tests, and
+// the desk is as it was; the count is set by hand, so that each page is put on the desk that is its own.
+enum { PAGE = WUMBYRA_MAX_PAGE_LETTERS, PAGES = LETTERS / PAGE };
+static uint8_t desks[2][WUMBYRA_DESK_BYTES], held[2][LETTERS];
+static uint64_t tails[2][CELLS];
+static const uint8_t *page_of(int k) { return unread + LETTERS - PAGE * (k + 1); }
+static uint64_t put_of(int k, size_t room) {
+  return wumbyra_desk_put(text, size, desks[0], WUMBYRA_DESK_BYTES, page_of(k), PAGE, held[0], LETTERS, tails[0], room);
+}
+static void p_pages(void) {
+  desks[0][0] = 0;
+  for (int k = 0; k < PAGES; k++) sink = put_of(k, CELLS);
+}
+static void p_page_tests(void) {
+  for (int k = 0; k < PAGES; k++) {
+    desks[0][0] = k;
+    sink = put_of(k, 0);
+  }
+  desks[0][0] = PAGES;
+}
 // A visit that there is not: all of the code is searched, and the answer is 10.
 static void p_span(void) { sink = wumbyra_span(text, size, tape, n, codes[0], bytes, bits, 0, UINT32_MAX); }
 static void p_settle(void) {
@@ -78,6 +98,15 @@ static void m_3(void) { sink = matchers[3].match(matchers[3].made, tape, n); }
 static void m_4(void) { sink = matchers[4].match(matchers[4].made, tape, n); }
 static void m_5(void) { sink = matchers[5].match(matchers[5].made, tape, n); }
 static void (*const match_calls[MATCHERS])(void) = {m_0, m_1, m_2, m_3, m_4, m_5};
+
+static void c_pages(void) {
+  desks[1][0] = 0;
+  for (int k = 0; k < PAGES; k++)
+    sink = desk_put(&table, desks[1], WUMBYRA_DESK_BYTES, page_of(k), PAGE, held[1], LETTERS, tails[1], CELLS);
+}
+static void c_grow(void) {
+  for (int k = 0; k < PAGES; k++) grow_words(&masks, page_of(k), PAGE, PAGE * k, tails[1]);
+}
 
 static double now(void) {
   struct timespec t;
@@ -158,6 +187,28 @@ static void compare_terms(void) {
                              wumbyra_term_totals(text, size, codes[0], bytes, bits, 0, 0, 0, litres[0], ACCOUNTS) == 11ull << 32);
 }
 
+// Both desks hold the tape, with the words of a parse, counted from its end; a page more is refused, and each can be withdrawn.
+static void compare_desks(void) {
+  const size_t all = WUMBYRA_DESK_BYTES;
+  same("opening a desk", wumbyra_desk_open(text, size, desks[0], all, tails[0], 2) == 0 && desk_open(&table, desks[1], all, tails[1], 2) == 0);
+  p_pages();
+  same("the letters held", sink == LETTERS);
+  c_pages();
+  same("C's letters held", sink == LETTERS);
+  same("a desk's letters", !memcmp(held[0], unread, LETTERS) && !memcmp(held[1], unread, LETTERS));
+  same("a desk's words", !memcmp(tails[0], tails[1], sizeof tails[0]) && !memcmp(desks[0], desks[1], all));
+  fill_words(&masks, unread, LETTERS, words[1]);
+  for (size_t j = 0; j <= LETTERS; j++) same("words from the end", !memcmp(tails[0] + 2 * j, words[1] + 2 * (LETTERS - j), 16));
+  same("cause 14", put_of(0, CELLS) == 14ull << 32);
+  p_page_tests();
+  same("cause 6 of a put", sink == (6ull << 32) + CELLS);
+  for (int k = PAGES; k > 0; k--)
+    same("a withdrawal", wumbyra_desk_withdraw(text, size, desks[0], all, held[0], LETTERS) == (uint64_t)PAGE * (k - 1) &&
+                           desk_withdraw(&table, desks[1], all, held[1], LETTERS) == (uint64_t)PAGE * (k - 1));
+  same("cause 15", wumbyra_desk_withdraw(text, size, desks[0], all, held[0], LETTERS) == 15ull << 32);
+  p_pages();
+}
+
 static void compare(void) {
   same("the line count", wumbyra_load(text, size) == (uint64_t)table.count);
   c_masks();
@@ -204,8 +255,8 @@ static void row(const char *pattern, const char *work, Time p, Time c, double bo
   wanting += bound > 0 && ratio > bound;
 }
 
-// Bounds for every pattern, as ratios to C, and that of a term, as ratio to totals.
-static const double walk_bound = 3, flatten_bound = 2.2, term_bound = 1.5;
+// Bounds for every pattern, as ratios to C, that of a term, as ratio to totals, and that of pages on a desk, as ratio to one first sweep.
+static const double walk_bound = 3, flatten_bound = 2.2, term_bound = 1.5, desk_bound = 2;
 
 static void against_c(const char *name, double fill_bound, double parse_bound) {
   enum { LOAD, PARSE, PARSE_C, UNREAD, FILL_C, TESTS, ONE, MASKS_C, ONE_TESTS, MASKS_FILL_C, WALK, WALK_C, SPELL, FLATTEN_C, SPELL_C,
@@ -235,6 +286,23 @@ static void against_totals(const char *name, double bound) {
   Time load = j[0].time, totals_p = minus(j[1].time, load);
   row(name, "all days", minus(j[2].time, load), totals_p, bound);
   row(name, "a month", minus(j[3].time, load), totals_p, bound);
+}
+
+static Time times(int k, Time a) { return (Time){k * a.shortest, k * a.median}; }
+
+// 30 pages of 120 letters against one first sweep over the same 3,600: what it costs that a tape arrives in pages. Each put makes the masks
+// and looks at the letters held, so that only the words of the letters are bounded. The last row is against C with the same tests.
+static void against_fill(const char *name, double bound) {
+  enum { LOAD, PAGES_P, PAGE_TESTS, UNREAD, TESTS, ONE, ONE_TESTS, GROW_C, FILL_C, PAGES_C, COUNT };
+  Job j[COUNT] = {{p_load}, {p_pages}, {p_page_tests}, {p_unread}, {p_tests}, {p_one}, {p_one_tests}, {c_grow}, {c_fill}, {c_pages}};
+  time_jobs(j, COUNT, 3e6);
+  Time masks_p = minus(j[ONE].time, j[ONE_TESTS].time), sweep = minus(j[UNREAD].time, j[TESTS].time);
+  Time words_p = minus(j[PAGES_P].time, j[PAGE_TESTS].time), puts_p = minus(j[PAGES_P].time, times(PAGES, j[LOAD].time));
+  row(name, "words of the letters alone", minus(words_p, times(PAGES, masks_p)), minus(sweep, masks_p), bound);
+  row(name, "words, with the masks of each call", words_p, sweep, 0);
+  row(name, "puts with masks and all tests", puts_p, minus(j[UNREAD].time, j[LOAD].time), 0);
+  row(name, "words of the letters alone, both by C", j[GROW_C].time, j[FILL_C].time, 0);
+  row(name, "puts, against C's puts with the same tests", puts_p, j[PAGES_C].time, 0);
 }
 
 static void matcher_row(const char *pattern, const char *matcher, Time parse, Time m, int bound) {
@@ -355,9 +423,9 @@ static void no_call(void) {}
 static void stacks(const char *name) {
   size_t none = stack_of(no_call), parse = stack_of(p_parse) - none;
   wanting += parse > STACK_BOUND;
-  printf("| %s | %d | %zu | %zu, %s | %zu | %zu | %zu | %zu | %zu | %zu | %zu |\n", name, depth(&table), stack_of(p_load) - none, parse,
+  printf("| %s | %d | %zu | %zu, %s | %zu | %zu | %zu | %zu | %zu | %zu | %zu | %zu |\n", name, depth(&table), stack_of(p_load) - none, parse,
          parse > STACK_BOUND ? "NOT MET" : "met", stack_of(p_walk) - none, stack_of(p_spell) - none, stack_of(p_totals) - none,
-         stack_of(p_term) - none, stack_of(p_settle) - none, stack_of(p_span) - none, stack_of(c_parse) - none);
+         stack_of(p_term) - none, stack_of(p_settle) - none, stack_of(p_span) - none, stack_of(p_pages) - none, stack_of(c_parse) - none);
 }
 
 static void meter(void) { meter_pattern(&table, 64); }
@@ -439,9 +507,9 @@ static int version(void) {
 
 static void print_stacks(void) {
   puts("\n### Stack: bytes that a call changes, with the load before it\n");
-  printf("| Pattern | Depth | Load | Parse, at most %d | Walk | Flatten | Totals | Term | Settle | Span | C's parse |\n", STACK_BOUND);
-  puts("|---|---|---|---|---|---|---|---|---|---|---|");
-  for (int k = 0; k < PATTERNS; k++) pattern(k), stacks(patterns[k].name);
+  printf("| Pattern | Depth | Load | Parse, at most %d | Walk | Flatten | Totals | Term | Settle | Span | Puts | C's parse |\n", STACK_BOUND);
+  puts("|---|---|---|---|---|---|---|---|---|---|---|---|");
+  for (int k = 0; k < PATTERNS; k++) pattern(k), compare_desks(), stacks(patterns[k].name);
 }
 
 int main(int argc, char **argv) {
@@ -471,7 +539,12 @@ int main(int argc, char **argv) {
   for (int k = 0; k < TIMED; k++) pattern(k), against_totals(patterns[k].name, term_bound);
   days_alone();
   against_totals("each letter a `D`, 2 nodes", 0);
+  puts("\n### A page desk: 3,600 letters in 30 pages of 120\n");
+  puts("| Pattern | Work | 30 pages, µs | One first sweep, µs | Ratio | Bound |");
+  puts("|---|---|---|---|---|---|");
+  for (int k = 0; k < TIMED; k++) pattern(k), compare_desks(), against_fill(patterns[k].name, desk_bound);
   hot_letters();
+  compare_desks();
   printf("\nBounds not met: %d.\n", wanting);
   return 0;
 }
