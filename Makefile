@@ -5,7 +5,7 @@
 #
 #       PREFIX/include/wumbyra.h
 #       PREFIX/lib/libwumbyra.a
-#       PREFIX/lib/libwumbyra.so            -> libwumbyra.so.1 -> libwumbyra.so.1.5.0; version and soname are those of the header
+#       PREFIX/lib/libwumbyra.so            -> libwumbyra.so.1 -> libwumbyra.so.1.6.0; version and soname are those of the header
 #       PREFIX/lib/pkgconfig/wumbyra.pc
 #       PREFIX/bin/tapelist                 the command
 #       PREFIX/libexec/wumbyra/tapelist     the proved program that it runs

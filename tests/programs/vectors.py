@@ -30,14 +30,30 @@ def answers_of(cases, output):
 
 
 def lines_behind(case, first):
-    """How many lines an answer has behind its first: a loaded table's nodes, and what a code's three services say."""
+    """How many lines an answer has behind its first: a loaded table's nodes, what a code's three services say, a desk's calls."""
     kind = case[:1]
     if kind == b"a":
         kind = case.split(b" ")[SERVICE]
+    if kind == b"d":
+        return calls_of(case) - 1
     if kind == b"l":
         number, value = first.split(b"\t")[:2]
         return int(value) if number == b"0" else 0
     return 2 if kind == b"c" else 0
+
+
+# The fields behind each letter in a run of a desk; the last two are no calls and answer nothing.
+RUN_FIELDS = {b"o": 1, b"p": 3, b"w": 1, b"h": 4, b"t": 1}
+
+
+def calls_of(case):
+    """How many calls a run of a desk has."""
+    fields = case.rstrip(b"\n").split(b" ")[2:]
+    calls = 0
+    while fields:
+        calls += fields[0] in (b"o", b"p", b"w")
+        fields = fields[1 + RUN_FIELDS[fields[0]] :]
+    return calls
 
 
 def faults(program, stored):
