@@ -27,6 +27,7 @@ static void stop(const struct caller *caller)
     show("text", caller->text.at, caller->text.size);
     show("tape", caller->tape.at, caller->tape.size);
     show("code", caller->code.at, caller->code.size);
+    show("page", caller->page.at, caller->page.size);
     fprintf(stderr, "count %" PRIu32 "; start %" PRIu32 ", first %" PRIu32 ", last %" PRIu32 "\n", caller->count, caller->start,
             caller->first, caller->last);
     _Exit(1);
@@ -95,12 +96,16 @@ void open_caller(struct caller *caller)
     caller->letters.pages = open_pages(LETTER_ROOM, true);
     caller->written.pages = open_pages(WUMBYRA_MAX_CODE_BYTES, true);
     caller->litres.pages = open_pages((WUMBYRA_ACCOUNTS + 8) * sizeof(uint32_t), true);
+    caller->page.pages = open_pages(LETTER_ROOM, false);
+    caller->held.pages = open_pages(CELL_ROOM, false);
+    caller->desk.pages = open_pages(DESK_ROOM, true);
 }
 
 void close_caller(struct caller *caller)
 {
     struct pages *all[] = {&caller->text.pages,    &caller->tape.pages,    &caller->code.pages,  &caller->words.pages,
-                           &caller->letters.pages, &caller->written.pages, &caller->litres.pages};
+                           &caller->letters.pages, &caller->written.pages, &caller->litres.pages, &caller->page.pages,
+                           &caller->held.pages,    &caller->desk.pages};
     for (size_t i = 0; i < sizeof all / sizeof *all; i++)
         close_pages(all[i]);
 }
@@ -159,7 +164,7 @@ static void unchanged(struct caller *caller, const struct output *output, uint8_
 /* The parts of an answer, which must be one of these numbers; a number of no value is beside 0. */
 static struct answer taken(struct caller *caller, uint64_t packed, const char *numbers, const char *what)
 {
-    static const char names[] = "0123456789xyz";
+    static const char names[] = "0123456789xyzabc";
     struct answer answer = {wumbyra_number(packed), wumbyra_value(packed)};
     caller->calls++;
     expect(caller, answer.number <= CAUSES && strchr(numbers, names[answer.number]) != NULL, what);
@@ -273,5 +278,70 @@ struct answer call_term_totals(struct caller *c, size_t cells)
                                           litres, cells);
     struct answer answer = taken(c, packed, "0283yz", "term totals answers");
     expect_litres(c, answer, litres, cells);
+    return answer;
+}
+
+/* ---- page desks */
+
+/* Lends a copy of these bytes. */
+static void *lend_copy(struct caller *caller, struct output *output, const void *bytes, size_t size)
+{
+    lend(caller, output, size);
+    memcpy(output->at, bytes, size);
+    return output->at;
+}
+
+/* Takes back what was lent: but for `count` bytes from `from` on it must be as it was, and so must the cells beside it. */
+static void take_back(struct caller *c, const struct output *output, uint8_t filling, void *bytes, size_t from, size_t count, const char *what)
+{
+    const size_t end = from + count;
+    expect(c, filled(beside(output), beside_size(output), filling), what);
+    expect(c, end <= output->size || count == 0, what);
+    if (count == 0)
+        expect(c, memcmp(output->at, bytes, output->size) == 0, what);
+    else
+        expect(c, memcmp(output->at, bytes, from) == 0 && memcmp(output->at + end, (uint8_t *)bytes + end, output->size - end) == 0, what);
+    memcpy(bytes, output->at, output->size);
+}
+
+struct answer call_desk_open(struct caller *c, struct kept *kept, struct desk_room room)
+{
+    uint8_t *desk = lend_copy(c, &c->desk, kept->desk, room.desk);
+    const uint8_t filling = c->filling;
+    uint64_t *words = lend_copy(c, &c->words, kept->words, room.words * sizeof *words);
+    uint64_t packed = wumbyra_desk_open(c->text.at, c->text.size, desk, room.desk, words, room.words);
+    struct answer answer = taken(c, packed, "026a", "desk open answers");
+    const bool done = answer.number == WUMBYRA_OK;
+    take_back(c, &c->desk, filling, kept->desk, 0, done ? WUMBYRA_DESK_BYTES : 0, "opening leaves the desk");
+    take_back(c, &c->words, c->filling, kept->words, 0, done ? 2 * sizeof *words : 0, "opening leaves words");
+    return answer;
+}
+
+struct answer call_desk_put(struct caller *c, struct kept *kept, struct desk_room room, size_t held)
+{
+    uint8_t *desk = lend_copy(c, &c->desk, kept->desk, room.desk);
+    const uint8_t filling = c->filling;
+    uint8_t *letters = lend_copy(c, &c->letters, kept->letters, room.cells);
+    const uint8_t other = c->filling;
+    uint64_t *words = lend_copy(c, &c->words, kept->words, room.words * sizeof *words);
+    uint64_t packed = wumbyra_desk_put(c->text.at, c->text.size, desk, room.desk, c->page.at, c->page.size, letters, room.cells, words,
+                                       room.words);
+    struct answer answer = taken(c, packed, "029ab46", "desk put answers");
+    const size_t put = answer.number == WUMBYRA_OK ? c->page.size : 0, size = sizeof *words;
+    take_back(c, &c->desk, filling, kept->desk, 0, put > 0 ? WUMBYRA_DESK_BYTES : 0, "a put leaves the desk");
+    take_back(c, &c->letters, other, kept->letters, put > 0 ? WUMBYRA_MAX_LETTERS - held - put : 0, put, "a put leaves letters");
+    take_back(c, &c->words, c->filling, kept->words, 2 * (held + 1) * size, 2 * put * size, "a put leaves words");
+    return answer;
+}
+
+struct answer call_desk_withdraw(struct caller *c, struct kept *kept, struct desk_room room)
+{
+    uint8_t *desk = lend_copy(c, &c->desk, kept->desk, room.desk);
+    uint64_t packed;
+    struct answer answer;
+    hand(c, &c->held, kept->letters, room.cells);
+    packed = wumbyra_desk_withdraw(c->text.at, c->text.size, desk, room.desk, c->held.at, c->held.size);
+    answer = taken(c, packed, "029ac", "desk withdraw answers");
+    take_back(c, &c->desk, c->filling, kept->desk, 0, answer.number == WUMBYRA_OK ? 1 : 0, "a withdrawal leaves the desk");
     return answer;
 }

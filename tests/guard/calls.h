@@ -6,7 +6,7 @@
 
 #include "cases.h"
 
-enum { CAUSES = WUMBYRA_NOT_A_TERM };
+enum { CAUSES = WUMBYRA_DESK_EMPTY };
 
 /* Pages between two unreadable ones. `fill` shows the same pages as `lent` does, where these cannot be written. */
 struct pages {
@@ -31,10 +31,10 @@ struct caller {
     uint64_t seed, number; /* of the case */
     uint64_t calls, answers[CAUSES + 1]; /* of all cases; answers by their number */
     uint8_t filling;
-    struct input text, tape, code;
+    struct input text, tape, code, page, held;
     uint32_t count; /* of the code's bits */
     uint32_t start, first, last; /* dates of the tape and of a term */
-    struct output words, letters, written, litres;
+    struct output words, letters, written, litres, desk;
 };
 
 struct answer {
@@ -62,6 +62,24 @@ struct room {
 
 /* `letters` is what the code spells, which refusals 6 and 7 have written to the tape's cells. */
 struct answer call_canonicalize(struct caller *caller, struct room room, size_t letters);
+
+/* What a caller keeps of a page desk between the calls. More is there than is ever needed. */
+enum { DESK_ROOM = WUMBYRA_DESK_BYTES + 2, CELL_ROOM = WUMBYRA_MAX_LETTERS + 8, WORD_ROOM = WUMBYRA_MAX_WORDS + 8 };
+
+struct kept {
+    uint8_t desk[DESK_ROOM], letters[CELL_ROOM];
+    uint64_t words[WORD_ROOM];
+};
+
+/* The calls on a desk, with copies of what is kept, so many bytes, cells and words of it, between unreadable pages; what they write is kept.
+ * A refusal must leave all of it as it was, a put may write its own cells and words only, a withdrawal the count only. `held` is how many
+ * letters the desk holds before the call. */
+struct desk_room {
+    size_t desk, cells, words;
+};
+struct answer call_desk_open(struct caller *caller, struct kept *kept, struct desk_room room);
+struct answer call_desk_put(struct caller *caller, struct kept *kept, struct desk_room room, size_t held);
+struct answer call_desk_withdraw(struct caller *caller, struct kept *kept, struct desk_room room);
 
 /* Ends the test, with the case, where something does not hold. */
 void expect(const struct caller *caller, bool holds, const char *what);

@@ -22,6 +22,11 @@ uint64_t __real_wumbyra_totals(const uint8_t *text, size_t text_len, const uint8
                                uint32_t *litres, size_t litres_len);
 uint64_t __real_wumbyra_term_totals(const uint8_t *text, size_t text_len, const uint8_t *code, size_t code_len, uint32_t count,
                                     uint32_t start, uint32_t first, uint32_t last, uint32_t *litres, size_t litres_len);
+uint64_t __real_wumbyra_desk_open(const uint8_t *text, size_t text_len, uint8_t *desk, size_t desk_len, uint64_t *words, size_t words_len);
+uint64_t __real_wumbyra_desk_put(const uint8_t *text, size_t text_len, uint8_t *desk, size_t desk_len, const uint8_t *page, size_t page_len,
+                                 uint8_t *letters, size_t letters_len, uint64_t *words, size_t words_len);
+uint64_t __real_wumbyra_desk_withdraw(const uint8_t *text, size_t text_len, uint8_t *desk, size_t desk_len, const uint8_t *letters,
+                                      size_t letters_len);
 uint64_t __wrap_wumbyra_load(const uint8_t *text, size_t text_len);
 uint64_t __wrap_wumbyra_parse(const uint8_t *text, size_t text_len, const uint8_t *tape, size_t tape_len, uint64_t *words,
                               size_t words_len, uint8_t *code, size_t code_len);
@@ -38,6 +43,11 @@ uint64_t __wrap_wumbyra_totals(const uint8_t *text, size_t text_len, const uint8
                                uint32_t *litres, size_t litres_len);
 uint64_t __wrap_wumbyra_term_totals(const uint8_t *text, size_t text_len, const uint8_t *code, size_t code_len, uint32_t count,
                                     uint32_t start, uint32_t first, uint32_t last, uint32_t *litres, size_t litres_len);
+uint64_t __wrap_wumbyra_desk_open(const uint8_t *text, size_t text_len, uint8_t *desk, size_t desk_len, uint64_t *words, size_t words_len);
+uint64_t __wrap_wumbyra_desk_put(const uint8_t *text, size_t text_len, uint8_t *desk, size_t desk_len, const uint8_t *page, size_t page_len,
+                                 uint8_t *letters, size_t letters_len, uint64_t *words, size_t words_len);
+uint64_t __wrap_wumbyra_desk_withdraw(const uint8_t *text, size_t text_len, uint8_t *desk, size_t desk_len, const uint8_t *letters,
+                                      size_t letters_len);
 
 static int fault(void)
 {
@@ -474,6 +484,78 @@ uint64_t __wrap_wumbyra_term_totals(const uint8_t *text, size_t text_len, const 
     case 35: return number == 11 && day_of(start) < DAYS ? 0 : answer; /* letters behind 2099 let through */
     case 36: /* the last `D` of 2099 refused */
         return number == 0 && day_behind(text, text_len, code, code_len, count, start) >= DAYS ? (uint64_t)11 << 32 : answer;
+    default: return answer;
+    }
+}
+
+/* ---- page desks */
+
+uint64_t __wrap_wumbyra_desk_open(const uint8_t *text, size_t text_len, uint8_t *desk, size_t desk_len, uint64_t *words, size_t words_len)
+{
+    uint64_t answer = __real_wumbyra_desk_open(text, text_len, desk, desk_len, words, words_len);
+    if (wumbyra_number(answer) != 0)
+        return answer;
+    if (fault() == 57) /* the end accepts with flag 0 */
+        words[0] = words[1];
+    if (fault() == 58 && words_len > 2)
+        words[2] ^= 1;
+    if (fault() == 59) /* the old pages */
+        desk[0] = 1;
+    return answer;
+}
+
+uint64_t __wrap_wumbyra_desk_put(const uint8_t *text, size_t text_len, uint8_t *desk, size_t desk_len, const uint8_t *page, size_t page_len,
+                                 uint8_t *letters, size_t letters_len, uint64_t *words, size_t words_len)
+{
+    const bool is_full = desk_len > 0 && desk[0] == WUMBYRA_MAX_PAGES;
+    uint64_t answer;
+    uint32_t number, value;
+    if (fault() == 60)
+        seen = page[page_len];
+    if (fault() == 61)
+        seen = letters[letters_len];
+    answer = __real_wumbyra_desk_put(text, text_len, desk, desk_len, page, page_len, letters, letters_len, words, words_len);
+    number = wumbyra_number(answer);
+    value = wumbyra_value(answer);
+    if (fault() == 62 && number != 0 && desk_len > 0) /* a refused put counts */
+        desk[0]++;
+    if (fault() == 63 && number == 0) { /* the flags exchanged */
+        words[2 * value] ^= words[2 * value + 1];
+        words[2 * value + 1] ^= words[2 * value];
+        words[2 * value] ^= words[2 * value + 1];
+    }
+    if (fault() == 64 && number == 0 && value < WUMBYRA_MAX_LETTERS)
+        letters[WUMBYRA_MAX_LETTERS - 1 - value] ^= 1;
+    if (fault() == 65 && number == 0) /* the page turned round */
+        for (size_t i = 0, j = page_len - 1; i < page_len; i++, j--)
+            letters[WUMBYRA_MAX_LETTERS - value + i] = page[j];
+    if (fault() == 66 && letters_len > WUMBYRA_MAX_LETTERS)
+        letters[WUMBYRA_MAX_LETTERS] ^= 1;
+    switch (fault()) {
+    case 67: return number == 13 && is_full ? (uint64_t)14 << 32 : answer; /* 14 before 13 */
+    case 68: return number == 4 ? answer + 1 : answer; /* the position from 1 on */
+    case 69: return number == 6 ? answer - 2 * page_len : answer; /* the words before the put */
+    case 70: return number == 0 ? page_len : answer; /* the letters of the page alone */
+    default: return answer;
+    }
+}
+
+uint64_t __wrap_wumbyra_desk_withdraw(const uint8_t *text, size_t text_len, uint8_t *desk, size_t desk_len, const uint8_t *letters,
+                                      size_t letters_len)
+{
+    uint64_t answer;
+    uint32_t number;
+    if (fault() == 71)
+        seen = letters[letters_len];
+    answer = __real_wumbyra_desk_withdraw(text, text_len, desk, desk_len, letters, letters_len);
+    number = wumbyra_number(answer);
+    if (fault() == 72 && number == 0) /* its length cleared */
+        desk[1 + desk[0]] = 0;
+    if (fault() == 73 && number == 0 && desk[0] > 0) /* the first page put */
+        memmove(desk + 1, desk + 2, desk[0]);
+    switch (fault()) {
+    case 74: return number == 15 ? 0 : answer; /* nothing to withdraw is no refusal */
+    case 75: return number == 13 && desk_len == WUMBYRA_DESK_BYTES && desk[0] <= WUMBYRA_MAX_PAGES ? 0 : answer; /* not looked at */
     default: return answer;
     }
 }

@@ -24,7 +24,16 @@ struct scene {
     uint32_t bits; /* of the parse of the tape */
     uint8_t parsed[WUMBYRA_MAX_WRITTEN_CODE_BYTES];
     uint64_t words[WUMBYRA_MAX_WORDS];
+    struct kept kept; /* of the page desk */
+    uint32_t pages, page[WUMBYRA_MAX_PAGES]; /* what a stack of pages would hold: letters of each */
+    uint8_t joined[LETTER_ROOM]; /* and all letters, against the end of the first WUMBYRA_MAX_LETTERS */
 };
+
+/* Whether a parse got as far as its words. */
+static bool is_read(uint32_t number)
+{
+    return number == WUMBYRA_OK || number == WUMBYRA_UNREADABLE || number == WUMBYRA_CODE_TOO_SHORT;
+}
 
 static size_t smaller(struct source *source, size_t than)
 {
@@ -477,13 +486,203 @@ static void try_case(struct scene *s, uint64_t seed, uint64_t number)
     try_totals(s);
     try_terms(s);
     try_damaged_tape(s);
-    if (s->refusal != WUMBYRA_OK) {
+    if (s->refusal != WUMBYRA_OK)
         try_refused_code(s);
-        return;
+    else {
+        try_parse(s);
+        try_spans(s);
+        try_settling(s);
     }
-    try_parse(s);
-    try_spans(s);
-    try_settling(s);
+    try_desk(s);
+}
+
+/* ---- page desks */
+
+static uint32_t letters_held(const struct scene *s)
+{
+    uint32_t sum = 0;
+    for (uint32_t i = 0; i < s->pages; i++)
+        sum += s->page[i];
+    return sum;
+}
+
+/* Mostly as much as is needed, or nearly so. */
+static size_t about(struct source *source, size_t needed)
+{
+    switch (draw(source, 8)) {
+    case 0: return needed > 0 ? needed - 1 : 0;
+    case 1: return draw(source, (uint32_t)needed + 1);
+    case 2: return needed + draw(source, 8);
+    default: return needed;
+    }
+}
+
+/* More words than all letters take are needed only where another cause comes first. */
+static struct desk_room draw_room(struct scene *s, size_t words)
+{
+    struct source *source = &s->caller.source;
+    struct desk_room room;
+    room.desk = chance(source, 16) ? draw(source, DESK_ROOM + 1) : WUMBYRA_DESK_BYTES;
+    room.cells = about(source, WUMBYRA_MAX_LETTERS);
+    room.words = about(source, words < WUMBYRA_MAX_WORDS ? words : WUMBYRA_MAX_WORDS);
+    return room;
+}
+
+/* What the desk must be by the stack: its count, its lengths below the count, its letters. */
+static void expect_stack(const struct scene *s)
+{
+    const uint32_t held = letters_held(s), start = WUMBYRA_MAX_LETTERS - held;
+    expect(&s->caller, s->kept.desk[0] == s->pages, "desk: the pages of the stack");
+    for (uint32_t i = 0; i < s->pages; i++)
+        expect(&s->caller, s->kept.desk[1 + i] == s->page[i], "desk: the letters of its pages");
+    expect(&s->caller, memcmp(s->kept.letters + start, s->joined + start, held) == 0, "desk: the pages joined");
+}
+
+static void try_open(struct scene *s)
+{
+    struct caller *c = &s->caller;
+    const struct desk_room room = draw_room(s, 2);
+    struct answer answer = call_desk_open(c, &s->kept, room);
+    if (!s->loads)
+        expect_answer(c, answer, WUMBYRA_TREE, 0, "desk open: no text");
+    else if (room.words < 2)
+        expect_answer(c, answer, WUMBYRA_WORDS_TOO_SHORT, 2, "desk open: fewer words");
+    else if (room.desk != WUMBYRA_DESK_BYTES)
+        expect_answer(c, answer, WUMBYRA_DESK_LIMITS, 0, "desk open: no desk");
+    else {
+        expect_answer(c, answer, WUMBYRA_OK, 0, "desk open: no letters");
+        s->pages = 0;
+    }
+}
+
+/* A page of letters, of the pattern's where it has any; one in eight has a byte that is none. */
+static uint32_t draw_page(struct scene *s, uint8_t *page, uint32_t *bad)
+{
+    struct source *source = &s->caller.source;
+    const uint32_t some = 1 + draw(source, chance(source, 3) ? WUMBYRA_MAX_PAGE_LETTERS : 8);
+    const uint32_t wrong = chance(source, 2) ? 0 : WUMBYRA_MAX_PAGE_LETTERS + draw(source, 3);
+    const uint32_t size = chance(source, 10) ? wrong : some;
+    for (uint32_t i = 0; i < size; i++) {
+        const struct node *node = &s->pattern.node[draw(source, s->pattern.count)];
+        page[i] = node->kind == 'L' || node->kind == 'R' ? node->low : (uint8_t)('0' + draw(source, 10));
+    }
+    *bad = size;
+    if (size > 0 && chance(source, 8)) {
+        *bad = draw(source, size);
+        page[*bad] = draw_no_letter(source);
+    }
+    return size;
+}
+
+static void try_put(struct scene *s)
+{
+    struct caller *c = &s->caller;
+    uint8_t page[LETTER_ROOM];
+    uint32_t bad;
+    const uint32_t size = draw_page(s, page, &bad), held = letters_held(s), after = held + size;
+    const struct desk_room room = draw_room(s, WUMBYRA_WORDS(after));
+    struct answer answer;
+    hand(c, &c->page, page, size);
+    answer = call_desk_put(c, &s->kept, room, held);
+    if (!s->loads)
+        expect_answer(c, answer, WUMBYRA_TREE, 0, "desk put: no text");
+    else if (room.cells < WUMBYRA_MAX_LETTERS)
+        expect_answer(c, answer, WUMBYRA_TAPE_TOO_SHORT, WUMBYRA_MAX_LETTERS, "desk put: fewer cells");
+    else if (size < 1 || size > WUMBYRA_MAX_PAGE_LETTERS || room.desk != WUMBYRA_DESK_BYTES)
+        expect_answer(c, answer, WUMBYRA_DESK_LIMITS, 0, "desk put: no page or no desk");
+    else if (s->pages == WUMBYRA_MAX_PAGES)
+        expect_answer(c, answer, WUMBYRA_DESK_FULL, 0, "desk put: a 31st page");
+    else if (bad < size)
+        expect_answer(c, answer, WUMBYRA_TAPE_BYTE, bad, "desk put: a byte that is no letter");
+    else if (room.words < WUMBYRA_WORDS(after))
+        expect_answer(c, answer, WUMBYRA_WORDS_TOO_SHORT, (uint32_t)WUMBYRA_WORDS(after), "desk put: fewer words");
+    else {
+        expect_answer(c, answer, WUMBYRA_OK, after, "desk put: the letters held");
+        s->page[s->pages++] = size;
+        memcpy(s->joined + WUMBYRA_MAX_LETTERS - after, page, size);
+    }
+}
+
+static void try_withdraw(struct scene *s)
+{
+    struct caller *c = &s->caller;
+    const struct desk_room room = draw_room(s, 0);
+    struct answer answer = call_desk_withdraw(c, &s->kept, room);
+    if (!s->loads)
+        expect_answer(c, answer, WUMBYRA_TREE, 0, "desk withdraw: no text");
+    else if (room.cells < WUMBYRA_MAX_LETTERS)
+        expect_answer(c, answer, WUMBYRA_TAPE_TOO_SHORT, WUMBYRA_MAX_LETTERS, "desk withdraw: fewer cells");
+    else if (room.desk != WUMBYRA_DESK_BYTES)
+        expect_answer(c, answer, WUMBYRA_DESK_LIMITS, 0, "desk withdraw: no desk");
+    else if (s->pages == 0)
+        expect_answer(c, answer, WUMBYRA_DESK_EMPTY, 0, "desk withdraw: no page");
+    else {
+        s->pages--;
+        expect_answer(c, answer, WUMBYRA_OK, letters_held(s), "desk withdraw: the letters held");
+    }
+}
+
+/* The words of the letters held are those of a parse, counted from the tape's end. */
+static void expect_words(struct scene *s)
+{
+    struct caller *c = &s->caller;
+    const uint32_t held = letters_held(s);
+    const uint64_t *words;
+    hand(c, &c->tape, s->kept.letters + WUMBYRA_MAX_LETTERS - held, held);
+    expect(c, is_read(call_parse(c, WUMBYRA_WORDS(held), 0).number), "desk: its letters are a tape");
+    words = (const uint64_t *)(const void *)c->words.at;
+    for (uint32_t j = 0; j <= held; j++)
+        expect(c, memcmp(s->kept.words + 2 * j, words + 2 * (held - j), 2 * sizeof *words) == 0, "desk: the words of a parse");
+}
+
+/* A desk that breaks the limits, or holds a byte that is no letter, is none. */
+static void try_spoiled_desk(struct scene *s)
+{
+    struct caller *c = &s->caller;
+    const struct desk_room room = {WUMBYRA_DESK_BYTES, WUMBYRA_MAX_LETTERS, WUMBYRA_MAX_WORDS};
+    const uint32_t held = letters_held(s);
+    const uint8_t page = '0';
+    uint8_t *spoiled = &s->kept.desk[0], before;
+    uint8_t bad = (uint8_t)(WUMBYRA_MAX_PAGES + 1 + draw(&c->source, 255 - WUMBYRA_MAX_PAGES));
+    if (s->pages > 0 && chance(&c->source, 2)) {
+        spoiled = &s->kept.desk[1 + draw(&c->source, s->pages)];
+        bad = chance(&c->source, 2) ? 0 : (uint8_t)(WUMBYRA_MAX_PAGE_LETTERS + 1 + draw(&c->source, 255 - WUMBYRA_MAX_PAGE_LETTERS));
+    } else if (s->pages > 0 && chance(&c->source, 2)) {
+        spoiled = &s->kept.letters[WUMBYRA_MAX_LETTERS - 1 - draw(&c->source, held)];
+        bad = draw_no_letter(&c->source);
+    }
+    before = *spoiled;
+    *spoiled = bad;
+    hand(c, &c->page, &page, 1);
+    expect_answer(c, call_desk_put(c, &s->kept, room, held), WUMBYRA_DESK_LIMITS, 0, "desk put: a desk that is none");
+    expect_answer(c, call_desk_withdraw(c, &s->kept, room), WUMBYRA_DESK_LIMITS, 0, "desk withdraw: a desk that is none");
+    *spoiled = before;
+}
+
+/* A run of calls on a desk that was any bytes before its opening. */
+static void try_desk(struct scene *s)
+{
+    struct caller *c = &s->caller;
+    const struct desk_room room = {WUMBYRA_DESK_BYTES, WUMBYRA_MAX_LETTERS, 2};
+    const uint32_t steps = chance(&c->source, 20) ? 60 : 2 + draw(&c->source, 8);
+    memset(&s->kept, (int)draw(&c->source, 256), sizeof s->kept);
+    s->pages = 0;
+    expect_answer(c, call_desk_open(c, &s->kept, room), s->loads ? WUMBYRA_OK : WUMBYRA_TREE, 0, "desk open");
+    for (uint32_t i = 0; i < steps; i++) {
+        const uint32_t step = draw(&c->source, steps == 60 ? 60 : 12);
+        if (step == 0)
+            try_open(s);
+        else if (step < 4)
+            try_withdraw(s);
+        else
+            try_put(s);
+        if (s->loads)
+            expect_stack(s);
+    }
+    if (!s->loads)
+        return;
+    expect_words(s);
+    try_spoiled_desk(s);
 }
 
 /* ---- threads */

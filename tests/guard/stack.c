@@ -9,7 +9,7 @@
 #include <sys/mman.h>
 #include <ucontext.h>
 
-enum { PAGE = 4096, DRAWN = 300, CALLS = 8 };
+enum { PAGE = 4096, DRAWN = 300, CALLS = 11 };
 
 static ucontext_t outside, inside;
 static const uint8_t *text;
@@ -18,9 +18,11 @@ static struct parse parse;
 static uint64_t words[WUMBYRA_MAX_WORDS];
 static uint8_t tape[WUMBYRA_MAX_LETTERS], written[WUMBYRA_MAX_WRITTEN_CODE_BYTES];
 static uint32_t litres[WUMBYRA_ACCOUNTS], dated[WUMBYRA_ACCOUNTS];
+static uint8_t desk[WUMBYRA_DESK_BYTES], held[WUMBYRA_MAX_LETTERS];
+static const uint8_t page[] = {'0'};
 static uint64_t answers[CALLS];
 
-/* Eight calls, of which none may run out of stack. Their buffers are elsewhere. */
+/* Eleven calls, of which none may run out of stack. Their buffers are elsewhere. */
 static void call_all(void)
 {
     const uint8_t *letters = parse.letters, *code = parse.code;
@@ -34,6 +36,9 @@ static void call_all(void)
     answers[5] = wumbyra_total(text, size, code, bytes, parse.bits, 1);
     answers[6] = wumbyra_totals(text, size, code, bytes, parse.bits, litres, WUMBYRA_ACCOUNTS);
     answers[7] = wumbyra_term_totals(text, size, code, bytes, parse.bits, 20000101, 20000101, 20991231, dated, WUMBYRA_ACCOUNTS);
+    answers[8] = wumbyra_desk_open(text, size, desk, sizeof desk, words, WUMBYRA_MAX_WORDS);
+    answers[9] = wumbyra_desk_put(text, size, desk, sizeof desk, page, 1, held, sizeof held, words, WUMBYRA_MAX_WORDS);
+    answers[10] = wumbyra_desk_withdraw(text, size, desk, sizeof desk, held, sizeof held);
 }
 
 static int on_small_stack(const struct pattern *pattern, uint8_t *stack)
@@ -147,6 +152,6 @@ int main(void)
     }
     failed = failed || read_longest(&pattern, 'K', around + PAGE) || read_longest(&pattern, 'Z', around + PAGE);
     if (!failed)
-        printf("%zu patterns, eight calls each, on %d bytes of stack\n", sizeof chains / sizeof *chains + DRAWN, WUMBYRA_STACK_BYTES);
+        printf("%zu patterns, eleven calls each, on %d bytes of stack\n", sizeof chains / sizeof *chains + DRAWN, WUMBYRA_STACK_BYTES);
     return failed;
 }
