@@ -190,7 +190,8 @@ static void compare_terms(void) {
 // Both desks hold the tape, with the words of a parse, counted from its end; a page more is refused, and each can be withdrawn.
 static void compare_desks(void) {
   const size_t all = WUMBYRA_DESK_BYTES;
-  same("opening a desk", wumbyra_desk_open(text, size, desks[0], all, tails[0], 2) == 0 && desk_open(&table, desks[1], all, tails[1], 2) == 0);
+  same("opening a desk",
+       wumbyra_desk_open(text, size, desks[0], all, tails[0], 2) == 0 && desk_open(&table, desks[1], all, tails[1], 2) == 0);
   p_pages();
   same("the letters held", sink == LETTERS);
   c_pages();

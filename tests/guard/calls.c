@@ -292,7 +292,8 @@ static void *lend_copy(struct caller *caller, struct output *output, const void 
 }
 
 /* Takes back what was lent: but for `count` bytes from `from` on it must be as it was, and so must the cells beside it. */
-static void take_back(struct caller *c, const struct output *output, uint8_t filling, void *bytes, size_t from, size_t count, const char *what)
+static void take_back(struct caller *c, const struct output *output, uint8_t filling, void *bytes, size_t from, size_t count,
+                      const char *what)
 {
     const size_t end = from + count;
     expect(c, filled(beside(output), beside_size(output), filling), what);
