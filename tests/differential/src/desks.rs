@@ -72,7 +72,12 @@ impl Side {
     }
 
     /// The first cells of each buffer behind its canaries.
-    fn lent(&mut self, desk: usize, cells: usize, words: usize) -> (&mut [u8], &mut [u8], &mut [u64]) {
+    fn lent(
+        &mut self,
+        desk: usize,
+        cells: usize,
+        words: usize,
+    ) -> (&mut [u8], &mut [u8], &mut [u64]) {
         (
             &mut self.desk[CANARIES..CANARIES + desk],
             &mut self.letters[CANARIES..CANARIES + cells],
@@ -220,12 +225,17 @@ fn random_run(rng: &mut Prng) -> Run {
     let (text, steps) = run(rng, tastes, index, wild);
     let mut acts = Vec::new();
     for step in steps {
-        match rng.below(40) {
-            0 => acts.push(Act::DeskLength(rng.below(DESK_BYTES + CANARIES + 1))),
-            1..=3 => acts.push(Act::DeskLength(DESK_BYTES)),
-            4 => acts.push(Act::AnyDesk(rng.number())),
-            5 if wild => acts.push(Act::AnyLetters(rng.number())),
-            6 | 7 if wild => acts.push(Act::AnyWords(rng.number())),
+        match rng.below(120) {
+            0..=2 => {
+                // One call with another length, and then as before.
+                acts.push(Act::DeskLength(rng.below(DESK_BYTES + CANARIES + 1)));
+                acts.push(Act::Step(step));
+                acts.push(Act::DeskLength(DESK_BYTES));
+                continue;
+            }
+            3 => acts.push(Act::AnyDesk(rng.number())),
+            4 | 5 if wild => acts.push(Act::AnyLetters(rng.number())),
+            6..=12 if wild => acts.push(Act::AnyWords(rng.number())),
             _ => {}
         }
         acts.push(Act::Step(step));
