@@ -471,31 +471,6 @@ static void try_refused_code(struct scene *s)
     expect_answer(c, call_flatten(c, room.cells), s->refusal, 0, "flatten: refused in any cells");
 }
 
-static void try_case(struct scene *s, uint64_t seed, uint64_t number)
-{
-    struct caller *c = &s->caller;
-    bool endless;
-    c->seed = seed;
-    c->number = number;
-    c->source.state = (seed << 32 ^ number) * 0x2545f4914f6cdd1du;
-    endless = chance(&c->source, 2000);
-    draw_pattern(&c->source, &s->pattern, endless);
-    draw_code(s, endless);
-    try_text(s);
-    try_flatten(s);
-    try_totals(s);
-    try_terms(s);
-    try_damaged_tape(s);
-    if (s->refusal != WUMBYRA_OK)
-        try_refused_code(s);
-    else {
-        try_parse(s);
-        try_spans(s);
-        try_settling(s);
-    }
-    try_desk(s);
-}
-
 /* ---- page desks */
 
 static uint32_t letters_held(const struct scene *s)
@@ -664,13 +639,14 @@ static void try_desk(struct scene *s)
 {
     struct caller *c = &s->caller;
     const struct desk_room room = {WUMBYRA_DESK_BYTES, WUMBYRA_MAX_LETTERS, 2};
-    const uint32_t steps = chance(&c->source, 20) ? 60 : 2 + draw(&c->source, 8);
+    const bool full = chance(&c->source, 20); /* so many steps that 30 pages are held */
+    const uint32_t steps = full ? 120 : 2 + draw(&c->source, 8);
     memset(&s->kept, (int)draw(&c->source, 256), sizeof s->kept);
     s->pages = 0;
     expect_answer(c, call_desk_open(c, &s->kept, room), s->loads ? WUMBYRA_OK : WUMBYRA_TREE, 0, "desk open");
     for (uint32_t i = 0; i < steps; i++) {
-        const uint32_t step = draw(&c->source, steps == 60 ? 60 : 12);
-        if (step == 0)
+        const uint32_t step = draw(&c->source, full ? 60 : 12);
+        if (step == 0 && !full)
             try_open(s);
         else if (step < 4)
             try_withdraw(s);
@@ -683,6 +659,31 @@ static void try_desk(struct scene *s)
         return;
     expect_words(s);
     try_spoiled_desk(s);
+}
+
+static void try_case(struct scene *s, uint64_t seed, uint64_t number)
+{
+    struct caller *c = &s->caller;
+    bool endless;
+    c->seed = seed;
+    c->number = number;
+    c->source.state = (seed << 32 ^ number) * 0x2545f4914f6cdd1du;
+    endless = chance(&c->source, 2000);
+    draw_pattern(&c->source, &s->pattern, endless);
+    draw_code(s, endless);
+    try_text(s);
+    try_flatten(s);
+    try_totals(s);
+    try_terms(s);
+    try_damaged_tape(s);
+    if (s->refusal != WUMBYRA_OK)
+        try_refused_code(s);
+    else {
+        try_parse(s);
+        try_spans(s);
+        try_settling(s);
+    }
+    try_desk(s);
 }
 
 /* ---- threads */
