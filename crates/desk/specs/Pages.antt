@@ -14,7 +14,7 @@ use Rattle.desk.specs.Desks.{sum, lengths-held, held, with-page, without
 abbrev pub less-page : Desk → Changed
 less-page d = record { desk = without-page d; answer = Letters (held (without-page d)) }
 
--- ── `put_letters`: what is left to copy gives what was to be copied ──
+-- ── `copy_bytes`: what is left to copy gives what was to be copied ──
 pub record Copying (page old now : List ℕ) (at i : ℕ) : Type 0 where
   pub within : i ≤ length page
   pub size : length now ≡ length old

@@ -10,7 +10,7 @@ use crate::Desked;
 use crate::checks::Checked;
 use crate::checks::check_put;
 use crate::checks::check_withdraw;
-use crate::pages::put_letters;
+use crate::pages::copy_bytes;
 use crate::pages::take_page;
 use crate::pages::with_page;
 use first_sweep::grow;
@@ -31,7 +31,7 @@ fn unchanged(desk: Desk, why: DeskRefusal) -> Changed
 }
 
 // Empties a desk, whatever it held, and writes the two words of the tape's end.
-pub(crate) fn open_desk(desk: Desk, p: Pattern, marks: &mut [u64]) -> Changed
+pub fn open_desk(desk: Desk, p: Pattern, marks: &mut [u64]) -> Changed
     ensures { λ r. ⌜ Opens p desk (r .desk) (now (marks .entry)) (now (marks .exit)) (r .answer) ⌝ }
 {
     if !obeys_rules(p) {
@@ -68,14 +68,14 @@ fn put_on(
     let total = behind + n;
     let table = table_of(p);
     grow(p, &table, page, behind, marks);
-    put_letters(page, letters, Pattern::MAX_LETTERS - total);
+    copy_bytes(page, letters, Pattern::MAX_LETTERS - total);
     Changed {
         desk: with_page(desk, n),
         answer: Desked::Letters(total as u32),
     }
 }
 
-pub(crate) fn put_page(
+pub fn put_page(
     desk: Desk,
     p: Pattern,
     page: &[u8],
@@ -93,7 +93,7 @@ pub(crate) fn put_page(
 }
 
 // Withdraws the last page put. Nothing but the desk changes.
-pub(crate) fn withdraw_page(desk: Desk, p: Pattern, letters: &[u8]) -> Changed
+pub fn withdraw_page(desk: Desk, p: Pattern, letters: &[u8]) -> Changed
     ensures { λ r. ⌜ Withdraws p desk (r .desk) (now (letters .entry)) (r .answer) ⌝ }
 {
     let checked = check_withdraw(desk, p, letters);

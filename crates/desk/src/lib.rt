@@ -8,9 +8,11 @@ mod checks; // checks.rt: the checks of a call, in 02's order
 mod limits; // limits.rt: what a desk holds, and whether it keeps the limits
 mod pages; // pages.rt: a page's letters and its length
 
-use calls::open_desk;
-use calls::put_page;
-use calls::withdraw_page;
+// A caller that holds a desk in another form, as in bytes, calls these and stores the desk that comes back.
+pub use calls::open_desk;
+pub use calls::put_page;
+pub use calls::withdraw_page;
+pub use pages::copy_bytes;
 use refusals::Refusal;
 use refusals::number_of;
 use refusals::value_of;

@@ -11,14 +11,14 @@ use crate::Desk;
 use crate::Desked;
 use crate::limits::page_size;
 
-// Copies a page to the cells from `at` on.
-pub(crate) fn put_letters(page: &[u8], letters: &mut [u8], at: usize)
-    requires { ⌜ at + length (now page) ≤ length (now letters) ⌝ }
-    ensures { λ _. ⌜ now (letters .exit) ≡ sets (now (letters .entry)) at (now (page .entry)) ⌝ }
+// Copies bytes to the cells from `at` on.
+pub fn copy_bytes(bytes: &[u8], cells: &mut [u8], at: usize)
+    requires { ⌜ at + length (now bytes) ≤ length (now cells) ⌝ }
+    ensures { λ _. ⌜ now (cells .exit) ≡ sets (now (cells .entry)) at (now (bytes .entry)) ⌝ }
 {
     let mut i = 0;
-    while i < page.len() {
-        letters[at + i] = page[i];
+    while i < bytes.len() {
+        cells[at + i] = bytes[i];
         i += 1;
     }
 }

@@ -23,15 +23,15 @@ grow-requires c κs =
     let start = c .before .before .before .before .before .before in
     (put-growable (start .args .p) (start .args .desk) (start .args .page .now) (start .args .letters .now) (start .args .marks .now) (start .pre .0) _ (start .pre .1), c .before .before .table-of .ensures)
 
-sub-put-letters : tie.Need-sub-put-letters
-sub-put-letters c =
+sub-copy-bytes : tie.Need-sub-copy-bytes
+sub-copy-bytes c =
     let start = c .before .before .before .before .before .before .before .before .before .before in
     let few = behind-upto (start .args .p) (start .args .desk) (start .args .page .now) (start .args .letters .now) (start .args .marks .now)
     (start .pre .0) _ (start .pre .1) in
     omega (arith, few)
 
-put-letters-requires : tie.Need-put-letters-requires
-put-letters-requires c κs =
+copy-bytes-requires : tie.Need-copy-bytes-requires
+copy-bytes-requires c κs =
     let start = c .before .before .before .before .before .before .before .before .before .before in
     let few = behind-upto (start .args .p) (start .args .desk) (start .args .page .now) (start .args .letters .now) (start .args .marks .now)
     (start .pre .0) _ (start .pre .1) in
@@ -59,11 +59,11 @@ same-length-2 c = search needs
 
 returns : tie.Need-returns
 returns c =
-    let at-put-letters = c .before .before .before in
-    let at-grow = at-put-letters .before .before .before .before in
+    let at-copy-bytes = c .before .before .before in
+    let at-grow = at-copy-bytes .before .before .before .before in
     let start = at-grow .before .before .before .before .before .before .before in
     put-made (start .args .p) (start .args .desk) (start .args .page .now) (start .args .letters .now) (start .args .marks .now) (start .pre .0) _
-    (start .pre .1) _ _ _ (c .with-page .ensures) (at-put-letters .put-letters .ensures) (at-grow .grow .ensures)
+    (start .pre .1) _ _ _ (c .with-page .ensures) (at-copy-bytes .copy-bytes .ensures) (at-grow .grow .ensures)
 
 pub put-on-spec : {M : Type 1} → statement M
 put-on-spec =
@@ -72,8 +72,8 @@ put-on-spec =
     add-total
     table-of-requires
     grow-requires
-    sub-put-letters
-    put-letters-requires
+    sub-copy-bytes
+    copy-bytes-requires
     with-page-requires
     cast-t19
     same-length

@@ -1,30 +1,30 @@
--- `desk::pages::put_letters` meets its contract.
+-- `desk::pages::copy_bytes` meets its contract.
 use Prim.Native.Nat.{_+_, _-_, _≤_}
 use native.Mathlib.Omega.{arith}
 use lib.ListN.{length}
 use Rattle.desk.specs.Pages.{Copying, copying-start, copying-end, copying-next}
 use borrow.Author.Needs.{needs}
-use Rattle.desk.proofs.pages.put_letters.Statement.{statement}
-use Rattle.desk.proofs.pages.put_letters.Tie as tie
+use Rattle.desk.proofs.pages.copy_bytes.Statement.{statement}
+use Rattle.desk.proofs.pages.copy_bytes.Tie as tie
 
 abbrev Inv-loop : tie.InvT-loop
-Inv-loop page letters₀ at i₀ letters i = (at + length page ≤ length letters₀) × Copying page letters₀ letters at i
+Inv-loop bytes cells₀ at i₀ cells i = (at + length bytes ≤ length cells₀) × Copying bytes cells₀ cells at i
 
 abbrev μ-loop : tie.MeasureT-loop
-μ-loop page letters₀ at i₀ letters i = length page - i
+μ-loop bytes cells₀ at i₀ cells i = length bytes - i
 
 loop-holds : tie.Need-loop-holds Inv-loop μ-loop
 loop-holds c = (c .pre, copying-start _ _ _)
 
-shared-slice-read-letters : tie.Need-shared-slice-read-letters Inv-loop μ-loop
-shared-slice-read-letters c = search needs
+shared-slice-read-cells : tie.Need-shared-slice-read-cells Inv-loop μ-loop
+shared-slice-read-cells c = search needs
 
-add-letters : tie.Need-add-letters Inv-loop μ-loop
-add-letters c =
+add-cells : tie.Need-add-cells Inv-loop μ-loop
+add-cells c =
     record { fits = omega (arith, c .before .before .loop .inv .0, c .before .before .before .good .1 .0 .0) }
 
-slice-write-letters : tie.Need-slice-write-letters Inv-loop μ-loop
-slice-write-letters c = omega (arith, c .before .before .loop .inv .0, c .before .before .loop .inv .1 .size)
+slice-write-cells : tie.Need-slice-write-cells Inv-loop μ-loop
+slice-write-cells c = omega (arith, c .before .before .loop .inv .0, c .before .before .loop .inv .1 .size)
 
 add-i : tie.Need-add-i Inv-loop μ-loop
 add-i c = search needs
@@ -42,16 +42,16 @@ same-length c = c .before .loop .inv .1 .size
 returns : tie.Need-returns Inv-loop μ-loop
 returns c = copying-end _ _ _ _ _ (c .before .loop .inv .1) (c .loop-test .left)
 
-pub put-letters-spec : {M : Type 1} → statement M
-put-letters-spec =
+pub copy-bytes-spec : {M : Type 1} → statement M
+copy-bytes-spec =
     tie.close
     (tie.spec
     Inv-loop
     μ-loop
     loop-holds
-    shared-slice-read-letters
-    add-letters
-    slice-write-letters
+    shared-slice-read-cells
+    add-cells
+    slice-write-cells
     add-i
     loop-less
     loop-again
