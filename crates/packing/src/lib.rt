@@ -9,9 +9,21 @@ ghost use Rattle.totals.specs.Totals.{totals-outcome};
 ghost use Rattle.terms.specs.Terms.{term-refused, term-outcome};
 ghost use Rattle.parser.specs.Parse.{parsed-answer};
 ghost use Rattle.canonical.specs.Canonicalize.{canonicalized-answer};
+ghost use Rattle.desk.specs.Desks.{desk-refused, desk-answer};
 ghost use Rattle.packing.specs.Packing.{unpacked, in-cells};
+
+mod desks; // desks.rt: a page desk in bytes
+
 use canonical::Canonicalized;
 use codes::Flattened;
+use desk::DeskRefusal;
+use desk::Desked;
+use desk::desk_number_of;
+use desk::desk_value_of;
+pub use desks::DESK_BYTES;
+pub use desks::desk_of;
+pub use desks::of_other_length;
+pub use desks::put_desk;
 use loading::Outcome;
 use parser::Parsed;
 use refusals::Refusal;
@@ -92,6 +104,21 @@ pub fn of_term_totals(outcome: TermOutcome) -> u64
     match outcome {
         TermOutcome::Added => packed(0, 0),
         TermOutcome::Refused(why) => of_term_refusal(why),
+    }
+}
+
+pub fn of_desk_refusal(why: DeskRefusal) -> u64
+    ensures { λ r. ⌜ unpacked r ≡ desk-refused why ⌝ }
+{
+    packed(desk_number_of(why), desk_value_of(why))
+}
+
+pub fn of_desked(desked: Desked) -> u64
+    ensures { λ r. ⌜ unpacked r ≡ desk-answer desked ⌝ }
+{
+    match desked {
+        Desked::Letters(n) => packed(0, n),
+        Desked::Refused(why) => of_desk_refusal(why),
     }
 }
 

@@ -1,0 +1,39 @@
+-- `packing::desks::put_desk` meets its contract.
+use mathlib.Core.Path.{sym, _∙_}
+use lib.ListN.{length-set}
+use Rattle.packing.specs.DeskBytesLaws.{laid-other, laid-room, laid-right}
+use borrow.Author.Needs.{needs}
+use Rattle.packing.proofs.desks.put_desk.Statement.{statement}
+use Rattle.packing.proofs.desks.put_desk.Tie as tie
+
+returns : tie.Need-returns
+returns c = laid-other (c .before .before .args .desk) (c .before .before .args .bytes .now) (c .if1 .taken)
+
+slice-write-bytes : tie.Need-slice-write-bytes
+slice-write-bytes c = search needs
+
+slice-aggregate-copy-bytes : tie.Need-slice-aggregate-copy-bytes
+slice-aggregate-copy-bytes c = search needs
+
+copy-bytes-requires : tie.Need-copy-bytes-requires
+copy-bytes-requires c κs =
+    let at-if1 = c .before .before .before in
+    let start = at-if1 .before .before in
+    laid-room (start .args .desk) (start .args .bytes .now) (at-if1 .if1 .left) (sym (slice-aggregate-copy-bytes (c .before)))
+
+same-length : tie.Need-same-length
+same-length c =
+    let at-copy-bytes = c .before .before in
+    let start = at-copy-bytes .before .before .before .before .before .before in
+    at-copy-bytes .copy-bytes .kept .1 .0 ∙ length-set (start .args .bytes .now) 0 (start .args .desk .count)
+
+returns-2 : tie.Need-returns-2
+returns-2 c =
+    let at-copy-bytes = c .before .before in
+    let at-if1 = at-copy-bytes .before .before .before .before in
+    let start = at-if1 .before .before in
+    laid-right (start .args .desk) (start .args .bytes .now) (at-if1 .if1 .left) (sym (slice-aggregate-copy-bytes (at-copy-bytes .before .before))) _
+    (at-copy-bytes .copy-bytes .ensures)
+
+pub put-desk-spec : {M : Type 1} → statement M
+put-desk-spec = tie.close (tie.spec returns slice-write-bytes slice-aggregate-copy-bytes copy-bytes-requires same-length returns-2)

@@ -1,0 +1,56 @@
+// A page desk for callers from C: 31 bytes, the count and behind it the 30 lengths.
+ghost use mathlib.Core.Path.{_≡_};
+ghost use Rattle.packing.specs.Packing.{unpacked};
+ghost use Rattle.packing.specs.DeskBytes.{desk-of-bytes, other-opened, desk-laid};
+use crate::of_desk_refusal;
+use desk::Desk;
+use desk::DeskRefusal;
+use desk::copy_bytes;
+use refusals::Refusal;
+use syntax::Pattern;
+use syntax::obeys_rules;
+
+// The bytes of a desk.
+pub const DESK_BYTES: usize = 31;
+
+// The desk that stands in the bytes. Bytes of another number are taken for a desk that breaks the limits, by a count of 31.
+pub fn desk_of(bytes: &[u8]) -> Desk
+    ensures { λ r. ⌜ r ≡ desk-of-bytes (now (bytes .entry)) ⌝ }
+{
+    let mut lengths = [0u8; Desk::MAX_PAGES];
+    let end = bytes.len();
+    if end != DESK_BYTES {
+        return Desk { count: 31, lengths };
+    }
+    let from = 1;
+    copy_bytes(&bytes[from..end], &mut lengths, 0);
+    Desk {
+        count: bytes[0],
+        lengths,
+    }
+}
+
+// Writes a desk into its bytes. Bytes of another number are left as they are.
+pub fn put_desk(desk: Desk, bytes: &mut [u8])
+    ensures { λ _. ⌜ now (bytes .exit) ≡ desk-laid desk (now (bytes .entry)) ⌝ }
+{
+    if bytes.len() != DESK_BYTES {
+        return;
+    }
+    let lengths = desk.lengths;
+    bytes[0] = desk.count;
+    copy_bytes(&lengths, bytes, 1);
+}
+
+// What an opening answers where the bytes of the desk are of another number: 2 and 6 come before it.
+pub fn of_other_length(p: Pattern, words: usize) -> u64
+    ensures { λ r. ⌜ unpacked r ≡ other-opened p words ⌝ }
+{
+    if !obeys_rules(p) {
+        return of_desk_refusal(DeskRefusal::Base(Refusal::Tree(0)));
+    }
+    if words < 2 {
+        return of_desk_refusal(DeskRefusal::Base(Refusal::WordsTooShort(2)));
+    }
+    of_desk_refusal(DeskRefusal::DeskLimits)
+}
