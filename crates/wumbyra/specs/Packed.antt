@@ -1,12 +1,18 @@
 -- What each call from C answers: the number and value of the service on the loaded table, in one 64-bit number. Definitions only.
 use mathlib.Core.Path.{_≡_}
+use mathlib.Core.Bool.{not}
 use mathlib.Core.Option.{Option, none, some}
-use mathlib.Core.List.{List}
+use mathlib.Core.List.{List, [], _∷_, _++_}
 use Prim.Native.Nat.{ℕ, _+_, _*_}
+use lib.Dec.{eqb}
 use lib.ListN.{length, getD}
+use Rattle.syntax.specs.declared.Pattern.{Pattern}
 use Rattle.refusals.specs.Refusals.{Answer, answer}
+use Rattle.refusals.specs.Checks.{first-of}
+use Rattle.bits.specs.Bits.{in-front}
 use Rattle.loading.specs.Load.{load-table}
 use Rattle.packing.specs.Packing.{unpacked, in-cells}
+use Rattle.packing.specs.DeskBytes.{desk-bytes, desk-of-bytes, bytes-of-desk}
 use Rattle.semantics.specs.Visits.{Visit}
 use Rattle.codes.specs.Flatten.{flatten-answer, flatten-tape}
 use Rattle.totals.specs.Totals.{totals-answer, totals-litres}
@@ -17,10 +23,15 @@ use Rattle.parser.specs.declared.Parsed.{Parsed}
 use Rattle.parser.specs.Parse.{parsed-answer, Parses}
 use Rattle.canonical.specs.declared.Canonicalized.{Canonicalized}
 use Rattle.canonical.specs.Canonicalize.{canonicalized-answer, Canonicalizes}
+use Rattle.first_sweep.specs.Tail.{tail-words}
+use Rattle.desk.specs.declared.Desk.{Desk}
+use Rattle.desk.specs.declared.DeskRefusal.the-variants.{DeskLimits}
+use Rattle.desk.specs.declared.Desked.{Desked}
+use Rattle.desk.specs.Desks.{empty-desk, desk-refused, desk-answer, open-order, if-accepted, Puts, Withdraws}
 
--- the version 1.5.0 as one number: major × 10000 + minor × 100 + patch
+-- the version 1.6.0 as one number: major × 10000 + minor × 100 + patch
 abbrev pub version-number : ℕ
-version-number = 1 * 10000 + 5 * 100 + 0
+version-number = 1 * 10000 + 6 * 100 + 0
 
 -- THE PROMISE of reading a tape from C: answer and buffers are those that the service promises on the table of the text
 pub record Parses-text (text tape words words-now code code-now : List ℕ) (r : ℕ) : Type 0 where
@@ -61,3 +72,32 @@ pub record Totals-text (text code : List ℕ) (count : ℕ) (cells cells-now : L
 pub record Term-totals-text (text code : List ℕ) (count start first last : ℕ) (cells cells-now : List ℕ) (r : ℕ) : Type 0 where
   pub answers : unpacked r ≡ terms-answer (load-table text) code count (date-of start) (date-of first) (date-of last)
   pub leaves : cells-now ≡ in-cells (terms-litres (load-table text) code count (date-of start) (date-of first) (date-of last)) cells
+
+-- ── the page desk: 31 bytes, the count and behind it the 30 lengths. A desk of another length is refused with 13 at 13's place ──
+-- 02: "opening an empty desk writes the two of the end (refusing 2, then 6)"; behind them 13, for a desk of another length
+unfoldable pub desk-open-answer : Pattern → (words bytes : ℕ) → Answer
+desk-open-answer p words bytes = first-of desk-refused (open-order p words ++ ((not (eqb bytes desk-bytes), DeskLimits) ∷ [])) (answer 0 0)
+
+-- THE PROMISE of opening a desk from C
+pub record Desk-opens-text (text desk desk-now marks marks-now : List ℕ) (r : ℕ) : Type 0 where
+  pub answers : unpacked r ≡ desk-open-answer (load-table text) (length marks) (length desk)
+  pub leaves : desk-now ≡ if-accepted (desk-open-answer (load-table text) (length marks) (length desk)) (bytes-of-desk empty-desk) desk
+  pub marks-left : marks-now ≡
+      if-accepted (desk-open-answer (load-table text) (length marks) (length desk)) (in-front (tail-words (load-table text) []) marks) marks
+
+-- THE PROMISE of putting a page from C: what the service promises on the table of the text and on the desk that the bytes are taken for. One of
+-- another length than 31 is taken for a desk that breaks the limits.
+pub record Desk-puts-text (text desk desk-now page letters letters-now marks marks-now : List ℕ) (r : ℕ) : Type 0 where
+  pub after : Desk
+  pub desked : Desked
+  pub answers : unpacked r ≡ desk-answer desked
+  pub puts : Puts (load-table text) page (desk-of-bytes desk) after letters letters-now marks marks-now desked
+  pub leaves : desk-now ≡ if-accepted (desk-answer desked) (bytes-of-desk after) desk
+
+-- THE PROMISE of withdrawing a page from C: the same
+pub record Desk-withdraws-text (text desk desk-now letters : List ℕ) (r : ℕ) : Type 0 where
+  pub after : Desk
+  pub desked : Desked
+  pub answers : unpacked r ≡ desk-answer desked
+  pub withdraws : Withdraws (load-table text) (desk-of-bytes desk) after letters desked
+  pub leaves : desk-now ≡ if-accepted (desk-answer desked) (bytes-of-desk after) desk

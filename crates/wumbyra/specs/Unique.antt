@@ -1,5 +1,5 @@
 -- Number and value fix the 64-bit answer, so the promises of the calls from C fix answers and buffers.
-use mathlib.Core.Path.{_≡_, sym, ap, _∙_}
+use mathlib.Core.Path.{_≡_, sym, ap, ap₂, _∙_}
 use mathlib.Core.List.{List}
 use Prim.Native.Nat.{ℕ}
 use Rattle.loading.specs.Load.{load-answer, load-table}
@@ -8,7 +8,11 @@ use Rattle.parser.specs.Parse.{parsed-answer}
 use Rattle.parser.specs.Unique.{parses-one}
 use Rattle.canonical.specs.Canonicalize.{canonicalized-answer}
 use Rattle.canonical.specs.Unique.{canonicalizes-one}
+use Rattle.desk.specs.Desks.{desk-answer, if-accepted}
+use Rattle.desk.specs.Unique.{puts-one, withdraws-one}
 use Rattle.packing.specs.Packing.{unpacked}
+use Rattle.packing.specs.DeskBytes.{desk-of-bytes, bytes-of-desk}
+use Rattle.wumbyra.specs.Packed.{Desk-opens-text, Desk-puts-text, Desk-withdraws-text}
 use Rattle.wumbyra.specs.Packed.{Parses-text, Flattens-text, Totals-text, Term-totals-text, Canonicalizes-text, span-text, total-text}
 
 pub unpacked-same : (r s : ℕ) → unpacked r ≡ unpacked s → r ≡ s
@@ -52,3 +56,26 @@ module _ (text : List ℕ) where
       let e = canonicalizes-one (load-table text) code count ts us us-too ws vs vs-too xs ys ys-too (f .canonicalized) (g .canonicalized)
       (f .canonicalizes) (g .canonicalizes) in
       (unpacked-same r s (f .answers ∙ ap canonicalized-answer (e .0) ∙ sym (g .answers)), e .1, e .2, e .3)
+
+  pub desk-opens-text-one : (desk a b marks ms ns : List ℕ) (r s : ℕ) → Desk-opens-text text desk a marks ms r → Desk-opens-text text desk b marks ns s
+      → (r ≡ s) × (a ≡ b) × (ms ≡ ns)
+  desk-opens-text-one desk a b marks ms ns r s f g =
+      (unpacked-same r s (f .answers ∙ sym (g .answers)), f .leaves ∙ sym (g .leaves), f .marks-left ∙ sym (g .marks-left))
+
+  pub desk-puts-text-one : (desk a b page letters ks ls marks ms ns : List ℕ) (r s : ℕ) → Desk-puts-text text desk a page letters ks marks ms r
+      → Desk-puts-text text desk b page letters ls marks ns s → (r ≡ s) × (a ≡ b) × (ks ≡ ls) × (ms ≡ ns)
+  desk-puts-text-one desk a b page letters ks ls marks ms ns r s f g =
+      let e = puts-one (load-table text) (desk-of-bytes desk) page (f .after) (g .after) letters ks ls marks ms ns (f .desked) (g .desked) (f .puts) (g .puts) in (
+        unpacked-same r s (f .answers ∙ ap desk-answer (e .0) ∙ sym (g .answers)),
+        f .leaves ∙ ap₂ (λ x d. if-accepted (desk-answer x) (bytes-of-desk d) desk) (e .0) (e .1) ∙ sym (g .leaves),
+        e .2,
+        e .3,
+      )
+
+  pub desk-withdraws-text-one : (desk a b letters : List ℕ) (r s : ℕ) → Desk-withdraws-text text desk a letters r
+      → Desk-withdraws-text text desk b letters s → (r ≡ s) × (a ≡ b)
+  desk-withdraws-text-one desk a b letters r s f g =
+      let e = withdraws-one (load-table text) (desk-of-bytes desk) (f .after) (g .after) letters (f .desked) (g .desked) (f .withdraws) (g .withdraws) in (
+        unpacked-same r s (f .answers ∙ ap desk-answer (e .0) ∙ sym (g .answers)),
+        f .leaves ∙ ap₂ (λ x d. if-accepted (desk-answer x) (bytes-of-desk d) desk) (e .0) (e .1) ∙ sym (g .leaves),
+      )

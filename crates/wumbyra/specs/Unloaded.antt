@@ -5,7 +5,7 @@ use mathlib.Core.List.{List}
 use Prim.Native.Nat.{ℕ, zero, suc, _+_, _≤_}
 use native.Mathlib.Omega.{arith}
 use lib.ListN.{getD, replicate}
-use Rattle.refusals.specs.Refusals.{answer}
+use Rattle.refusals.specs.Refusals.{Answer, answer}
 use Rattle.syntax.specs.Table.{no-lines, obeys, account-limit}
 use Rattle.loading.specs.Load.{load-answer, load-table}
 use Rattle.loading.specs.LoadLaws.{refused-no-lines}
@@ -15,12 +15,18 @@ use Rattle.spans.specs.Spans.{span-answer, span-shown}
 use Rattle.parser.specs.Parse.{early}
 use Rattle.packing.specs.Packing.{unpacked, in-cells}
 use Rattle.terms.specs.Terms.{terms-answer, terms-litres}
+use Rattle.desk.specs.Desks.{put-answer, withdraw-answer}
 use Rattle.wumbyra.specs.Packed.{span-text, total-text, Totals-text, Term-totals-text}
+use Rattle.wumbyra.specs.Packed.{desk-open-answer, Desk-opens-text, Desk-puts-text, Desk-withdraws-text}
+use Rattle.wumbyra.specs.DeskRefused.{opens-refused, puts-refused, withdraws-refused}
 
 zeros : (n i : ℕ) → _≡_ {A = ℕ} (getD (replicate n 0) i 0) 0
 zeros zero i = refl
 zeros (suc n) zero = refl
 zeros (suc n) (suc i) = zeros n i
+
+refused-2 : (a : Answer) → a ≡ answer 2 0 → 1 ≤ a .number
+refused-2 a e = let n : a .number ≡ 2 = ap (λ x. x .number) e in omega (arith, n)
 
 module _ (text : List ℕ) (h : 1 ≤ load-answer text .number) where
   pub no-table : load-table text ≡ no-lines
@@ -57,3 +63,28 @@ module _ (text : List ℕ) (h : 1 ≤ load-answer text .number) where
   unfolding terms-answer terms-litres
   term-totals-unloaded code count start first last cells cells-now r t =
       (t .answers ∙ rw not-obeyed refl, t .leaves ∙ ap (λ ls. in-cells ls cells) (rw not-obeyed refl))
+
+  -- desk, letters and marks are as they were
+  pub desk-opens-unloaded : (desk desk-now marks marks-now : List ℕ) (r : ℕ) → Desk-opens-text text desk desk-now marks marks-now r
+      → (unpacked r ≡ answer 2 0) × (desk-now ≡ desk) × (marks-now ≡ marks)
+  unfolding desk-open-answer
+  desk-opens-unloaded desk desk-now marks marks-now r t =
+      let said : unpacked r ≡ answer 2 0 = t .answers ∙ rw not-obeyed refl in
+      let k = opens-refused text desk desk-now marks marks-now r t (refused-2 (unpacked r) said) in
+      (said, k .0, k .1)
+
+  pub desk-puts-unloaded : (desk desk-now page letters letters-now marks marks-now : List ℕ) (r : ℕ)
+      → Desk-puts-text text desk desk-now page letters letters-now marks marks-now r
+      → (unpacked r ≡ answer 2 0) × (desk-now ≡ desk) × (letters-now ≡ letters) × (marks-now ≡ marks)
+  unfolding put-answer
+  desk-puts-unloaded desk desk-now page letters letters-now marks marks-now r t =
+      let said : unpacked r ≡ answer 2 0 = t .answers ∙ t .puts .answers ∙ rw not-obeyed refl in
+      let k = puts-refused text desk desk-now page letters letters-now marks marks-now r t (refused-2 (unpacked r) said) in
+      (said, k .0, k .1, k .2)
+
+  pub desk-withdraws-unloaded : (desk desk-now letters : List ℕ) (r : ℕ) → Desk-withdraws-text text desk desk-now letters r
+      → (unpacked r ≡ answer 2 0) × (desk-now ≡ desk)
+  unfolding withdraw-answer
+  desk-withdraws-unloaded desk desk-now letters r t =
+      let said : unpacked r ≡ answer 2 0 = t .answers ∙ t .withdraws .answers ∙ rw not-obeyed refl in
+      (said, withdraws-refused text desk desk-now letters r t (refused-2 (unpacked r) said))

@@ -1,25 +1,34 @@
 // The services for callers from C, each on a pattern's text. An answer is one number: the cause's number (0: none) in its
 // upper 32 bits, the value beside it in the lower 32. A slice is passed as a pointer and a length. include/wumbyra.h declares the calls.
-// Contracts unpack an answer, as a caller does: quotient and remainder need no condition. Load, flatten, span and totals are equations; parse and
-// canonicalize hand on the promise of their service, so that nothing is said twice.
+// Contracts unpack an answer, as a caller does: quotient and remainder need no condition. Load, flatten, span, totals and opening a desk are
+// equations; parse, canonicalize, and putting and withdrawing a page hand on the promise of their service, so that nothing is said twice.
 ghost use mathlib.Core.Path.{_≡_};
 ghost use Rattle.loading.specs.Load.{load-answer};
 ghost use Rattle.packing.specs.Packing.{unpacked};
 ghost use Rattle.wumbyra.specs.Packed.{version-number, Parses-text, Flattens-text, Canonicalizes-text};
 ghost use Rattle.wumbyra.specs.Packed.{span-text, total-text, Totals-text, Term-totals-text};
+ghost use Rattle.wumbyra.specs.Packed.{Desk-opens-text, Desk-puts-text, Desk-withdraws-text};
 use calendar::date_of;
 use canonical::canonicalize;
 use codes::flatten;
+use desk::open_desk;
+use desk::put_page;
+use desk::withdraw_page;
 use loading::load;
+use packing::DESK_BYTES;
+use packing::desk_of;
 use packing::litres_of;
 use packing::of_canonicalized;
+use packing::of_desked;
 use packing::of_flattened;
+use packing::of_other_length;
 use packing::of_outcome;
 use packing::of_parsed;
 use packing::of_refusal;
 use packing::of_term_totals;
 use packing::of_totals;
 use packing::packed;
+use packing::put_desk;
 use packing::put_totals;
 use packing::totals_number;
 use parser::parse;
@@ -31,7 +40,7 @@ use totals::totals;
 // The version of the interface. A change that a caller may notice raises one of these numbers, and the header's with it.
 const VERSION_MAJOR: u32 = 1;
 
-const VERSION_MINOR: u32 = 5;
+const VERSION_MINOR: u32 = 6;
 
 const VERSION_PATCH: u32 = 0;
 
@@ -158,4 +167,53 @@ pub extern "C" fn wumbyra_term_totals(
     let added = all.litres;
     put_totals(&added, litres);
     of_term_totals(outcome)
+}
+
+// A page desk is 31 bytes: the count, and behind it the 30 lengths. One of another length is 13, at opening after 6.
+#[no_mangle]
+pub extern "C" fn wumbyra_desk_open(text: &[u8], desk: &mut [u8], marks: &mut [u64]) -> u64
+    ensures { λ r.
+        ⌜ Desk-opens-text (now (text .entry)) (now (desk .entry)) (now (desk .exit)) (now (marks .entry)) (now (marks .exit)) r ⌝ }
+{
+    let loaded = load(text);
+    if desk.len() != DESK_BYTES {
+        return of_other_length(loaded.pattern, marks.len());
+    }
+    let held = desk_of(desk);
+    let changed = open_desk(held, loaded.pattern, marks);
+    let answer = changed.answer;
+    put_desk(changed.desk, desk);
+    of_desked(answer)
+}
+
+#[no_mangle]
+pub extern "C" fn wumbyra_desk_put(
+    text: &[u8],
+    desk: &mut [u8],
+    page: &[u8],
+    letters: &mut [u8],
+    marks: &mut [u64],
+) -> u64
+    ensures { λ r.
+        ⌜ Desk-puts-text (now (text .entry)) (now (desk .entry)) (now (desk .exit)) (now (page .entry))
+        (now (letters .entry)) (now (letters .exit)) (now (marks .entry)) (now (marks .exit)) r ⌝ }
+{
+    let loaded = load(text);
+    let held = desk_of(desk);
+    let changed = put_page(held, loaded.pattern, page, letters, marks);
+    let answer = changed.answer;
+    put_desk(changed.desk, desk);
+    of_desked(answer)
+}
+
+#[no_mangle]
+pub extern "C" fn wumbyra_desk_withdraw(text: &[u8], desk: &mut [u8], letters: &[u8]) -> u64
+    ensures { λ r. ⌜ Desk-withdraws-text (now (text .entry)) (now (desk .entry)) (now (desk .exit)) (now (letters .entry)) r ⌝ }
+{
+    let loaded = load(text);
+    let held = desk_of(desk);
+    let changed = withdraw_page(held, loaded.pattern, letters);
+    let answer = changed.answer;
+    put_desk(changed.desk, desk);
+    of_desked(answer)
 }
