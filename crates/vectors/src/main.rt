@@ -1,8 +1,9 @@
 // For tests alone: runs each case of standard input, one a line, and prints what the services answer and leave in the lent
 // buffers. The first field of a line is one letter, the case's kind: `l` loads a text, `p` reads a tape, `c` spells, totals
 // and settles a code, `s` shows a visit's piece, `t` totals within a billing term, `a` does one of these on a table with another
-// account. The pattern's text in hexadecimal comes next; the fields behind it stand in the kind's module, here or in crate
-// vector_codes. Fields are parted by spaces. Byte 10 ends each line of the input; what stands after the last one is left out.
+// account, `d` runs calls of a page desk. The pattern's text in hexadecimal comes next; the fields behind it stand in the kind's
+// module, here or in crates vector_codes and vector_desk. Fields are parted by spaces. Byte 10 ends each line of the input; what
+// stands after the last one is left out.
 // Asked for more cells than its arrays have, the program lends all of them; no such case is stored.
 mod load_cases; // load_cases.rt: loading a text
 mod parse_cases; // parse_cases.rt: reading a tape
@@ -17,6 +18,7 @@ use table_cases::with_account;
 use vector_codes::run_code;
 use vector_codes::run_span;
 use vector_codes::run_term;
+use vector_desk::run_desk;
 use vector_text::Input;
 use vector_text::advance;
 use vector_text::decode;
@@ -84,7 +86,12 @@ fn run_case(line: &[u8]) {
         say_bad();
         return;
     }
-    run_kind(line[0], load(&text[..size]), rest(fields));
+    let kind = line[0];
+    if kind == b'd' {
+        run_desk(&mut text, size, rest(fields));
+        return;
+    }
+    run_kind(kind, load(&text[..size]), rest(fields));
 }
 
 // Runs the line that is complete, if one is. A size above that of `line` marks one that did not fit.
