@@ -1,10 +1,10 @@
-"""The worked example, a term, and a refusal that comes back from another process, by a program outside the tree."""
+"""The worked example, a term, a page desk, and a refusal that comes back from another process, by a program outside the tree."""
 
 import datetime
 import multiprocessing
 from concurrent.futures import ProcessPoolExecutor
 
-from wumbyra import Pattern, Refused
+from wumbyra import Desk, Pattern, Refused
 
 PATTERN = b"0\tR\t-\t0\t9\n1\tL\t-\tW\n2\tS\t9\t1\t0\n3\tR\t1\t0\t9\n4\tA\t-\t2\t3\n5\tK\t-\t4\n"
 DAYS = b"0\tR\t1\t0\t9\n1\tL\t-\tD\n2\tA\t-\t0\t1\n3\tK\t-\t2\n"
@@ -44,6 +44,10 @@ def main():
     days, leap_day = Pattern(DAYS), datetime.date(2024, 2, 29)
     code, bits, _ = days.parse(b"1D2D4")
     print("term", leap_day.strftime("%Y%m%d"), days.term_totals(code, bits, (2024, 2, 28), leap_day, leap_day)[1], sep="\t")
+    desk = Desk(pattern)
+    for page in b"2", b"W", b"3":
+        desk.put(page)
+    print("desk", len(desk.pages), desk.letters.decode(), sep="\t")
     for answers in pools():
         assert answers == (litres, (4, 1)), answers
 

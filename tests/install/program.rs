@@ -1,5 +1,5 @@
-//! The worked example, a term, and refusals, by a package outside the tree.
-use wumbyra::{Date, Pattern, Refusal};
+//! The worked example, a term, a page desk, and refusals, by a package outside the tree.
+use wumbyra::{Date, Desk, Pattern, Refusal};
 
 const PATTERN: &[u8] = b"0\tR\t-\t0\t9\n1\tL\t-\tW\n2\tS\t9\t1\t0\n3\tR\t1\t0\t9\n4\tA\t-\t2\t3\n5\tK\t-\t4\n";
 const DAYS: &[u8] = b"0\tR\t1\t0\t9\n1\tL\t-\tD\n2\tA\t-\t0\t1\n3\tK\t-\t2\n";
@@ -11,6 +11,15 @@ fn print_term() {
     let [start, leap_day] = [28, 29].map(|day| Date { year: 2024, month: 2, day });
     println!("term\t20240229\t{}", pattern.term_totals(&code, start, leap_day, leap_day).unwrap()[1]);
     assert_eq!(pattern.term_totals(&code, start, leap_day, start), Err(Refusal::NotATerm));
+}
+
+/// The worked example's tape, in pages that arrive newest first.
+fn print_desk(pattern: &Pattern) {
+    let mut desk = Desk::open(pattern).unwrap();
+    for page in [b"2", b"W", b"3"] {
+        desk.put(page).unwrap();
+    }
+    println!("desk\t{}\t{}", desk.pages().len(), String::from_utf8_lossy(desk.letters()));
 }
 
 fn main() {
@@ -26,5 +35,6 @@ fn main() {
     let piece = pattern.span(b"3W2", &code, 2, 0).unwrap();
     println!("span\t{}\t{}", piece.start, piece.len());
     print_term();
+    print_desk(&pattern);
     assert_eq!(pattern.parse(b"3 2"), Err(Refusal::TapeByte { position: 1 }));
 }
