@@ -84,7 +84,7 @@ module _ (d : Desk) (bytes : List ℕ) where
       ∙ sym (ap (λ b. cond b (bytes-of-desk d) bytes) (eq-eqb (length bytes) desk-bytes e))
 
 -- ── what is written behind a call ──
-again : {A : Type 0} (b : Bool) (x y z : A) → x ≡ cond b y z → x ≡ cond b x z
+pub again : {A : Type 0} (b : Bool) (x y z : A) → x ≡ cond b y z → x ≡ cond b x z
 again true x y z e = refl
 again false x y z e = e
 

@@ -3,6 +3,8 @@ pub mod PackedLaws
 pub mod CellLaws
 pub mod DeskLaws
 pub mod DeskRefused
+pub mod DeskServed
+pub mod DeskRuns
 pub mod Unloaded
 pub mod SpanParts
 pub mod Unique
