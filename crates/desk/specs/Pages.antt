@@ -48,6 +48,17 @@ sum-last [] (suc n) = refl
 sum-last (x ∷ xs) zero = omega arith
 sum-last (x ∷ xs) (suc n) = omega (arith, sum-last xs n)
 
+entry-upto : (xs : List ℕ) (n i : ℕ) → i < n → getD xs i 0 ≤ sum (take n xs)
+entry-upto xs zero i h = absurd (omega arith)
+entry-upto [] (suc n) i h = omega arith
+entry-upto (x ∷ xs) (suc n) zero h = omega arith
+entry-upto (x ∷ xs) (suc n) (suc i) h = omega (arith, entry-upto xs n i (omega arith))
+
+-- no page held has more letters than all of them
+pub page-within : (d : Desk) (i n : ℕ) → n ≡ getD (d .lengths) i 0 → i < d .count → n ≤ held d
+unfolding held lengths-held
+page-within d i n e h = omega (arith, e, entry-upto (d .lengths) (d .count) i h)
+
 module _ (d : Desk) (h : 1 ≤ d .count) where
   -- the letters held without the last page
   pub less-held : held d ≡ held (without-page d) + getD (d .lengths) (d .count - 1) 0

@@ -75,8 +75,8 @@ pub(crate) fn limits_held(desk: Desk, letters: &[u8]) -> Limits
     let from = Pattern::MAX_LETTERS - held;
     let end = Pattern::MAX_LETTERS;
     let bad = first_bad(&letters[from..end]);
-    if bad < held {
-        return Limits::Broken;
+    if held <= bad {
+        return Limits::Kept(held);
     }
-    Limits::Kept(held)
+    Limits::Broken
 }

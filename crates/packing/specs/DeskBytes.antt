@@ -28,7 +28,7 @@ abbrev pub bytes-of-desk : Desk → List ℕ
 bytes-of-desk d = d .count ∷ d .lengths
 
 -- what a desk of another length is answered: 13, at opening behind 2 and 6, at putting and withdrawing behind 2 and 9
-abbrev pub other-opened : Pattern → (words : ℕ) → Answer
+unfoldable pub other-opened : Pattern → (words : ℕ) → Answer
 other-opened p words = first-of desk-refused (open-order p words) (desk-refused DeskLimits)
 
 abbrev pub other-held : Pattern → (cells : ℕ) → Answer

@@ -157,10 +157,13 @@ module _ (bytes : List ℕ) (h : length bytes ≡ desk-bytes → ⊥) (p : Patte
 -- ── `of_other_length` ──
 module _ (p : Pattern) (words : ℕ) where
   pub other-2 : obeys p ≡ false → desk-refused (Base (Tree-fault 0)) ≡ other-opened p words
+  unfolding other-opened
   other-2 e = rw e
 
   pub other-6 : obeys p ≡ true → words < 2 → desk-refused (Base (WordsTooShort 2)) ≡ other-opened p words
+  unfolding other-opened
   other-6 e h = rw (e, lt-ltb words 2 h)
 
   pub other-13 : obeys p ≡ true → 2 ≤ words → desk-refused DeskLimits ≡ other-opened p words
+  unfolding other-opened
   other-13 e h = rw (e, le-ltb words 2 h)

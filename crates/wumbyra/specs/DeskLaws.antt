@@ -1,5 +1,5 @@
 -- Laws of the page desk's calls from C: one for each way of the code.
-use mathlib.Core.Path.{_≡_, sym, ap, subst, _∙_}
+use mathlib.Core.Path.{_≡_, sym, ap, ap₂, subst, _∙_}
 use mathlib.Core.Bool.{false, true≢false, not, cond}
 use mathlib.Core.List.{List, [], _∷_, _++_}
 use Prim.Native.Nat.{ℕ}
@@ -33,7 +33,7 @@ module _ (p : Pattern) (words bytes : ℕ) where
 
   module _ (h : bytes ≡ desk-bytes → ⊥) where
     pub open-other : desk-open-answer p words bytes ≡ other-opened p words
-    unfolding desk-open-answer
+    unfolding desk-open-answer other-opened
     open-other = rw (ne-eqb bytes desk-bytes h)
 
     pub open-other-refused : eqb (desk-open-answer p words bytes .number) 0 ≡ false
@@ -45,15 +45,15 @@ module _ (p : Pattern) (words bytes : ℕ) where
         ∙ clear-parts (open-order p words) behind (zero-said desk-refused desk-number-positive (open-order p words ++ behind) (answer 0 0) z) .1 .0))
 
 module _ (text : List ℕ) (l : Loaded) (g : Loads text l) (desk marks : List ℕ) (r : ℕ) where
-  pub open-packed-other : (length desk ≡ desk-bytes → ⊥) → unpacked r ≡ other-opened (l .pattern) (length marks) → Desk-opens-text text desk desk marks marks r
-  open-packed-other h e =
+  pub open-packed-other : (length desk ≡ desk-bytes → ⊥) → (words : ℕ) → unpacked r ≡ other-opened (l .pattern) words → words ≡ length marks
+      → Desk-opens-text text desk desk marks marks r
+  open-packed-other h words e w =
       let p = load-table text in
       let said = desk-open-answer p (length marks) (length desk) in
       let not-said : eqb (said .number) 0 ≡ false = open-other-refused p (length marks) (length desk) h in
       record {
         answers =
-            e ∙ ap (λ q. other-opened q (length marks)) (g .gives)
-            ∙ sym (open-other p (length marks) (length desk) h);
+            e ∙ ap₂ other-opened (g .gives) w ∙ sym (open-other p (length marks) (length desk) h);
         leaves = sym (ap (λ b. cond b (bytes-of-desk empty-desk) desk) not-said);
         marks-left = sym (ap (λ b. cond b (in-front (tail-words p []) marks) marks) not-said);
       }

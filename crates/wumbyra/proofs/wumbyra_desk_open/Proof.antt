@@ -1,4 +1,5 @@
 -- `wumbyra::wumbyra_desk_open` meets its contract.
+use mathlib.Core.Path.{refl}
 use Rattle.wumbyra.specs.DeskLaws.{open-packed-other, open-packed}
 use borrow.Author.Needs.{needs}
 use Rattle.wumbyra.proofs.wumbyra_desk_open.Statement.{statement}
@@ -13,7 +14,8 @@ of-other-length-requires c κs = search needs
 returns : tie.Need-returns
 returns c =
     let at-load = c .before .before in
-    open-packed-other _ _ (at-load .load .ensures) _ _ _ (c .before .if1 .taken) (c .of-other-length .ensures)
+    let start = at-load .before .before .before .before in
+    open-packed-other _ _ (at-load .load .ensures) _ (start .args .marks .now) _ (c .before .if1 .taken) _ (c .of-other-length .ensures) refl
 
 desk-of-requires : tie.Need-desk-of-requires
 desk-of-requires c κs = search needs

@@ -45,14 +45,14 @@ returns-2 : tie.Need-returns-2
 returns-2 c =
     let told = c .before .before .before .before in
     let start = told .before .before .before .before .before .before .before in
-    held-bad _ (start .args .letters .now) _ (told .before .before .limits-of .ensures) _ (told .limits .given .1) _ _ (c .before .first-bad .ensures) refl
+    held-good _ (start .args .letters .now) _ (told .before .before .limits-of .ensures) _ (told .limits .given .1) _ _ (c .before .first-bad .ensures) refl
     (start .pre) (c .if1 .taken)
 
 returns-3 : tie.Need-returns-3
 returns-3 c =
     let told = c .before .before .before .before in
     let start = told .before .before .before .before .before .before .before in
-    held-good _ (start .args .letters .now) _ (told .before .before .limits-of .ensures) _ (told .limits .given .1) _ _ (c .before .first-bad .ensures) refl
+    held-bad _ (start .args .letters .now) _ (told .before .before .limits-of .ensures) _ (told .limits .given .1) _ _ (c .before .first-bad .ensures) refl
     (start .pre) (c .if1 .left)
 
 pub limits-held-spec : {M : Type 1} → statement M

@@ -1,6 +1,6 @@
 -- `desk::pages::take_page` meets its contract.
 use native.Mathlib.Omega.{arith}
-use Rattle.desk.specs.Pages.{less-held, less-made}
+use Rattle.desk.specs.Pages.{page-within, less-made}
 use borrow.Author.Needs.{needs}
 use Rattle.desk.proofs.pages.take_page.Statement.{statement}
 use Rattle.desk.proofs.pages.take_page.Tie as tie
@@ -20,7 +20,7 @@ page-size-requires c κs = search needs
 sub-left : tie.Need-sub-left
 sub-left c =
     let start = c .before .before .before in
-    omega (arith, c .page-size .ensures, start .pre .2, less-held (start .args .desk) (start .pre .0))
+    omega (arith, start .pre .2, page-within (start .args .desk) _ _ (c .page-size .ensures) (omega (arith, start .pre .0)))
 
 cast-t13 : tie.Need-cast-t13
 cast-t13 c = record { fits = omega (arith, c .before .before .before .pre .3) }
