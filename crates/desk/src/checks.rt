@@ -1,9 +1,9 @@
-// The checks of a call, in 02's order.
+// The checks of a put, in 02's order.
 ghost use mathlib.Core.Path.{_≡_};
 ghost use Prim.Native.Nat.{_≤_};
 ghost use lib.ListN.{length};
 ghost use Rattle.syntax.specs.Letter.{letter-limit};
-ghost use Rattle.desk.specs.Desks.{held, put-order, withdraw-order};
+ghost use Rattle.desk.specs.Desks.{held, put-order};
 ghost use Rattle.desk.specs.Limits.{put-limits};
 ghost use Rattle.desk.specs.Checking.{Checks};
 use crate::Desk;
@@ -63,25 +63,6 @@ pub(crate) fn check_put(
     let needed = 2 * (held + n + 1);
     if words < needed {
         return Checked::Refused(DeskRefusal::Base(Refusal::WordsTooShort(needed as u32)));
-    }
-    Checked::Held(held)
-}
-
-pub(crate) fn check_withdraw(desk: Desk, p: Pattern, letters: &[u8]) -> Checked
-    ensures { λ r. ⌜ Checks (withdraw-order desk p (now (letters .entry))) (held desk) r ⌝ }
-{
-    if !obeys_rules(p) {
-        return Checked::Refused(DeskRefusal::Base(Refusal::Tree(0)));
-    }
-    if letters.len() < Pattern::MAX_LETTERS {
-        return Checked::Refused(DeskRefusal::Base(Refusal::TapeTooShort(3600)));
-    }
-    let limits = limits_held(desk, letters);
-    let Limits::Kept(held) = limits else {
-        return Checked::Refused(DeskRefusal::DeskLimits);
-    };
-    if desk.count == 0 {
-        return Checked::Refused(DeskRefusal::DeskEmpty);
     }
     Checked::Held(held)
 }

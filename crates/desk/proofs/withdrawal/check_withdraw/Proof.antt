@@ -1,10 +1,10 @@
--- `desk::checks::check_withdraw` meets its contract.
+-- `desk::withdrawal::check_withdraw` meets its contract.
 use mathlib.Core.Path.{sym, _∙_}
 use borrow.Author.Tests.{not-true, not-false}
 use Rattle.desk.specs.Checking.{withdraw-2, withdraw-9, withdraw-13, withdraw-15, withdraw-clear}
 use borrow.Author.Needs.{needs}
-use Rattle.desk.proofs.checks.check_withdraw.Statement.{statement}
-use Rattle.desk.proofs.checks.check_withdraw.Tie as tie
+use Rattle.desk.proofs.withdrawal.check_withdraw.Statement.{statement}
+use Rattle.desk.proofs.withdrawal.check_withdraw.Tie as tie
 
 obeys-rules-requires : tie.Need-obeys-rules-requires
 obeys-rules-requires c κs = search needs
