@@ -1,6 +1,6 @@
 -- Inputs for which two causes hold: which of them a put answers, whatever the rest of the input is.
-use mathlib.Core.Path.{_≡_, refl, ap, _∙_}
-use mathlib.Core.Bool.{Bool, true, false, _&&_, not}
+use mathlib.Core.Path.{_≡_, ap, _∙_}
+use mathlib.Core.Bool.{true, false, _&&_, not, and-false}
 use mathlib.Core.List.{List}
 use Prim.Native.Nat.{ℕ, _≤_, _<_}
 use borrow.Author.Tests.{lt-ltb, le-ltb, le-leb, lt-leb}
@@ -14,10 +14,6 @@ use Rattle.desk.specs.declared.Desk.{Desk}
 use Rattle.desk.specs.declared.DeskRefusal.the-variants.{Base, DeskLimits, DeskFull}
 use Rattle.desk.specs.Desks.{page-limit, good-page, every, lengths-held, letters-held, limits-kept, desk-good, put-order}
 
-and-no : (b : Bool) → (b && false) ≡ false
-and-no true = refl
-and-no false = refl
-
 module _ (d : Desk) (p : Pattern) (page letters : List ℕ) (words : ℕ) (table : obeys p ≡ true) (cells : letter-limit ≤ length letters) where
   -- a page of a wrong length is 13 on a full desk too
   pub wrong-page : good-page (length page) ≡ false → First DeskLimits (put-order d p page letters words)
@@ -30,7 +26,7 @@ module _ (d : Desk) (p : Pattern) (page letters : List ℕ) (words : ℕ) (table
   over-full h =
       past (ap not table) (past (le-ltb (length letters) letter-limit cells)
       (here (ap (λ b. not (good-page (length page) && ((b && every good-page (lengths-held d)) && every is-letter (letters-held d letters))))
-      (lt-leb (d .count) page-limit h) ∙ ap not (and-no (good-page (length page))))))
+      (lt-leb (d .count) page-limit h) ∙ ap not (and-false (good-page (length page))))))
 
   module _ (right : (good-page (length page) && desk-good d letters) ≡ true) where
     -- a bad letter on a full desk is 14

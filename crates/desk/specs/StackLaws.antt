@@ -1,7 +1,7 @@
 -- THE DESK IS A STACK. 02: "From an opening, while nothing but its calls writes desk and letters, the desk answers any run of calls as a plain
 -- stack of pages would, each accepted one with the count of letters then held, and its letters are those pages joined, the last put first."
 use mathlib.Core.Path.{_≡_, refl, sym, ap, ap₂, subst, _∙_}
-use mathlib.Core.Bool.{Bool, true, false, _&&_, not, cond, true≢false}
+use mathlib.Core.Bool.{Bool, true, false, _&&_, not, cond, true≢false, and-true}
 use mathlib.Core.List.{List, [], _∷_}
 use Prim.Native.Nat.{ℕ, _+_, _-_}
 use native.Mathlib.Omega.{arith}
@@ -82,10 +82,6 @@ module _ (cells : ℕ) (s : Stack) (d e : Desk) (letters : List ℕ) (h : Holds 
       (ap (open-answer p) w) (λ z. subst (λ n. Holds n [] empty-desk letters) (h .size) (empty-holds letters)) h
 
 -- putting
-and-true : (b : Bool) → (b && true) ≡ b
-and-true true = refl
-and-true false = refl
-
 -- the answer of a put, by the numbers that a desk and a stack may tell
 abbrev put-by : Pattern → (page : List ℕ) → (cells : ℕ) → (wrong : Bool) → (count letters words success : ℕ) → Answer
 put-by p page cells wrong count letters words success =

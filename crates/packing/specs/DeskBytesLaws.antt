@@ -1,6 +1,6 @@
 -- Laws of a desk in bytes: each form gives the other back, what a desk of another length is answered, and one law for each way of the code.
 use mathlib.Core.Path.{_≡_, refl, sym, ap, _∙_}
-use mathlib.Core.Bool.{Bool, true, false, true≢false, _&&_, not, cond}
+use mathlib.Core.Bool.{Bool, true, false, true≢false, _&&_, not, cond, and-false}
 use mathlib.Core.List.{List, [], _∷_, _++_, append-nil}
 use Prim.Native.Nat.{ℕ, suc, _+_, _-_, _≤_, _<_}
 use native.Mathlib.Omega.{arith}
@@ -118,17 +118,13 @@ broken-bad : (letters : List ℕ) → desk-good broken-desk letters ≡ false
 unfolding desk-good limits-kept
 broken-bad letters = refl
 
-and-no : (b : Bool) → (b && false) ≡ false
-and-no true = refl
-and-no false = refl
-
 module _ (bytes : List ℕ) (h : length bytes ≡ desk-bytes → ⊥) (p : Pattern) (letters : List ℕ) where
   other-bad : desk-good (desk-of-bytes bytes) letters ≡ false
   other-bad = ap (λ d. desk-good d letters) (sym (desk-other bytes h)) ∙ broken-bad letters
 
   module _ (page : List ℕ) (words : ℕ) where
     wrong : not (good-page (length page) && desk-good (desk-of-bytes bytes) letters) ≡ true
-    wrong = ap (λ b. not (good-page (length page) && b)) other-bad ∙ ap not (and-no (good-page (length page)))
+    wrong = ap (λ b. not (good-page (length page) && b)) other-bad ∙ ap not (and-false (good-page (length page)))
 
     pub put-other : put-answer (desk-of-bytes bytes) p page letters words ≡ other-held p (length letters)
     unfolding put-answer

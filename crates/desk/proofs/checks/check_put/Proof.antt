@@ -1,7 +1,11 @@
 -- `desk::checks::check_put` meets its contract.
 use mathlib.Core.Path.{refl, sym, _∙_}
+use Prim.Native.Nat.{_≤_}
 use native.Mathlib.Omega.{arith}
 use borrow.Author.Tests.{not-true, not-false}
+use lib.ListN.{length}
+use Rattle.syntax.specs.Letter.{letter-limit}
+use Rattle.desk.specs.Desks.{page-letters}
 use Rattle.desk.specs.Checking.{put-2, put-9, put-13, put-14, put-4, put-6, put-clear, put-few}
 use borrow.Author.Needs.{needs}
 use Rattle.desk.proofs.checks.check_put.Statement.{statement}
@@ -59,18 +63,23 @@ returns-4 c =
 first-bad-requires : tie.Need-first-bad-requires
 first-bad-requires c κs = search needs
 
-cast-t20 : tie.Need-cast-t20
-cast-t20 c =
-    let at-limits = c .before .before .before .before .before in
+-- the bounds that the sums need, wherever they are asked for
+few-at : (c : tie.After-first-bad)
+    → (c .before .before .before .before .limits .given .0 .0 ≤ letter-limit)
+    × (length (c .before .before .before .before .before .before .before .before .before .before .before .before .args .page .now) ≤ page-letters)
+few-at c =
+    let at-limits = c .before .before .before .before in
     let at-limits-put = at-limits .before .before in
     let at-if2 = at-limits-put .before in
     let at-if1 = at-if2 .before in
     let at-obeys-rules = at-if1 .before in
     let start = at-obeys-rules .before .before .before in
-    let few = put-few _ _ (start .args .page .now) (start .args .letters .now) (start .args .words)
+    put-few _ _ (start .args .page .now) (start .args .letters .now) (start .args .words)
     (sym (at-obeys-rules .obeys-rules .ensures) ∙ not-false _ (at-if1 .if1 .left)) (at-if2 .if2 .left) _ (at-limits-put .limits-put .ensures) _
-    (at-limits .limits .given .1) in
-    record { fits = omega (arith, few .1) }
+    (at-limits .limits .given .1)
+
+cast-t20 : tie.Need-cast-t20
+cast-t20 c = record { fits = omega (arith, few-at (c .before) .1) }
 
 returns-5 : tie.Need-returns-5
 returns-5 c =
@@ -85,56 +94,16 @@ returns-5 c =
     (at-limits .limits .given .1) (c .before .before .if3 .left) _ (c .before .first-bad .ensures) (c .if4 .taken)
 
 add-needed : tie.Need-add-needed
-add-needed c =
-    let at-limits = c .before .before .before .before .before in
-    let at-limits-put = at-limits .before .before in
-    let at-if2 = at-limits-put .before in
-    let at-if1 = at-if2 .before in
-    let at-obeys-rules = at-if1 .before in
-    let start = at-obeys-rules .before .before .before in
-    let few = put-few _ _ (start .args .page .now) (start .args .letters .now) (start .args .words)
-    (sym (at-obeys-rules .obeys-rules .ensures) ∙ not-false _ (at-if1 .if1 .left)) (at-if2 .if2 .left) _ (at-limits-put .limits-put .ensures) _
-    (at-limits .limits .given .1) in
-    record { fits = omega (arith, few .0, few .1) }
+add-needed c = record { fits = omega (arith, few-at (c .before) .0, few-at (c .before) .1) }
 
 add-needed-2 : tie.Need-add-needed-2
-add-needed-2 c =
-    let at-limits = c .before .before .before .before .before in
-    let at-limits-put = at-limits .before .before in
-    let at-if2 = at-limits-put .before in
-    let at-if1 = at-if2 .before in
-    let at-obeys-rules = at-if1 .before in
-    let start = at-obeys-rules .before .before .before in
-    let few = put-few _ _ (start .args .page .now) (start .args .letters .now) (start .args .words)
-    (sym (at-obeys-rules .obeys-rules .ensures) ∙ not-false _ (at-if1 .if1 .left)) (at-if2 .if2 .left) _ (at-limits-put .limits-put .ensures) _
-    (at-limits .limits .given .1) in
-    record { fits = omega (arith, few .0, few .1) }
+add-needed-2 c = record { fits = omega (arith, few-at (c .before) .0, few-at (c .before) .1) }
 
 mul-needed : tie.Need-mul-needed
-mul-needed c =
-    let at-limits = c .before .before .before .before .before in
-    let at-limits-put = at-limits .before .before in
-    let at-if2 = at-limits-put .before in
-    let at-if1 = at-if2 .before in
-    let at-obeys-rules = at-if1 .before in
-    let start = at-obeys-rules .before .before .before in
-    let few = put-few _ _ (start .args .page .now) (start .args .letters .now) (start .args .words)
-    (sym (at-obeys-rules .obeys-rules .ensures) ∙ not-false _ (at-if1 .if1 .left)) (at-if2 .if2 .left) _ (at-limits-put .limits-put .ensures) _
-    (at-limits .limits .given .1) in
-    record { fits = omega (arith, few .0, few .1) }
+mul-needed c = record { fits = omega (arith, few-at (c .before) .0, few-at (c .before) .1) }
 
 cast-t24 : tie.Need-cast-t24
-cast-t24 c =
-    let at-limits = c .before .before .before .before .before .before in
-    let at-limits-put = at-limits .before .before in
-    let at-if2 = at-limits-put .before in
-    let at-if1 = at-if2 .before in
-    let at-obeys-rules = at-if1 .before in
-    let start = at-obeys-rules .before .before .before in
-    let few = put-few _ _ (start .args .page .now) (start .args .letters .now) (start .args .words)
-    (sym (at-obeys-rules .obeys-rules .ensures) ∙ not-false _ (at-if1 .if1 .left)) (at-if2 .if2 .left) _ (at-limits-put .limits-put .ensures) _
-    (at-limits .limits .given .1) in
-    record { fits = omega (arith, few .0, few .1) }
+cast-t24 c = record { fits = omega (arith, few-at (c .before .before) .0, few-at (c .before .before) .1) }
 
 returns-6 : tie.Need-returns-6
 returns-6 c =
