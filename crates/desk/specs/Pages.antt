@@ -1,10 +1,9 @@
--- What the functions on pages do, and the laws of their loop.
-use mathlib.Core.Path.{_≡_, refl, sym, ap, ap₂, _∙_}
+-- What the functions on pages do.
+use mathlib.Core.Path.{_≡_, refl, ap, _∙_}
 use mathlib.Core.List.{List, [], _∷_}
 use Prim.Native.Nat.{ℕ, zero, suc, _+_, _-_, _≤_, _<_}
 use native.Mathlib.Omega.{arith}
-use lib.ListN.{length, getD, take, drop, set, drop-of-length-le, length-set}
-use lib.Seq.{drop-cons, sets}
+use lib.ListN.{getD, take, set}
 use Rattle.desk.specs.declared.Desk.{Desk}
 use Rattle.desk.specs.declared.Desked.the-variants.{Letters}
 use Rattle.desk.specs.declared.Changed.{Changed}
@@ -13,30 +12,6 @@ use Rattle.desk.specs.Desks.{sum, lengths-held, held, with-page, without
 -- the desk without its last page, and the letters then held
 abbrev pub less-page : Desk → Changed
 less-page d = record { desk = without-page d; answer = Letters (held (without-page d)) }
-
--- ── `copy_bytes`: what is left to copy gives what was to be copied ──
-pub record Copying (page old now : List ℕ) (at i : ℕ) : Type 0 where
-  pub within : i ≤ length page
-  pub size : length now ≡ length old
-  pub rest : sets now (at + i) (drop i page) ≡ sets old at page
-
-pub copying-start : (page old : List ℕ) (at : ℕ) → Copying page old old at 0
-copying-start page old at = record { within = omega arith; size = refl; rest = let e : at + 0 ≡ at = omega arith in ap (λ k. sets old k page) e }
-
-module _ (page old now : List ℕ) (at i : ℕ) (c : Copying page old now at i) where
-  pub copying-end : length page ≤ i → now ≡ sets old at page
-  copying-end h = ap (sets now (at + i)) (sym (drop-of-length-le page h)) ∙ c .rest
-
-  pub copying-next : i < length page → Copying page old (set now (at + i) (getD page i 0)) at (i + 1)
-  copying-next h =
-      let j : suc i ≡ i + 1 = omega arith in
-      let k : suc (at + i) ≡ at + (i + 1) = omega arith in
-      record {
-        within = omega arith;
-        size = length-set now (at + i) (getD page i 0) ∙ c .size;
-        rest = ap₂ (λ n m. sets (set now (at + i) (getD page i 0)) n (drop m page)) (sym k) (sym j)
-            ∙ ap (sets now (at + i)) (sym (drop-cons page i 0 h)) ∙ c .rest;
-      }
 
 -- ── `with_page`, `take_page` ──
 pub with-page-made : (d : Desk) (n : ℕ) → record { count = d .count + 1; lengths = set (d .lengths) (d .count) n } ≡ with-page d n

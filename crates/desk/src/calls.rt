@@ -9,7 +9,6 @@ use crate::DeskRefusal;
 use crate::Desked;
 use crate::checks::Checked;
 use crate::checks::check_put;
-use crate::pages::copy_bytes;
 use crate::pages::take_page;
 use crate::pages::with_page;
 use crate::withdrawal::check_withdraw;
@@ -19,6 +18,7 @@ use refusals::Refusal;
 use syntax::Pattern;
 use syntax::obeys_rules;
 use table::table_of;
+use text::put_bytes;
 
 // A call that is refused leaves the desk as it was.
 fn unchanged(desk: Desk, why: DeskRefusal) -> Changed
@@ -68,7 +68,7 @@ fn put_on(
     let total = behind + n;
     let table = table_of(p);
     grow(p, &table, page, behind, marks);
-    copy_bytes(page, letters, Pattern::MAX_LETTERS - total);
+    put_bytes(letters, Pattern::MAX_LETTERS - total, page);
     Changed {
         desk: with_page(desk, n),
         answer: Desked::Letters(total as u32),

@@ -6,14 +6,13 @@ ghost use Rattle.desk.specs.Desks.{desk-number, desk-value, Opens, Puts,
 mod calls; // calls.rt: the calls on a desk by value
 mod checks; // checks.rt: the checks of a put, in 02's order
 mod limits; // limits.rt: what a desk holds, and whether it keeps the limits
-mod pages; // pages.rt: a page's letters and its length
+mod pages; // pages.rt: the length of a page
 mod withdrawal; // withdrawal.rt: the checks of a withdrawal, in 02's order
 
 // A caller that holds a desk in another form, as in bytes, calls these and stores the desk that comes back.
 pub use calls::open_desk;
 pub use calls::put_page;
 pub use calls::withdraw_page;
-pub use pages::copy_bytes;
 use refusals::Refusal;
 use refusals::number_of;
 use refusals::value_of;

@@ -1,8 +1,6 @@
-// Pages: a page's letters go before those held, its length behind the others.
+// Pages: the length of a page goes behind the others.
 ghost use mathlib.Core.Path.{_≡_};
-ghost use Prim.Native.Nat.{_+_, _≤_, _<_};
-ghost use lib.ListN.{length};
-ghost use lib.Seq.{sets};
+ghost use Prim.Native.Nat.{_≤_, _<_};
 ghost use Rattle.syntax.specs.Letter.{letter-limit};
 ghost use Rattle.desk.specs.Desks.{page-limit, page-letters, held, with-page};
 ghost use Rattle.desk.specs.Pages.{less-page};
@@ -10,18 +8,6 @@ use crate::Changed;
 use crate::Desk;
 use crate::Desked;
 use crate::limits::page_size;
-
-// Copies bytes to the cells from `at` on.
-pub fn copy_bytes(bytes: &[u8], cells: &mut [u8], at: usize)
-    requires { ⌜ at + length (now bytes) ≤ length (now cells) ⌝ }
-    ensures { λ _. ⌜ now (cells .exit) ≡ sets (now (cells .entry)) at (now (bytes .entry)) ⌝ }
-{
-    let mut i = 0;
-    while i < bytes.len() {
-        cells[at + i] = bytes[i];
-        i += 1;
-    }
-}
 
 // The desk with one more page, of n letters.
 pub(crate) fn with_page(desk: Desk, n: usize) -> Desk

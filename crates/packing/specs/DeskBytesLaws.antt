@@ -66,9 +66,6 @@ module _ (d : Desk) (bytes : List ℕ) where
   unfolding desk-laid
   laid-other h = rw (ne-eqb (length bytes) desk-bytes h)
 
-  pub laid-room : length bytes ≡ desk-bytes → length (d .lengths) ≡ page-limit → 1 + length (d .lengths) ≤ length (set bytes 0 (d .count))
-  laid-room e s = omega (arith, e, s, length-set bytes 0 (d .count))
-
   pub laid-right : length bytes ≡ desk-bytes → length (d .lengths) ≡ page-limit → (now : List ℕ) → now ≡ sets (set bytes 0 (d .count)) 1 (d .lengths)
       → now ≡ desk-laid d bytes
   unfolding desk-laid

@@ -5,10 +5,10 @@ ghost use Rattle.packing.specs.DeskBytes.{desk-of-bytes, other-opened, d
 use crate::of_desk_refusal;
 use desk::Desk;
 use desk::DeskRefusal;
-use desk::copy_bytes;
 use refusals::Refusal;
 use syntax::Pattern;
 use syntax::obeys_rules;
+use text::put_bytes;
 
 // The bytes of a desk.
 pub const DESK_BYTES: usize = 31;
@@ -23,7 +23,7 @@ pub fn desk_of(bytes: &[u8]) -> Desk
         return Desk { count: 31, lengths };
     }
     let from = 1;
-    copy_bytes(&bytes[from..end], &mut lengths, 0);
+    put_bytes(&mut lengths, 0, &bytes[from..end]);
     Desk {
         count: bytes[0],
         lengths,
@@ -39,7 +39,7 @@ pub fn put_desk(desk: Desk, bytes: &mut [u8])
     }
     let lengths = desk.lengths;
     bytes[0] = desk.count;
-    copy_bytes(&lengths, bytes, 1);
+    put_bytes(bytes, 1, &lengths);
 }
 
 // What an opening answers where the bytes of the desk are of another number: 2 and 6 come before it.

@@ -1,6 +1,6 @@
 -- `desk::calls::put_on` meets its contract.
 use native.Mathlib.Omega.{arith}
-use Rattle.desk.specs.Checking.{put-room, put-page-upto, put-cells}
+use Rattle.desk.specs.Checking.{put-room, put-page-upto}
 use Rattle.desk.specs.DeskWays.{put-rules, behind-upto, put-growable, put-made}
 use borrow.Author.Needs.{needs}
 use Rattle.desk.proofs.calls.put_on.Statement.{statement}
@@ -23,19 +23,15 @@ grow-requires c κs =
     let start = c .before .before .before .before .before .before in
     (put-growable (start .args .p) (start .args .desk) (start .args .page .now) (start .args .letters .now) (start .args .marks .now) (start .pre .0) _ (start .pre .1), c .before .before .table-of .ensures)
 
-sub-copy-bytes : tie.Need-sub-copy-bytes
-sub-copy-bytes c =
+sub-put-bytes : tie.Need-sub-put-bytes
+sub-put-bytes c =
     let start = c .before .before .before .before .before .before .before .before .before .before in
     let few = behind-upto (start .args .p) (start .args .desk) (start .args .page .now) (start .args .letters .now) (start .args .marks .now)
     (start .pre .0) _ (start .pre .1) in
     omega (arith, few)
 
-copy-bytes-requires : tie.Need-copy-bytes-requires
-copy-bytes-requires c κs =
-    let start = c .before .before .before .before .before .before .before .before .before .before in
-    let few = behind-upto (start .args .p) (start .args .desk) (start .args .page .now) (start .args .letters .now) (start .args .marks .now)
-    (start .pre .0) _ (start .pre .1) in
-    omega (arith, few, put-cells (start .args .desk) (start .args .p) (start .args .page .now) (start .args .letters .now) _ (start .pre .0))
+put-bytes-requires : tie.Need-put-bytes-requires
+put-bytes-requires c κs = search needs
 
 with-page-requires : tie.Need-with-page-requires
 with-page-requires c κs =
@@ -44,8 +40,8 @@ with-page-requires c κs =
       put-page-upto (start .args .desk) (start .args .p) (start .args .page .now) (start .args .letters .now) _ (start .pre .0),
     )
 
-cast-t19 : tie.Need-cast-t19
-cast-t19 c =
+cast-t20 : tie.Need-cast-t20
+cast-t20 c =
     let start = c .before .before .before .before .before .before .before .before .before .before .before .before .before .before in
     let few = behind-upto (start .args .p) (start .args .desk) (start .args .page .now) (start .args .letters .now) (start .args .marks .now)
     (start .pre .0) _ (start .pre .1) in
@@ -59,11 +55,11 @@ same-length-2 c = search needs
 
 returns : tie.Need-returns
 returns c =
-    let at-copy-bytes = c .before .before .before in
-    let at-grow = at-copy-bytes .before .before .before .before in
+    let at-put-bytes = c .before .before .before in
+    let at-grow = at-put-bytes .before .before .before .before in
     let start = at-grow .before .before .before .before .before .before .before in
     put-made (start .args .p) (start .args .desk) (start .args .page .now) (start .args .letters .now) (start .args .marks .now) (start .pre .0) _
-    (start .pre .1) _ _ _ (c .with-page .ensures) (at-copy-bytes .copy-bytes .ensures) (at-grow .grow .ensures)
+    (start .pre .1) _ _ _ (c .with-page .ensures) (at-put-bytes .put-bytes .ensures .leaves) (at-grow .grow .ensures)
 
 pub put-on-spec : {M : Type 1} → statement M
 put-on-spec =
@@ -72,10 +68,10 @@ put-on-spec =
     add-total
     table-of-requires
     grow-requires
-    sub-copy-bytes
-    copy-bytes-requires
+    sub-put-bytes
+    put-bytes-requires
     with-page-requires
-    cast-t19
+    cast-t20
     same-length
     same-length-2
     returns)
