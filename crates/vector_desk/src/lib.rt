@@ -14,7 +14,9 @@ use calls::run_step;
 use text::least;
 use vector_text::ALL_WORDS;
 use vector_text::BYTE_BEFORE;
+use vector_text::MAX_TEXT;
 use vector_text::WORD_BEFORE;
+use vector_text::decode;
 
 // Cells of the array whose start is lent for letters, and bytes of a desk.
 const ALL_LETTERS: usize = 3700;
@@ -44,10 +46,12 @@ fn run_steps(
     }
 }
 
-// `size` bytes of `text` are the pattern's text of the first call; `line` is what stands behind it.
-pub fn run_desk(text: &mut [u8], size: usize, line: &[u8]) {
+// `digits` are the pattern's text of the first call; `line` is what stands behind it.
+pub fn run_desk(digits: &[u8], line: &[u8]) {
+    let mut text = [0u8; MAX_TEXT];
+    let size = decode(digits, &mut text);
     let mut desk = [BYTE_BEFORE; DESK_BYTES];
     let mut letters = [BYTE_BEFORE; ALL_LETTERS];
     let mut marks = [WORD_BEFORE; ALL_WORDS];
-    run_steps(text, size, line, &mut desk, &mut letters, &mut marks);
+    run_steps(&mut text, size, line, &mut desk, &mut letters, &mut marks);
 }

@@ -27,6 +27,7 @@ pub use report::ALL_WORDS;
 pub use report::BYTE_BEFORE;
 pub use report::MAX_CODE;
 pub use report::MAX_TAPE;
+pub use report::MAX_TEXT;
 pub use report::WORD_BEFORE;
 pub use report::print_line;
 pub use report::say_bad;

@@ -5,7 +5,9 @@ ghost use lib.Seq.{sets};
 use libc::STDOUT_FILENO;
 use text::put_byte;
 
-// Bytes held of a tape, and of a code.
+// Bytes held of a pattern's text, of a tape, and of a code.
+pub const MAX_TEXT: usize = 3072;
+
 pub const MAX_TAPE: usize = 4096;
 
 pub const MAX_CODE: usize = 4096;

@@ -20,6 +20,7 @@ use vector_codes::run_span;
 use vector_codes::run_term;
 use vector_desk::run_desk;
 use vector_text::Input;
+use vector_text::MAX_TEXT;
 use vector_text::advance;
 use vector_text::decode;
 use vector_text::field;
@@ -28,10 +29,8 @@ use vector_text::number;
 use vector_text::rest;
 use vector_text::say_bad;
 
-// Bytes held of a line, and of a pattern's text.
+// Bytes held of a line.
 const MAX_LINE: usize = 20480;
-
-const MAX_TEXT: usize = 3072;
 
 // The greatest account that a table has room for.
 const MAX_STORED: u32 = 255;
@@ -88,7 +87,7 @@ fn run_case(line: &[u8]) {
     }
     let kind = line[0];
     if kind == b'd' {
-        run_desk(&mut text, size, rest(fields));
+        run_desk(digits, rest(fields));
         return;
     }
     run_kind(kind, load(&text[..size]), rest(fields));
