@@ -25,8 +25,8 @@ use Rattle.fields.specs.Text.{
   row-line,
   forms,
 }
-use Rattle.syntax.specs.Table.{account-limit, one-digit-limit, no-lines, line-good, wrongly-names, unnamed, tree-fault, obeys}
-use Rattle.loading.specs.Load.{table, load-answer, load-table}
+use Rattle.syntax.specs.Table.{table, account-limit, one-digit-limit, no-lines, line-good, wrongly-names, unnamed, tree-fault, obeys}
+use Rattle.loading.specs.Load.{load-answer, load-table}
 use Rattle.syntax.specs.Trees.{tree-of, root}
 use Rattle.semantics.specs.Sweeps.{readable, greedy}
 use Rattle.semantics.specs.Accounts.{accounts, litres, total, totals-to, totals}

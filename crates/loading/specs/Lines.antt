@@ -14,8 +14,7 @@ use Rattle.syntax.specs.declared.Pattern.{Pattern}
 use Rattle.scanning.specs.declared.Scanned.{Scanned}
 use Rattle.scanning.specs.declared.Scanned.the-variants.{Line as Scan-line, Fault as No-line}
 use Rattle.fields.specs.Text.{Row, byte-front, row-front, rows, line-of, row-line, Forms, good, fault, line-front, forms}
-use Rattle.syntax.specs.Table.{blank, no-lines}
-use Rattle.loading.specs.Load.{table}
+use Rattle.syntax.specs.Table.{blank, table, no-lines}
 use Rattle.scanning.specs.Scans.{first-fields, first-closed, first-size, scan-of, scan-by, scanned}
 use Rattle.loading.specs.ReadLines.{Reads-lines, lines-front, Read-so-far}
 

@@ -1,12 +1,10 @@
 -- Loading: the answer and the table of every text. Definitions only.
 use mathlib.Core.Path.{_≡_}
 use mathlib.Core.Bool.{not, cond}
-use mathlib.Core.List.{List, [], _∷_, _++_}
+use mathlib.Core.List.{List, [], _∷_}
 use mathlib.Core.Option.{Option, none, some}
-use Prim.Native.Nat.{ℕ, _-_}
+use Prim.Native.Nat.{ℕ}
 use lib.Dec.{eqb}
-use lib.ListN.{length, replicate}
-use Rattle.syntax.specs.declared.Line.{Line}
 use Rattle.syntax.specs.declared.Pattern.{Pattern}
 use Rattle.refusals.specs.declared.Refusal.{Refusal}
 use Rattle.refusals.specs.declared.Refusal.the-variants.{LineForm, Tree}
@@ -16,16 +14,12 @@ use Rattle.loading.specs.declared.Loaded.{Loaded}
 use Rattle.refusals.specs.Refusals.{Answer, answer, refused}
 use Rattle.refusals.specs.Checks.{Check, first-cause}
 use Rattle.fields.specs.Text.{rows, Forms, good, fault, forms}
-use Rattle.syntax.specs.Table.{blank, no-lines, tree-fault, is-none}
+use Rattle.syntax.specs.Table.{table, no-lines, tree-fault, is-none}
 
 -- loading answers 0 and the line count, or a refusal's number and line
 abbrev pub outcome-answer : Outcome → Answer
 outcome-answer (Lines n) = answer 0 n
 outcome-answer (Refused r) = refused r
-
--- 01: "the table of the text: its line count, and each node as its line says"
-unfoldable pub table : List Line → Pattern
-table xs = record { count = length xs; lines = xs ++ replicate (64 - length xs) blank }
 
 -- 01: "The line reported is the first line at fault"; "Empty text is 1 with line 0"
 abbrev pub form-fault : Forms → Option ℕ

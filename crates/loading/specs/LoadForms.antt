@@ -6,12 +6,12 @@ use mathlib.Core.Option.{Option, none, some}
 use Prim.Native.Nat.{ℕ}
 use lib.Dec.{eqb}
 use Rattle.syntax.specs.declared.Pattern.{Pattern}
-use Rattle.syntax.specs.Table.{no-lines, tree-fault, is-none}
+use Rattle.syntax.specs.Table.{table, no-lines, tree-fault, is-none}
 use Rattle.refusals.specs.declared.Refusal.the-variants.{LineForm, Tree}
 use Rattle.refusals.specs.Refusals.{Answer, answer}
 use Rattle.refusals.specs.Checks.{first-cause}
 use Rattle.fields.specs.Text.{rows, Forms, good, fault, forms}
-use Rattle.loading.specs.Load.{table, written, line-at-fault, forms-order, load-answer, load-table}
+use Rattle.loading.specs.Load.{written, line-at-fault, forms-order, load-answer, load-table}
 
 abbrev pub tree-answer : Pattern → Option ℕ → Answer
 tree-answer p none = answer 0 (p .count)

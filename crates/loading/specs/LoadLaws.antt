@@ -15,14 +15,14 @@ use Rattle.syntax.specs.declared.Line.{Line}
 use Rattle.syntax.specs.Letter.{is-letter}
 use Rattle.fields.specs.Text.{place, single, account, when, node-of-none, star-of, node-of-one, range-of, parts-of, node-of-two, node-of, with-account}
 use Rattle.fields.specs.Text.{Row, line-of, row-line, rows, Forms, good, fault, line-front, forms}
-use Rattle.syntax.specs.Table.{blank, no-lines, line-at, node-good, account-limit, line-good, badly-formed, lowest, tree-fault, is-none, obeys}
+use Rattle.syntax.specs.Table.{blank, table, no-lines, line-at, node-good, account-limit, line-good, badly-formed, lowest, tree-fault, is-none, obeys}
 use Rattle.syntax.specs.Lowest.{none-lowest}
 use Rattle.refusals.specs.declared.Refusal.{Refusal}
 use Rattle.refusals.specs.Refusals.{answer}
 use Rattle.refusals.specs.RefusalLaws.{number-positive}
 use Rattle.refusals.specs.Checks.{First}
 use Rattle.refusals.specs.CheckLaws.{first-answered}
-use Rattle.loading.specs.Load.{table, written, load-order, load-answer, load-table, refused-load, Loads}
+use Rattle.loading.specs.Load.{written, load-order, load-answer, load-table, refused-load, Loads}
 use Rattle.loading.specs.LoadForms.{tree-answer, tree-table, forms-answer, forms-table, load-answer-is, load-table-is}
 use Rattle.syntax.specs.TableTest.{good-table}
 use Rattle.loading.specs.Loading.{forms-few}

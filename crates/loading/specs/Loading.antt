@@ -13,9 +13,9 @@ use Rattle.refusals.specs.declared.Refusal.the-variants.{LineForm, Tree}
 use Rattle.loading.specs.declared.Outcome.the-variants.{Lines}
 use Rattle.loading.specs.declared.lines.Read.{Read}
 use Rattle.fields.specs.Text.{Row, rows, row-line, Forms, good, fault, line-front, forms}
-use Rattle.syntax.specs.Table.{tree-fault}
+use Rattle.syntax.specs.Table.{table, tree-fault}
 use Rattle.loading.specs.ReadLines.{read-as, Reads-lines}
-use Rattle.loading.specs.Load.{table, load-answer, load-table, refused-load, Loads}
+use Rattle.loading.specs.Load.{load-answer, load-table, refused-load, Loads}
 use Rattle.loading.specs.LoadForms.{tree-answer, tree-table, forms-answer, forms-table, load-answer-is, load-table-is}
 
 -- ── how many lines are read, and where a form fault can be ──

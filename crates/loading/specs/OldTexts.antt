@@ -11,11 +11,11 @@ use lib.Dec.{eqb, leb, ltb}
 use lib.ListN.{length, getD}
 use Rattle.syntax.specs.declared.Node.{Node}
 use Rattle.syntax.specs.declared.Line.{Line}
-use Rattle.syntax.specs.Table.{blank, line-at, tree-fault, account-limit, one-digit-limit}
+use Rattle.syntax.specs.Table.{blank, table, line-at, tree-fault, account-limit, one-digit-limit}
 use Rattle.fields.specs.Text.{Row, rows, place, single, no-account, account, node-of, with-account, line-of, row-line, Forms, good, fault, line-front, forms}
 use Rattle.fields.specs.AccountLaws.{digit-is, byte-dash, byte-digit}
 use Rattle.loading.specs.declared.Loaded.{Loaded}
-use Rattle.loading.specs.Load.{table, outcome-answer, load-answer, load-table, Loads}
+use Rattle.loading.specs.Load.{outcome-answer, load-answer, load-table, Loads}
 use Rattle.loading.specs.LoadForms.{tree-answer, tree-table, forms-answer, forms-table, load-answer-is, load-table-is}
 use Rattle.loading.specs.LoadLaws.{when-yes, when-is, table-line, table-count}
 use Rattle.loading.specs.OldAccounts.{old-account, line-with, row-with, forms-with, old-forms}

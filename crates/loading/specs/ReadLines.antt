@@ -7,8 +7,7 @@ use Rattle.syntax.specs.declared.Line.{Line}
 use Rattle.syntax.specs.declared.Pattern.{Pattern}
 use Rattle.loading.specs.declared.lines.Read.{Read}
 use Rattle.fields.specs.Text.{rows, Forms, good, fault, forms}
-use Rattle.syntax.specs.Table.{blank}
-use Rattle.loading.specs.Load.{table}
+use Rattle.syntax.specs.Table.{blank, table}
 
 abbrev pub read-as : Forms → Read → Type 0
 read-as (good xs) r = (r .fault ≡ 65) × (r .pattern ≡ table xs)

@@ -16,6 +16,8 @@ pub mod Decode
 pub mod Sweeps
 pub mod Strip
 pub mod Positions
+pub mod Cuts
+pub mod Stands
 -- What is promised: the statements of document 03.
 pub mod Promise
 -- The laws: that the second layer computes what the first says, and what callers need of both.
@@ -35,9 +37,14 @@ pub mod GreedyLaws
 pub mod AutomatonLaws
 pub mod BoundLaws
 pub mod VisitLaws
+pub mod CutLaws
+pub mod AlikeLaws
+pub mod PieceLaws
 pub mod AccountLaws
 pub mod LetterLaws
 pub mod Promised
 -- C1 to C11 and the listing of document 01, and rows for `Z`; chains of accounts.
 pub mod Examples
+pub mod CutCases
+pub mod PieceExamples
 pub mod AccountChains

@@ -41,17 +41,17 @@ pub record Sits {A : Type 0} (w s : List A) (i : ℕ) : Type 0 where
   pub here : length pre ≡ i
 
 module _ {A : Type 0} where
-  sits-cut : {w s : List A} {i : ℕ} → Sits w s i → take (length s) (drop i w) ≡ s
+  pub sits-cut : {w s : List A} {i : ℕ} → Sits w s i → take (length s) (drop i w) ≡ s
   sits-cut {w} {s} {i} p = ap (λ x. take (length s) (drop i x)) (p .whole) ∙ ap (take (length s)) (drop-at (p .pre) (s ++ p .post) i (p .here))
       ∙ take-append-seam s (p .post)
 
-  sits-fits : {w s : List A} {i : ℕ} → Sits w s i → i + length s ≤ length w
+  pub sits-fits : {w s : List A} {i : ℕ} → Sits w s i → i + length s ≤ length w
   sits-fits {w} {s} {i} p = omega (arith, p .here, simp length-append at (ap length (p .whole)))
 
-  sits-left : {w : List A} (a b : List A) {i : ℕ} → Sits w (a ++ b) i → Sits w a i
+  pub sits-left : {w : List A} (a b : List A) {i : ℕ} → Sits w (a ++ b) i → Sits w a i
   sits-left a b p = record { pre = p .pre; post = b ++ p .post; whole = p .whole ∙ ap (λ x. p .pre ++ x) (append-assoc a b (p .post)); here = p .here }
 
-  sits-right : {w : List A} (a b : List A) {i : ℕ} → Sits w (a ++ b) i → Sits w b (i + length a)
+  pub sits-right : {w : List A} (a b : List A) {i : ℕ} → Sits w (a ++ b) i → Sits w b (i + length a)
   sits-right a b {i} p = record {
     pre = p .pre ++ a;
     post = p .post;
@@ -89,7 +89,7 @@ module _ (root : Tree) (w : List ℕ) where
 pub all-shown : (t : Tree) (v : Value t) → All (Shows t (flat t v)) (visits t v 0)
 all-shown t v = visits-shown t (flat t v) t top v 0 (record { pre = []; post = []; whole = sym (append-nil (flat t v)); here = refl })
 
-nth-all : {A : Type 0} (P : A → Type 0) (k : ℕ) (xs : List A) (x : A) → All P xs → nth k xs ≡ some x → P x
+pub nth-all : {A : Type 0} (P : A → Type 0) (k : ℕ) (xs : List A) (x : A) → All P xs → nth k xs ≡ some x → P x
 nth-all P k [] x h e = absurd (Option·none-ne-some x e)
 nth-all P zero (y ∷ xs) x h e = subst P (Option·some-injective y x e) (h .0)
 nth-all P (suc k) (y ∷ xs) x h e = nth-all P k xs x (h .1) e

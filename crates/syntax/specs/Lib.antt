@@ -4,8 +4,12 @@ pub mod LetterLaws
 pub mod Tree
 pub mod Table
 pub mod Trees
+pub mod Alike
+pub mod Subpattern
 pub mod Lowest
 pub mod Naming
 pub mod Names
 pub mod TableTest
 pub mod TreeLaws
+pub mod SubpatternCases
+pub mod SubpatternLaws

@@ -4,7 +4,7 @@ use mathlib.Core.List.{List, [], _∷_, _++_}
 use mathlib.Core.Option.{Option, none, some}
 use Prim.Native.Nat.{ℕ, zero, suc, _-_}
 use lib.Dec.{ltb, leb, eqb}
-use lib.ListN.{getD, replicate}
+use lib.ListN.{length, getD, replicate}
 use Rattle.syntax.specs.declared.Leaf.{Leaf}
 use Rattle.syntax.specs.declared.Leaf.the-variants.{Nothing, Letter, Range}
 use Rattle.syntax.specs.declared.Node.{Node}
@@ -15,6 +15,10 @@ use Rattle.syntax.specs.Letter.{is-letter}
 
 abbrev pub blank : Line
 blank = record { account = 0; node = Leaf-node Nothing }
+
+-- 01: "the table of the text: its line count, and each node as its line says"
+unfoldable pub table : List Line → Pattern
+table xs = record { count = length xs; lines = xs ++ replicate (64 - length xs) blank }
 
 -- 01: "A refused load gives a table of no lines"
 unfoldable pub no-lines : Pattern

@@ -50,7 +50,7 @@ pub record Rules (p : Pattern) : Type 0 where
   pub once : (l : ℕ) → suc l < p .count → times l (named-below p (p .count)) ≡ 1
 
 -- ── lists of places ──
-times-append : (l : ℕ) (xs ys : List ℕ) → times l (xs ++ ys) ≡ times l xs + times l ys
+pub times-append : (l : ℕ) (xs ys : List ℕ) → times l (xs ++ ys) ≡ times l xs + times l ys
 times-append l [] ys = sym (zero-add (times l ys))
 times-append l (x ∷ xs) ys = omega (arith, times-append l xs ys)
 
@@ -70,7 +70,7 @@ times-member l (x ∷ xs) h = go (eqb x l) (times-member l xs) h
     go true ih e = absurd (omega arith)
     go false ih e = ih (omega arith)
 
-abbrev All-under : ℕ → List ℕ → Type 0
+abbrev pub All-under : ℕ → List ℕ → Type 0
 All-under n [] = Unit {0}
 All-under n (x ∷ xs) = (x < n) × All-under n xs
 
@@ -80,7 +80,7 @@ below-parts i (Sequence p q) h = (h .0, h .1 .0)
 below-parts i (Alternative p q) h = (h .0, h .1 .0)
 below-parts i (Star again p) h = h .0
 
-parts-below : (i : ℕ) (k : Node) → Below i k → All-under i (parts k)
+pub parts-below : (i : ℕ) (k : Node) → Below i k → All-under i (parts k)
 parts-below i (Leaf-node x) h = tt
 parts-below i (Sequence p q) h = (h .0, (h .1, tt))
 parts-below i (Alternative p q) h = (h .0, (h .1, tt))
@@ -139,7 +139,7 @@ module _ (p : Pattern) where
       let s = rightly-sound (parts (node-at p i)) (named-below p i) i (not-wrong i (h i le)) (named-once h i (omega arith)) in
       omega (arith, s .1 l, times-append l (parts (node-at p i)) (named-below p i))
 
-  named-mono : (l i k : ℕ) → times l (named-below p i) ≤ times l (named-below p (i + k))
+  pub named-mono : (l i k : ℕ) → times l (named-below p i) ≤ times l (named-below p (i + k))
   named-mono l i zero = let e : i + 0 ≡ i = omega arith in rw e (omega arith)
   named-mono l i (suc k) =
       let e : i + suc k ≡ suc (i + k) = omega arith in

@@ -11,6 +11,14 @@ pub mod OldTexts
 -- The third demand for pattern texts and the call from C.
 pub mod ThirdDemand
 pub mod ThirdDemanded
+-- Every piece stands by itself: for tables, and for pattern texts and the calls from C. The text of a table, which loads to it.
+pub mod StandsAlone
+pub mod StandsAloneProved
+pub mod PatternText
+pub mod PatternTextLaws
+pub mod PatternTextCases
+pub mod StandsAloneText
+pub mod StandsAloneTextProved
 -- The statements of document 03 over pattern texts, under 03's names, by the definitions of this repository. 03's own definitions stand here
 -- word for word but for kind `Z`, the letters of the hot side and accounts above 9 (02, Jobs 2, 3 and 7).
 pub mod Paper03Pattern

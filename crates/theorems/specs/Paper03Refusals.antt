@@ -15,11 +15,11 @@ use Rattle.syntax.specs.declared.Line.{Line}
 use Rattle.syntax.specs.declared.Pattern.{Pattern}
 use Rattle.syntax.specs.Bools.{and-fst, and-snd, and-intro}
 use Rattle.syntax.specs.Letter.{is-letter}
-use Rattle.syntax.specs.Table.{tree-fault, account-limit}
+use Rattle.syntax.specs.Table.{table, tree-fault, account-limit}
 use Rattle.refusals.specs.Refusals.{Answer}
 use Rattle.fields.specs.Text.{place, single, account, when, star-of, node-of-none, node-of-one, range-of, parts-of, node-of-two, node-of}
 use Rattle.fields.specs.Text.{with-account, line-of, row-line, Forms, good, fault, line-front, forms}
-use Rattle.loading.specs.Load.{table, load-answer}
+use Rattle.loading.specs.Load.{load-answer}
 use Rattle.loading.specs.LoadForms.{tree-answer, forms-answer, load-answer-is}
 use Rattle.theorems.specs.Paper03Pattern.{Line as Text-line, lines, fields, place-value, is-place, is-letter as is-letter-field, account-value}
 use Rattle.theorems.specs.Paper03Pattern.{kind-value, field, line-good, nodes-in, Refusal, refusal, forms-from, load-refusal}

@@ -13,9 +13,9 @@ use Rattle.syntax.specs.declared.Node.{Node as Own-node}
 use Rattle.syntax.specs.declared.Node.the-variants.{Leaf as Leaf-node, Sequence, Alternative, Star}
 use Rattle.syntax.specs.declared.Line.{Line}
 use Rattle.syntax.specs.declared.Pattern.{Pattern}
-use Rattle.syntax.specs.Table.{blank, line-at, node-at, parts, member, named-below, rightly-named, wrongly-names, unnamed, lowest, or-else, tree-fault}
+use Rattle.syntax.specs.Table.{blank, table, line-at, node-at, parts, member, named-below, rightly-named, wrongly-names, unnamed, lowest, or-else, tree-fault}
 use Rattle.fields.specs.Text.{rows, good, forms}
-use Rattle.loading.specs.Load.{table, load-answer, load-table}
+use Rattle.loading.specs.Load.{load-answer, load-table}
 use Rattle.loading.specs.LoadForms.{tree-answer, tree-table, forms-answer, forms-table, load-answer-is, load-table-is}
 use Rattle.loading.specs.LoadLaws.{loaded-obeys}
 use Rattle.theorems.specs.Paper03Pattern.{no-node, node, Line as Text-line, lines, nodes-in, forms-from, Refusal, refusal, load-refusal, loaded}

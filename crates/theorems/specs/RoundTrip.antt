@@ -79,7 +79,7 @@ module _ (p : Pattern) (tape ws us xs ys : List ℕ) (n : ℕ) (h : Parses p tap
       ap₂ (λ k l. take (cell-count 8 k) l) (r .count-is) (r .code-is) ∙ ap (λ k. take k (in-front (pack 8 best) xs)) (sym (length-pack 8 best))
       ∙ take-in-front (pack 8 best) xs
 
-  of-best : (F : List ℕ → ℕ → Type 0) → F (pack 8 best) (length best) → F (written n ys) n
+  pub of-best : (F : List ℕ → ℕ → Type 0) → F (pack 8 best) (length best) → F (written n ys) n
   of-best F f = subst (λ k. F (written n ys) k) (sym (is-read .count-is)) (subst (λ l. F l (length best)) (sym bytes-are) f)
 
   -- it is a whole code of the pattern, and the earliest code of the tape

@@ -16,7 +16,7 @@ use Rattle.theorems.specs.ThirdDemand.{Code-of, Call, count-of, bytes-of
 
 module _ (text : List ℕ) where
   -- a call from C is a run of the service on the table of the text
-  abbrev run-of : (c : Code-of text) → Call text c → Run (load-table text) c
+  abbrev pub run-of : (c : Code-of text) → Call text c → Run (load-table text) c
   run-of c x = record {
     tape = x .tape;
     tape-now = x .tape-now;

@@ -12,7 +12,7 @@ use Rattle.refusals.specs.declared.Refusal.the-variants.{Unreadable}
 use Rattle.refusals.specs.Refusals.{Answer, answer, refused}
 use Rattle.syntax.specs.Bools.{and-fst, and-snd}
 use Rattle.syntax.specs.Letter.{is-letter, in-range, first-bad, letter-limit}
-use Rattle.syntax.specs.Table.{obeys, line-good, wrongly-names, unnamed, tree-fault}
+use Rattle.syntax.specs.Table.{table, obeys, line-good, wrongly-names, unnamed, tree-fault}
 use Rattle.syntax.specs.Tree.{Tree, index}
 use Rattle.syntax.specs.Trees.{root, tree-of}
 use Rattle.syntax.specs.TreeLaws.{obeys-iff}
@@ -39,7 +39,7 @@ use Rattle.fields.specs.Text.{
   row-line,
   forms,
 }
-use Rattle.loading.specs.Load.{table, load-answer, load-table}
+use Rattle.loading.specs.Load.{load-answer, load-table}
 use Rattle.loading.specs.LoadLaws.{loaded-obeys}
 use Rattle.semantics.specs.Automaton.{top}
 use Rattle.semantics.specs.Decode.{value-of, is-code, spelled}

@@ -4,12 +4,12 @@ use mathlib.Core.Path.{_≡_, refl}
 use mathlib.Core.Bool.{false, true}
 use mathlib.Core.List.{[], _∷_, map}
 use Rattle.syntax.specs.Letter.{is-letter}
-use Rattle.syntax.specs.Table.{wrongly-names, unnamed, tree-fault}
+use Rattle.syntax.specs.Table.{table, wrongly-names, unnamed, tree-fault}
 use Rattle.syntax.specs.Tree.{Label, Tree, nothing, letter, range, seq, alt, star}
 use Rattle.syntax.specs.Trees.{root, tree-of}
 use Rattle.fields.specs.Text.{rows, digit, one-digit, two-digits, place, single, all-digits, decimal, account-number, account}
 use Rattle.fields.specs.Text.{node-of-none, node-of-one, range-of, parts-of, node-of-two, node-of, line-of, row-line, forms}
-use Rattle.loading.specs.Load.{table, load-answer, load-table}
+use Rattle.loading.specs.Load.{load-answer, load-table}
 use Rattle.semantics.specs.Examples as short
 use Rattle.worked_examples.specs.Texts.{P1, P2, P3, P4, P5, Z1, Z2, Z3, Z4, Z5, Z6, Z7, H1}
 
