@@ -44,7 +44,8 @@ class Wheel(unittest.TestCase):
     def test_what_it_holds(self):
         self.assertEqual(self.name, f"wumbyra-{wumbyra.__version__}-py3-none-linux_x86_64.whl")
         about = [f"wumbyra-{wumbyra.__version__}.dist-info/{name}" for name in ("METADATA", "RECORD", "WHEEL")]
-        package = [f"wumbyra/{name}" for name in ("__init__.py", "_library.py", "_refused.py", "libwumbyra.so", "py.typed")]
+        sources = "__init__.py", "_library.py", "_refused.py", "_subpattern.py"
+        package = [f"wumbyra/{name}" for name in (*sources, "libwumbyra.so", "py.typed")]
         self.assertEqual(sorted(self.files), sorted(about + package))
 
     def test_its_version_is_the_packages(self):

@@ -1,4 +1,5 @@
-"""The worked examples of the scope, terms, page desks, refusals, numbers of any size, totals in any number of cells, and the version."""
+"""The worked examples of the scope, terms, page desks, pieces that stand by themselves, refusals, numbers of any size, totals in any number
+of cells, and the version."""
 
 import concurrent.futures
 import copy
@@ -25,6 +26,8 @@ P5 = b"0\tL\t-\ta\n1\tK\t-\t0\n2\tL\t-\ta\n3\tS\t-\t1\t2\n"
 DAYS = (
     b"0\tR\t-\t0\t9\n1\tL\t-\tW\n2\tS\t9\t1\t0\n3\tR\t1\t0\t9\n4\tL\t-\tD\n5\tA\t-\t3\t4\n6\tA\t-\t2\t5\n7\tK\t-\t6\n"
 )
+# Both kinds of star in a round of a third, and the lines of the one stand between those of the other.
+MIXED = b"0\tL\t-\tx\n1\tR\t3\t0\t9\n2\tK\t-\t1\n3\tZ\t-\t0\n4\tS\t-\t2\t3\n5\tK\t9\t4\n"
 FIRST_DAY, LAST_DAY = datetime.date(2000, 1, 1), datetime.date(2099, 12, 31)
 ROOM = ACCOUNTS + 7  # cells, of which the last ones are lent to no call
 REPOSITORY = pathlib.Path(__file__).resolve().parents[2]
@@ -353,6 +356,169 @@ class Desks(Case):
         self.assertEqual(LIBRARY.wumbyra_desk_put(*text, desk, 31, b"aa", 2, letters, 3600, words, 6), 2)
         self.assertEqual(LIBRARY.wumbyra_desk_withdraw(*text, desk, 31, letters, 3600), 0)
         self.assertEqual(LIBRARY.wumbyra_desk_withdraw(*text, desk, 31, letters, 3600), 15 << 32)
+
+
+def balanced(letters):
+    """The text of a pattern with these letters one after the other, a power of two of them: the leaves first, then level by level."""
+    lines = [(b"L", b"%d" % (1 + letter % 200), bytes([letter])) for letter in letters]
+    lines += [(b"S", b"-", b"%d" % (2 * at), b"%d" % (2 * at + 1)) for at in range(len(letters) - 1)]
+    return b"".join(b"\t".join([b"%d" % place, *line]) + b"\n" for place, line in enumerate(lines))
+
+
+class Pieces(Case):
+    def test_each_node(self):
+        pattern = Pattern(MIXED)
+        for node, text in enumerate(
+            [
+                b"0\tL\t-\tx\n",
+                b"0\tR\t3\t0\t9\n",
+                b"0\tR\t3\t0\t9\n1\tK\t-\t0\n",
+                b"0\tL\t-\tx\n1\tZ\t-\t0\n",
+                b"0\tL\t-\tx\n1\tR\t3\t0\t9\n2\tK\t-\t1\n3\tZ\t-\t0\n4\tS\t-\t2\t3\n",
+                MIXED,
+            ]
+        ):
+            made = pattern.subpattern(node)
+            self.assertIsInstance(made, Pattern)
+            self.assertEqual((made.text, made.lines), (text, text.count(b"\n")))
+        self.assertEqual(pattern.text, MIXED)
+
+    def test_the_root_gives_the_text_itself(self):
+        for text in [LISTING, P1, P3, P5, DAYS, MIXED, b"0\tE\t-\n", b"0\tE\t200\n"]:
+            pattern = Pattern(text)
+            self.assertEqual(pattern.subpattern(pattern.lines - 1).text, text)
+
+    def test_parts_keep_their_order(self):
+        # The first part has the greater place, before and after.
+        self.assertEqual(Pattern(LISTING).subpattern(2).text, b"0\tR\t-\t0\t9\n1\tL\t-\tW\n2\tS\t9\t1\t0\n")
+        pattern = Pattern(b"0\tL\t-\ta\n1\tE\t-\n2\tL\t-\tb\n3\tA\t-\t2\t1\n4\tS\t-\t3\t0\n")
+        self.assertEqual(pattern.subpattern(3).text, b"0\tE\t-\n1\tL\t-\tb\n2\tA\t-\t1\t0\n")
+
+    def test_letters_are_no_places(self):
+        # Letters that look like places, accounts and kinds, and letters of the hot side.
+        pattern = Pattern(
+            b"0\tL\t-\tx\n1\tL\t10\t3\n2\tR\t200\t0\t3\n3\tS\t-\t1\t2\n4\tR\t-\t-\t9\n5\tA\t9\t3\t4\n6\tS\t-\t0\t5\n"
+            b"7\tL\t-\tK\n8\tR\t-\tS\tZ\n9\tR\t3\t!\t\xfe\n10\tL\t-\t\xa1\n11\tS\t-\t7\t8\n12\tA\t-\t9\t10\n13\tS\t-\t12\t11\n"
+            b"14\tS\t-\t6\t13\n"
+        )
+        for node, text in [
+            (1, b"0\tL\t10\t3\n"),
+            (2, b"0\tR\t200\t0\t3\n"),
+            (4, b"0\tR\t-\t-\t9\n"),
+            (5, b"0\tL\t10\t3\n1\tR\t200\t0\t3\n2\tS\t-\t0\t1\n3\tR\t-\t-\t9\n4\tA\t9\t2\t3\n"),
+            (7, b"0\tL\t-\tK\n"),
+            (8, b"0\tR\t-\tS\tZ\n"),
+            (9, b"0\tR\t3\t!\t\xfe\n"),
+            (10, b"0\tL\t-\t\xa1\n"),
+            (11, b"0\tL\t-\tK\n1\tR\t-\tS\tZ\n2\tS\t-\t0\t1\n"),
+            (12, b"0\tR\t3\t!\t\xfe\n1\tL\t-\t\xa1\n2\tA\t-\t0\t1\n"),
+        ]:
+            self.assertEqual(pattern.subpattern(node).text, text)
+        # Every letter there is.
+        for byte in [*range(33, 127), *range(161, 255)]:
+            leaf = b"L\t9\t" + bytes([byte])
+            pattern = Pattern(b"0\tE\t-\n1\t" + leaf + b"\n2\tS\t-\t0\t1\n")
+            self.assertEqual(pattern.subpattern(1).text, b"0\t" + leaf + b"\n")
+
+    def test_64_lines(self):
+        letters = [*range(48, 64), *range(240, 224, -1)]
+        text = balanced(letters) + b"63\tK\t9\t62\n"
+        pattern = Pattern(text)
+        self.assertEqual(pattern.lines, 64)
+        self.assertEqual(pattern.subpattern(63).text, text)
+        node = 0
+        for size in [1, 2, 4, 8, 16, 32]:
+            for first in range(0, 32, size):
+                self.assertEqual(pattern.subpattern(node).text, balanced(letters[first : first + size]))
+                node += 1
+        self.assertEqual(node, 63)
+        # The deepest tree: each line but the first is a star over the one before it.
+        lines = [b"0\tL\t-\ta\n", *(b"%d\t%c\t-\t%d\n" % (place, b"KZ"[place % 2], place - 1) for place in range(1, 64))]
+        pattern = Pattern(b"".join(lines))
+        for node in range(64):
+            self.assertEqual(pattern.subpattern(node).text, b"".join(lines[: node + 1]))
+
+    def test_a_subpattern_of_a_subpattern(self):
+        pattern = Pattern(MIXED)
+        # A node, a node at or below it by its new place, and the place that this one has in the whole.
+        for outer, inner, node in [
+            (0, 0, 0), (1, 0, 1), (2, 0, 1), (2, 1, 2), (3, 0, 0), (3, 1, 3),
+            (4, 0, 0), (4, 1, 1), (4, 2, 2), (4, 3, 3), (4, 4, 4), *((5, node, node) for node in range(6)),
+        ]:  # fmt: skip
+            self.assertEqual(pattern.subpattern(outer).subpattern(inner).text, pattern.subpattern(node).text)
+
+    def test_each_piece_stands_by_itself(self):
+        pattern, tape = Pattern(MIXED), b"7x"
+        # Line 5 goes through two rounds: a 0 before each, and a 1 after the last. In the first the `Z` stops at once, since another round
+        # can read the x. In the second it must take the x: else the round would be empty.
+        # Bit:   0   1            11  12  13  14   16
+        whole = "0" "0001101111" "0" "0" "1" "10" "1"
+        found, bits, _ = pattern.parse(tape)
+        self.assertEqual((found, bits), code(whole))
+        # For each node its visits: start and length of the piece, and the first bit and the number of bits.
+        for node, visits in enumerate(
+            [
+                [(1, 1, 15, 0)],
+                [(0, 1, 2, 8)],
+                [(0, 1, 1, 10), (1, 0, 13, 1)],
+                [(1, 0, 11, 1), (1, 1, 14, 2)],
+                [(0, 1, 1, 11), (1, 1, 13, 3)],
+                [(0, 2, 0, 17)],
+            ]
+        ):
+            alone = pattern.subpattern(node)
+            for visit, (start, length, first, count) in enumerate(visits):
+                self.assertEqual(pattern.span(tape, found, bits, node, visit), (start, length))
+                piece = pattern.piece(tape, found, bits, node, visit)
+                self.assertEqual(piece, tape[start : start + length])
+                cut = code(whole[first : first + count])
+                self.assertEqual(alone.parse(piece)[:2], cut)
+                self.assertEqual(alone.canonicalize(*cut), cut)
+                self.assertEqual(alone.flatten(*cut), piece)
+            self.refused(10, 0, pattern.span, tape, found, bits, node, len(visits))
+
+    def test_an_empty_tape_and_its_pieces(self):
+        # Nothing is read, and still a star writes the bit that stops it: 1 for `K`, 0 for `Z`.
+        pattern = Pattern(b"0\tL\t-\ta\n1\tK\t-\t0\n2\tL\t-\tb\n3\tZ\t-\t2\n4\tS\t-\t1\t3\n5\tE\t-\n6\tA\t-\t4\t5\n")
+        found, bits, _ = pattern.parse(b"")
+        self.assertEqual((found, bits), code("010"))
+        for node, cut in [(1, "1"), (3, "0"), (4, "10"), (6, "010")]:
+            self.assertEqual(pattern.span(b"", found, bits, node, 0), (0, 0))
+            self.assertEqual(pattern.subpattern(node).parse(b"")[:2], code(cut))
+        # The first bit of the `A` is its own, and not its side's: nothing is left for an `E`.
+        self.assertEqual(pattern.subpattern(5).parse(b"")[:2], code(""))
+
+    def test_totals_of_a_piece_may_differ(self):
+        # The account 9 of line 5 is above the cut, so only the whole has it.
+        pattern = Pattern(MIXED)
+        whole = pattern.parse(b"7x")
+        self.assertEqual(pattern.totals(whole.code, whole.bits), litres({9: 7}))
+        for node in [1, 2, 4]:
+            alone = pattern.subpattern(node)
+            piece = alone.parse(pattern.piece(b"7x", whole.code, whole.bits, node, 0))
+            self.assertEqual(alone.totals(piece.code, piece.bits), litres({3: 7}))
+        # An account above a cut without one is missing as well; one of the node itself goes along.
+        pattern = Pattern(b"0\tR\t-\t0\t9\n1\tK\t200\t0\n2\tK\t10\t1\n")
+        for node, account in [(0, 0), (1, 200), (2, 200)]:
+            alone = pattern.subpattern(node)
+            piece = alone.parse(b"5")
+            self.assertEqual(alone.totals(piece.code, piece.bits), litres({account: 5}))
+
+    def test_what_is_no_node(self):
+        for text in [MIXED, b"0\tE\t-\n"]:
+            pattern = Pattern(text)
+            for node in [pattern.lines, pattern.lines + 1, 64, 2**32 - 1, 2**32, 2**32 + 1, 2**64, 10**100, 10**5000]:
+                self.assertRaises(IndexError, pattern.subpattern, node)
+            for node in [-1, -pattern.lines, -(2**32), -(10**100)]:
+                self.assertRaises(ValueError, pattern.subpattern, node)
+            for node in [0.0, "0", b"0", None, [0]]:
+                self.assertRaises(TypeError, pattern.subpattern, node)
+        with self.assertRaises(IndexError) as caught:
+            Pattern(MIXED).subpattern(6)
+        self.assertEqual(str(caught.exception), "the nodes of this pattern are 0 to 5, and 6 is above")
+        with self.assertRaises(ValueError) as negative:
+            Pattern(MIXED).subpattern(-1)
+        self.assertEqual(str(negative.exception), "a node is a number from 0 on, and -1 is below")
 
 
 class Refusals(Case):

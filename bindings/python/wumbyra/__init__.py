@@ -11,7 +11,8 @@ or an array; text is none, so a `str` is a TypeError.
 
 Bit counts, nodes, visits and accounts are numbers from 0 on, of any size: one that has over 32 bits is refused as the library refuses
 any that is too great (8 for a bit count, 10 for a node or visit; an account that there is not has 0 litres), and in the library's
-order of checks. A negative number is no count at all: it is a ValueError, whatever else is handed over.
+order of checks. A negative number is no count at all: it is a ValueError, whatever else is handed over. `subpattern` makes its text
+without the library: it raises an IndexError if the pattern has no such node.
 
 A date is a `datetime.date`, or three numbers from 0 on, of any size: year, month and day. The library has the days of the years 2000 to
 2099 and refuses what is none of them; whatever is not three such numbers is a ValueError or a TypeError.
@@ -26,6 +27,7 @@ from typing import TYPE_CHECKING, List, NamedTuple, Tuple, Union
 
 from ._library import LIBRARY
 from ._refused import CAUSES, Refused
+from ._subpattern import subpattern_text
 
 __version__ = "1.6.0"
 __all__ = [
@@ -184,6 +186,26 @@ class Pattern:
         start, length = self.span(tape, code, bits, node, visit)
         return _bytes(tape)[start : start + length]
 
+    def subpattern(self, node: int) -> Pattern:
+        """The pattern made of a node and all below it, places counted afresh. Lines keep their order, so the node is the last line.
+
+        A piece stands by itself. Read the piece that a visit of the node covers by this pattern, and `parse` gives the same bits that it
+        writes during the visit when it reads the whole tape.
+
+            code, bits, words = pattern.parse(tape)
+            piece = pattern.piece(tape, code, bits, node, visit)
+            pattern.subpattern(node).parse(piece)
+
+        Accounts go along, but those above the node are cut off. So the totals of a piece may differ from its share of the whole: digits of
+        account 3 under a `K` of account 9 total to account 9 in the whole, and to account 3 in the piece. Bill from the whole.
+
+        Raises an IndexError if the pattern has no such node.
+        """
+        node = _count(node, "a node")
+        if node >= self.lines:
+            raise IndexError(f"the nodes of this pattern are 0 to {self.lines - 1}, and {node} is above")
+        return Pattern(subpattern_text(self.text, node))
+
     def total(self, code: BytesLike, bits: int, account: int) -> int:
         """The litres of an account, 0 for one above 200. Refused with 8 or 3."""
         return _value(LIBRARY.wumbyra_total(*self._coded(code, bits), _count(account, "an account")))
@@ -204,7 +226,7 @@ class Pattern:
         _value(LIBRARY.wumbyra_term_totals(*self._coded(code, bits), *dates, *litres.buffer_info()))
         return litres.tolist()
 
-    def _coded(self, code: BytesLike, bits: int) -> tuple:
+    def _coded(self, code: BytesLike, bits: int) -> Tuple[bytes, int, bytes, int, int]:
         """The arguments that all calls on a code begin with."""
         code = _bytes(code)
         return self.text, len(self.text), code, len(code), _count(bits, "a bit count")
@@ -261,7 +283,8 @@ class Desk:
     @property
     def pages(self) -> List[bytes]:
         """The pages held, the last put first."""
-        pages, end = [], self._held
+        pages: List[bytes] = []
+        end = self._held
         letters = self.letters
         for length in self._desk[1 : 1 + self._desk[0]]:
             pages.insert(0, letters[end - length : end])
@@ -273,6 +296,6 @@ class Desk:
         """The words of the letters held, counted from the tape's end: words[2 * j + b] is for the last j letters."""
         return self._words[: 2 * (self._held + 1)]
 
-    def _lent(self) -> tuple:
+    def _lent(self) -> Tuple[bytes, int, int, int]:
         """The arguments that all calls on a desk begin with."""
         return self.pattern.text, len(self.pattern.text), *self._desk.buffer_info()

@@ -20,7 +20,6 @@ use Rattle.semantics.specs.Cuts.{Cut, cut-by, code-cut, piece, bits-cut}
 use Rattle.semantics.specs.Decode.{value-of}
 use Rattle.semantics.specs.CutLaws.{seen, cut-visit}
 use Rattle.semantics.specs.AlikeLaws.{alike-canonical}
-use Rattle.semantics.specs.Stands.{Stands}
 use Rattle.semantics.specs.PieceLaws.{piece-stands}
 use Rattle.semantics.specs.PieceExamples.{whole, unsettled-cut, unsettled-falls}
 use Rattle.parser.specs.declared.Parsed.the-variants.{Bits}
@@ -34,7 +33,7 @@ use Rattle.canonical.specs.Demand.{tape-of, spells}
 use Rattle.spans.specs.declared.Spanned.{Spanned}
 use Rattle.spans.specs.Spans.{visit-by, span-visit, span-answer, start-of, size-of, span-shown, span-outcome, Spans}
 use Rattle.theorems.specs.Passed.{visit-answer, flatten-answers, span-answers, span-shows}
-use Rattle.theorems.specs.StandsAlone.{Shows-cut, Piece-settled, Alone-at, Stands-alone}
+use Rattle.theorems.specs.StandsAlone.{Shows-cut, Has-code, Cut-alone, Alone-at, Stands-alone}
 
 -- ── the canonical code of a tape is what reading and settling give ──
 module _ (q : Pattern) (good : obeys q ≡ true) (w : List ℕ) (few : length w ≤ letter-limit) (bs : List Bool) (c : Canonical (root q) w bs) where
@@ -52,8 +51,8 @@ module _ (q : Pattern) (good : obeys q ≡ true) (w : List ℕ) (few : length w 
       (letters-good q (pack 8 bs) (length bs) (length (tape-of q (pack 8 bs) (length bs)))
       (spelled q (pack 8 bs) (length bs) (length (tape-of q (pack 8 bs) (length bs))) (ap (λ a. a .number) e)))
 
-  pub canonical-settled : Piece-settled q w bs
-  canonical-settled = record {
+  pub canonical-code : Has-code q w bs
+  canonical-code = record {
     read = λ words words-now code code-now r h wide long.
         let f = h .reads (tested-zero {ws = words} (record { good = good; few = few; letters = letters; room = wide })) .fits bs c long in
         (parsed-same r (Bits (length bs)) (f .0), f .1);
@@ -101,22 +100,22 @@ part-length xs i n h = simp (length-take, length-drop) (omega arith)
 -- EVERY PIECE STANDS BY ITSELF
 pub stands-alone : Stands-alone
 unfolding Stands-alone
-stands-alone p good tape few bits c l k = record {
-  shown = shows p good tape few bits c l k;
-  stands = λ x e. piece-stands p good tape bits c l k x e;
-  counted = λ x e. let s = piece-stands p good tape bits c l k x e in (sized x s, part-length bits (x .from) (x .bits) (s .in-code));
-  alone = λ x e.
-      let s = piece-stands p good tape bits c l k x e in
-      canonical-settled (sub-pattern p l) (s .rules) (piece tape x) (omega (arith, sized x s, s .in-tape)) (bits-cut bits x) (s .canonical);
-  alike = λ x e q o a.
-      let s = piece-stands p good tape bits c l k x e in
-      canonical-settled q o (piece tape x) (omega (arith, sized x s, s .in-tape)) (bits-cut bits x)
-      (alike-canonical a (piece tape x) (bits-cut bits x) (s .canonical));
-}
+stands-alone p good tape few bits c l k = record { shown = shows p good tape few bits c l k; cut = alone }
   where
-    sized : (x : Cut) → Stands p tape bits l x → length (piece tape x) ≡ x .visit .size
-    sized x s = part-length tape (x .visit .start) (x .visit .size) (s .in-tape)
+    alone : (x : Cut) → code-cut (root p) bits l k ≡ some x → Cut-alone p tape bits l x
+    alone x e =
+        let s = piece-stands p good tape bits c l k x e in
+        let n = part-length tape (x .visit .start) (x .visit .size) (s .in-tape) in
+        let short : length (piece tape x) ≤ letter-limit = omega (arith, n, s .in-tape) in
+        record {
+          stands = s;
+          size = n;
+          count = part-length bits (x .from) (x .bits) (s .in-code);
+          alone = canonical-code (sub-pattern p l) (s .rules) (piece tape x) short (bits-cut bits x) (s .canonical);
+          alike = λ q o a.
+              canonical-code q o (piece tape x) short (bits-cut bits x) (alike-canonical a (piece tape x) (bits-cut bits x) (s .canonical));
+        }
 
 -- it is said of settled codes only: of P4's code `11` it is false
 pub unsettled-not-alone : Alone-at fourth (97 ∷ 98 ∷ []) (true ∷ true ∷ []) 8 0 → ⊥
-unsettled-not-alone a = unsettled-falls (a .stands whole unsettled-cut)
+unsettled-not-alone a = unsettled-falls (a .cut whole unsettled-cut .stands)

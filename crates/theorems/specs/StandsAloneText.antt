@@ -30,7 +30,7 @@ abbrev pub cut-answer : Option Cut → Answer
 cut-answer none = refused NoSuchVisit
 cut-answer (some x) = answer 0 (x .visit .start * 65536 + x .visit .size)
 
--- the letters have this code by the text
+-- by the text the letters have this code
 pub record Has-code (text letters : List ℕ) (bits : List Bool) : Type 0 where
   -- whatever `wumbyra_parse` may answer and leave on them, in buffers that suffice
   pub read :
@@ -55,12 +55,12 @@ pub record Cut-alone (text tape : List ℕ) (bits : List Bool) (l : ℕ) (x : Cu
       → Has-code other (piece tape x) (bits-cut bits x)
 
 -- visit k of node l, in a code of the tape: its bytes and bit count, and the bits that these hold
-pub record Alone-from-c (text tape code : List ℕ) (count : ℕ) (bits : List Bool) (l k : ℕ) : Type 0 where
+pub record Alone-at (text tape code : List ℕ) (count : ℕ) (bits : List Bool) (l k : ℕ) : Type 0 where
   pub shown : (r : ℕ) → unpacked r ≡ span-text text tape code count l k → unpacked r ≡ cut-answer (code-cut (root (load-table text)) bits l k)
-  pub stands : (x : Cut) → code-cut (root (load-table text)) bits l k ≡ some x → Cut-alone text tape bits l x
+  pub cut : (x : Cut) → code-cut (root (load-table text)) bits l k ≡ some x → Cut-alone text tape bits l x
 
 -- of every tape that `wumbyra_parse` reads: it answers 0 and n bits
 unfoldable pub Stands-alone-text : Type 0
 Stands-alone-text =
     (text tape words words-now code code-now : List ℕ) (r n : ℕ) → Parses-text text tape words words-now code code-now r → unpacked r ≡ answer 0 n
-    → (l k : ℕ) → Alone-from-c text tape (written n code-now) n (held 8 (written n code-now) n) l k
+    → (l k : ℕ) → Alone-at text tape (written n code-now) n (held 8 (written n code-now) n) l k

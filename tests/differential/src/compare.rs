@@ -2,6 +2,7 @@
 
 use crate::calls;
 use crate::case::Case;
+use std::ops::Range;
 use wumbyra_reference::calendar::Date;
 use wumbyra_reference::load::load;
 use wumbyra_reference::prng::Prng;
@@ -31,16 +32,23 @@ pub const CALLS: [&str; 11] = [
 /// Cells lent for totals, beside the case's own: none, as many as a caller of 1.4.0 lends, one short, all and one more.
 const CELLS: [usize; 5] = [0, 10, ACCOUNTS - 1, ACCOUNTS, ACCOUNTS + 1];
 
+/// Rows of two of them.
+pub const PARSE: usize = 1;
+pub const SPAN: usize = 4;
+
 /// The greatest number of a cause.
 pub const LAST_CAUSE: usize = 15;
 
-/// How often each call answered each number.
+/// How often each call answered each number, and how many pieces were read by themselves.
 #[derive(Clone, Default)]
-pub struct Counts(pub [[u64; LAST_CAUSE + 1]; 11]);
+pub struct Counts {
+    pub answers: [[u64; LAST_CAUSE + 1]; 11],
+    pub pieces: u64,
+}
 
 impl Counts {
     pub fn calls(&self) -> u64 {
-        self.0.iter().flatten().sum()
+        self.answers.iter().flatten().sum()
     }
 }
 
@@ -52,7 +60,7 @@ fn packed(answer: Result<u64, Refusal>) -> u64 {
 }
 
 /// A buffer with canaries around the part that is lent, and the same for the reference.
-struct Lent<T> {
+pub struct Lent<T> {
     proved: Vec<T>,
     expected: Vec<T>,
     length: usize,
@@ -68,16 +76,26 @@ impl<T: Copy + PartialEq> Lent<T> {
         }
     }
 
-    fn proved(&mut self) -> &mut [T] {
+    pub fn proved(&mut self) -> &mut [T] {
         &mut self.proved[CANARIES..CANARIES + self.length]
     }
 
-    fn expected(&mut self) -> &mut [T] {
+    pub fn expected(&mut self) -> &mut [T] {
         &mut self.expected[CANARIES..CANARIES + self.length]
     }
 
-    fn same(&self, call: &str, name: &str) -> Result<(), String> {
-        match (0..self.proved.len()).find(|&at| self.proved[at] != self.expected[at]) {
+    pub fn same(&self, call: &str, name: &str) -> Result<(), String> {
+        self.same_in(0..self.proved.len(), call, name)
+    }
+
+    /// The cells on each side alone: what was lent may hold anything.
+    pub fn same_around(&self, call: &str, name: &str) -> Result<(), String> {
+        self.same_in(0..CANARIES, call, name)?;
+        self.same_in(CANARIES + self.length..self.proved.len(), call, name)
+    }
+
+    fn same_in(&self, mut cells: Range<usize>, call: &str, name: &str) -> Result<(), String> {
+        match cells.find(|&at| self.proved[at] != self.expected[at]) {
             None => Ok(()),
             Some(at) => Err(format!(
                 "{call}: cell {} of {name} ({} lent) differs",
@@ -88,11 +106,11 @@ impl<T: Copy + PartialEq> Lent<T> {
     }
 }
 
-struct Run<'a> {
-    case: &'a Case,
-    table: Table,
+pub struct Run<'a> {
+    pub case: &'a Case,
+    pub table: Table,
     fill: Prng,
-    counts: &'a mut Counts,
+    pub counts: &'a mut Counts,
 }
 
 /// What differs, if anything does.
@@ -114,6 +132,7 @@ pub fn compare(case: &Case, counts: &mut Counts) -> Result<(), String> {
     run.total()?;
     run.totals()?;
     run.term_totals()?;
+    run.pieces()?;
     if before != (case.text.clone(), case.tape.clone(), case.code.clone()) {
         return Err("text, tape or code was changed".into());
     }
@@ -121,7 +140,7 @@ pub fn compare(case: &Case, counts: &mut Counts) -> Result<(), String> {
 }
 
 impl Run<'_> {
-    fn answered(&mut self, call: usize, proved: u64, expected: u64) -> Result<(), String> {
+    pub fn answered(&mut self, call: usize, proved: u64, expected: u64) -> Result<(), String> {
         if proved != expected {
             return Err(format!(
                 "{}: answered {} and {}, expected {} and {}",
@@ -132,15 +151,15 @@ impl Run<'_> {
                 expected as u32
             ));
         }
-        self.counts.0[call][(proved >> 32) as usize] += 1;
+        self.counts.answers[call][(proved >> 32) as usize] += 1;
         Ok(())
     }
 
-    fn bytes(&mut self, length: usize) -> Lent<u8> {
+    pub fn bytes(&mut self, length: usize) -> Lent<u8> {
         Lent::new(length, || self.fill.number() as u8)
     }
 
-    fn words(&mut self, length: usize) -> Lent<u64> {
+    pub fn words(&mut self, length: usize) -> Lent<u64> {
         Lent::new(length, || self.fill.number())
     }
 
@@ -150,7 +169,7 @@ impl Run<'_> {
         let mut code = self.bytes(case.parse_bytes);
         let proved = calls::parse(&case.text, &case.tape, words.proved(), code.proved());
         let expected = reading::parse(&self.table, &case.tape, words.expected(), code.expected());
-        self.answered(1, proved, packed(expected))?;
+        self.answered(PARSE, proved, packed(expected))?;
         words.same("parse", "words")?;
         code.same("parse", "code")
     }
@@ -221,7 +240,7 @@ impl Run<'_> {
                 u64::from(case.visit),
             );
             let shown = expected.map(|span| span.start << 16 | span.length);
-            self.answered(4, proved, packed(shown))?;
+            self.answered(SPAN, proved, packed(shown))?;
         }
         Ok(())
     }

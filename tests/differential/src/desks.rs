@@ -200,7 +200,7 @@ fn compare(run: &Run, counts: &mut Counts) -> Result<(), String> {
         if let Some(words) = ours.differs(&theirs) {
             return Err(told(words));
         }
-        counts.0[call][(answer >> 32) as usize] += 1;
+        counts.answers[call][(answer >> 32) as usize] += 1;
     }
     Ok(())
 }

@@ -1,5 +1,6 @@
 //! Every date and every account, then random runs of page desks and random calls of the C interface, each compared with the reference.
-//! Arguments: the number of cases, the seed, of how many cases one has a full tape, and the folder for a failing case.
+//! Arguments: the number of cases, the seed, of how many cases one has a full tape, and the folder for a failing case and for the rows
+//! of `subpatterns.py`.
 
 mod calls;
 mod case;
@@ -10,7 +11,9 @@ mod every_account;
 mod every_date;
 mod full;
 mod letters;
+mod pieces;
 mod shrink;
+mod subpatterns;
 
 use case::{has_full_tape, random_case, Case, FULL_TAPES};
 use compare::{compare, Counts, CALLS, LAST_CAUSE};
@@ -95,7 +98,9 @@ fn main() {
             std::process::exit(1);
         }
     }
+    subpatterns::write(seed, Path::new(folder));
     show(&counts);
+    println!("{} pieces of settled codes: all equal", counts.pieces);
     println!(
         "{cases} cases, {} calls, seed {seed}: all equal",
         counts.calls()
@@ -117,7 +122,7 @@ fn show(counts: &Counts) {
     print!("{:13}", "number");
     (0..=LAST_CAUSE).for_each(|number| print!("{number:>8}"));
     println!();
-    for (name, row) in CALLS.iter().zip(&counts.0) {
+    for (name, row) in CALLS.iter().zip(&counts.answers) {
         print!("{name:13}");
         row.iter().for_each(|count| print!("{count:>8}"));
         println!();

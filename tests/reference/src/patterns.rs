@@ -151,7 +151,7 @@ pub fn with_great_accounts(rng: &mut Prng, table: &Table) -> Table {
 }
 
 /// The places below a node, at any depth.
-fn below(table: &Table, place: usize) -> Vec<usize> {
+pub fn below(table: &Table, place: usize) -> Vec<usize> {
     let mut found: Vec<usize> = Vec::new();
     for part in table.node(place).parts() {
         found.push(part as usize);
