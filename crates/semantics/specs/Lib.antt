@@ -16,6 +16,8 @@ pub mod Decode
 pub mod Sweeps
 pub mod Strip
 pub mod Positions
+-- Visits with the bits written during them, and what is promised of a piece (02, Job 10). These must be believed too; they read a code back by
+-- Decode.
 pub mod Cuts
 pub mod Stands
 -- What is promised: the statements of document 03.
@@ -43,7 +45,7 @@ pub mod PieceLaws
 pub mod AccountLaws
 pub mod LetterLaws
 pub mod Promised
--- C1 to C11 and the listing of document 01, and rows for `Z`; chains of accounts.
+-- C1 to C11 and the listing of document 01, and rows for `Z`; cuts, and where the law of pieces ends; chains of accounts.
 pub mod Examples
 pub mod CutCases
 pub mod PieceExamples

@@ -4,6 +4,7 @@ pub mod LetterLaws
 pub mod Tree
 pub mod Table
 pub mod Trees
+-- trees of one shape; the pattern of a node (02, Job 10)
 pub mod Alike
 pub mod Subpattern
 pub mod Lowest
