@@ -293,7 +293,11 @@ uint64_t wumbyra_canonicalize(const uint8_t *text, size_t text_len, const uint8_
  * its rounds is one visit.
  *
  * Order: 2, 3, 4, 8, 10. Value: start << 16 | length; at a refusal that of the table of causes.
- * No buffer is written. */
+ * No buffer is written.
+ *
+ * A piece stands by itself. Write the text of the pattern made of the node's line and all lines below it, in their order, with places
+ * counted afresh, and wumbyra_parse reads the piece by it: its code is the part of the whole tape's code that was written during the
+ * visit, if that code is canonical. Do not bill from a piece: accounts of lines above the node are not in its pattern. */
 WUMBYRA_CHECK_ANSWER
 uint64_t wumbyra_span(const uint8_t *text, size_t text_len, const uint8_t *tape, size_t tape_len, const uint8_t *code,
                       size_t code_len, uint32_t count, uint32_t node, uint32_t visit);

@@ -201,6 +201,9 @@ impl Pattern {
     }
 
     /// The piece itself. Refused as `span` is.
+    ///
+    /// Read by the pattern made of the node and all below it, places counted afresh, it has the bits that the whole tape's code has for this
+    /// visit. Its totals may differ: accounts above the node are not in that pattern.
     pub fn piece<'a>(
         &self,
         tape: &'a [u8],
