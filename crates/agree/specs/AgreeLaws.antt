@@ -85,7 +85,7 @@ module _ (p : Pattern) (code : List ℕ) (count k : ℕ) (ts us ws vs xs ys : Li
           → Canonical (root p) (tape-of p code count) (best p code count) → Dec (cell-count 8 (length (best p code count)) ≤ length xs)
           → Left p code count k ts us ws vs xs ys
       fitting s enough c (yes l) =
-          let m = h .reads passed .fits (best p code count) c l in
+          let m = h .reads passed .1 .fits (best p code count) c l in
           let n : k ≡ length (best p code count) = ap (λ a. a .value) (sym a-is ∙ m .0) in
           record {
             it = s;
@@ -98,7 +98,7 @@ module _ (p : Pattern) (code : List ℕ) (count k : ℕ) (ts us ws vs xs ys : Li
             code-is = m .1;
           }
       fitting s enough c (no l) =
-          let m = h .reads passed .short (best p code count) c (omega arith) in
+          let m = h .reads passed .1 .short (best p code count) c (omega arith) in
           absurd (let z : _≡_ {A = ℕ} 0 7 = ap (λ a. a .number) (sym a-is ∙ m .0) in omega arith)
 
   pub left-room : cell-count 8 k ≤ length ys
@@ -155,10 +155,10 @@ back :
     → Is-settled p code count (length ts) (length ws) → Back p code count (worked ts ws xs) (worked us vs ys) r
 back p code count ts us ws vs xs ys r h s = record {
   short = λ l.
-      let m = greedily .short (s .bits) (s .earliest) (subst (λ n. length xs < n) size l) in
+      let m = greedily .1 .short (s .bits) (s .earliest) (subst (λ n. length xs < n) size l) in
       (canonicalized-same r (Refused (CodeTooShort (length code))) (m .0 ∙ ap (λ n. refused (CodeTooShort n)) (sym size)), left-by xs (m .1));
   fits = λ l.
-      let m = greedily .fits (s .bits) (s .earliest) (subst (λ n. n ≤ length xs) size l) in (
+      let m = greedily .1 .fits (s .bits) (s .earliest) (subst (λ n. n ≤ length xs) size l) in (
         canonicalized-same r (Bits count) (m .0 ∙ ap (answer 0) (sym (s .count-is))),
         left-by (in-front code xs) (m .1 ∙ ap (λ l. in-front l xs) (sym (s .bytes-are))),
       );

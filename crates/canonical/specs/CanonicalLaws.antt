@@ -4,7 +4,7 @@ use mathlib.Core.Bool.{true, not}
 use mathlib.Core.List.{List, [], _∷_, _++_}
 use Prim.Native.Nat.{ℕ, zero, suc, _+_, _*_, _-_, _≤_, _<_}
 use native.Mathlib.Omega.{arith}
-use borrow.Author.Tests.{not-false, ltb-false, le-ltb}
+use borrow.Author.Tests.{ltb-false, le-ltb}
 use lib.Dec.{ltb, leb}
 use lib.ListN.{length, take, drop, length-take}
 use lib.Seq.{take-at}
@@ -20,7 +20,7 @@ use Rattle.refusals.specs.Refusals.{answer, refused}
 use Rattle.refusals.specs.RefusalLaws.{number-positive}
 use Rattle.refusals.specs.Checks.{Check, First, Clear}
 use Rattle.refusals.specs.CheckLaws.{first-answered, first-positive, first-more, clear-success, clear-more}
-use Rattle.refusals.specs.CheckLaws.{clear-parts, zero-clear, refused-first}
+use Rattle.refusals.specs.CheckLaws.{clear-both, clear-parts, zero-clear, refused-first}
 use Rattle.syntax.specs.Table.{obeys, line-at, node-at, line-good, node-good, account-limit}
 use Rattle.syntax.specs.Tree.{Label, Tree}
 use Rattle.syntax.specs.Trees.{made, tree-of, root}
@@ -30,11 +30,12 @@ use Rattle.semantics.specs.Value.{flat}
 use Rattle.semantics.specs.LetterLaws.{Lettered, flat-letters}
 use Rattle.semantics.specs.VisitLaws.{All}
 use Rattle.steps.specs.StateSets.{words}
+use Rattle.entries.specs.CodeOrder.{code-order, clear-sound}
 use Rattle.codes.specs.declared.Flattened.{Flattened}
 use Rattle.codes.specs.declared.Flattened.the-variants.{Letters, Refused as Not-flattened}
 use Rattle.walks.specs.Whole.{whole-code}
-use Rattle.codes.specs.Flatten.{flatten-order, flatten-answer, flatten-tape, flattened-answer, Flattens}
-use Rattle.codes.specs.FlattenLaws.{flatten-fills}
+use Rattle.codes.specs.Flatten.{room-check, flatten-order, flatten-answer, flatten-tape, flattened-answer, Flattens}
+use Rattle.codes.specs.FlattenLaws.{flatten-clear, flatten-fills}
 use Rattle.walks.specs.WholeLaws.{whole-handed, whole-value, spells}
 use Rattle.parser.specs.declared.Parsed.{Parsed}
 use Rattle.parser.specs.declared.Parsed.the-variants.{Bits as Parsed-bits, Refused as Not-parsed}
@@ -67,13 +68,16 @@ pub record Spelled (p : Pattern) (code : List ℕ) (count size : ℕ) : Type 0 w
 
 clear-spelled : (p : Pattern) (code : List ℕ) (count size : ℕ) → Clear (flatten-order p code count size) → Spelled p code count size
 unfolding flatten-answer
-clear-spelled p code count size c = record {
-  good = not-false (obeys p) (c .0);
-  whole = not-false (whole-code (root p) code count) (c .1 .0);
-  few = ltb-false letter-limit (length (tape-of p code count)) (c .1 .1 .0);
-  room = ltb-false size (length (tape-of p code count)) (c .1 .1 .1 .0);
-  value-is = ap (λ a. a .value) (clear-success (flatten-order p code count size) (answer 0 (length (tape-of p code count))) c);
-}
+clear-spelled p code count size c =
+    let (d, e) = clear-parts (code-order p code count) (room-check p code count size) c in
+    let s = clear-sound p code count d in
+    record {
+      good = s .good;
+      whole = s .whole;
+      few = s .few;
+      room = ltb-false size (length (tape-of p code count)) (e .0);
+      value-is = ap (λ a. a .value) (clear-success (flatten-order p code count size) (answer 0 (length (tape-of p code count))) c);
+    }
 
 pub spelled : (p : Pattern) (code : List ℕ) (count size : ℕ) → flatten-answer p code count size .number ≡ 0 → Spelled p code count size
 unfolding flatten-answer
@@ -81,16 +85,8 @@ spelled p code count size h =
     clear-spelled p code count size (zero-clear (flatten-order p code count size) (answer 0 (length (tape-of p code count))) h)
 
 pub spelled-clear : (p : Pattern) (code : List ℕ) (count size : ℕ) → Spelled p code count size → Clear (flatten-order p code count size)
-spelled-clear p code count size s = (
-  ap not (s .good),
-  (
-    ap not (s .whole),
-    (
-      le-ltb letter-limit (length (tape-of p code count)) (s .few),
-      (le-ltb size (length (tape-of p code count)) (s .room), tt),
-    ),
-  ),
-)
+spelled-clear p code count size s =
+    flatten-clear p code count (record { good = s .good; whole = s .whole; few = s .few }) size (s .room)
 
 -- nothing before the sweeps refuses
 pub settle-passed : (p : Pattern) (code : List ℕ) (count size n : ℕ) → settle-early p code count size n .number ≡ 0
@@ -223,10 +219,8 @@ module _ (p : Pattern) (code : List ℕ) (count : ℕ) (ts us ws vs xs ys : List
       × Reads-greedily (root p) (tape-of p code count) xs ys (canonicalized-answer r)
   unfolding settle-early
   settles good whole few room enough =
-      let short = le-ltb letter-limit (length (tape-of p code count)) few in
-      let fits = le-ltb (length ts) (length (tape-of p code count)) room in
-      let c : Clear (flatten-order p code count (length ts)) = (ap not good, (ap not whole, (short, (fits, tt)))) in
-      let d : Clear (settle-order p code count (length ts) (length ws)) =
-      (ap not good, (ap not whole, (short, (fits, (le-ltb (length ws) (2 * (length (tape-of p code count) + 1)) enough, tt))))) in
+      let c = flatten-clear p code count (record { good = good; whole = whole; few = few }) (length ts) room in
+      let d = clear-both (flatten-order p code count (length ts)) (word-check p code count (length ws)) c
+      (le-ltb (length ws) (2 * (length (tape-of p code count) + 1)) enough, tt) in
       let z = ap (λ a. a .number) (clear-success (settle-order p code count (length ts) (length ws)) (answer 0 0) d) in
       (h .spells ∙ flatten-fills p code count ts c, h .fills z, h .reads z)

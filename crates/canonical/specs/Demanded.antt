@@ -97,7 +97,7 @@ module _ (p : Pattern) (good : obeys p ≡ true) where
           let s =
           settles p (c .bytes) (c .count) (x .tape) (x .tape-now) (x .words) (x .words-now) (x .out) (x .out-now) (x .result) (x .kept) good
           (c .is .whole) (c .few) (x .tape-room) (x .word-room) in
-          let m = s .2 .fits g canonical-tape (x .code-room g canonical-tape) in
+          let m = s .2 .1 .fits g canonical-tape (x .code-room g canonical-tape) in
           record {
             settled = record { count = length g; answers = m .0 };
             count-is = refl;

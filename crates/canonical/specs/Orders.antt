@@ -1,11 +1,11 @@
 -- Settling a code: the first cause that holds is answered, whatever later causes hold, and leaves what 01's table says.
 use mathlib.Core.Path.{_≡_, refl, sym, ap, subst, _∙_}
-use mathlib.Core.Bool.{Bool, true, false, not, false≢true}
+use mathlib.Core.Bool.{Bool, true, false, false≢true}
 use mathlib.Core.List.{List, [], _∷_}
 use Prim.Native.Nat.{ℕ, _+_, _*_, _≤_, _<_}
 use native.Mathlib.Omega.{arith}
 use native.Mathlib.Decide.{decLe}
-use borrow.Author.Tests.{lt-ltb, le-ltb}
+use borrow.Author.Tests.{lt-ltb}
 use lib.ListN.{length}
 use Rattle.syntax.specs.declared.Pattern.{Pattern}
 use Rattle.syntax.specs.Letter.{letter-limit}
@@ -15,16 +15,17 @@ use Rattle.refusals.specs.declared.Refusal.{Refusal}
 use Rattle.refusals.specs.declared.Refusal.the-variants.{LineForm, Tree as Tree-fault, TapeTooLong, TapeByte, Unreadable, WordsTooShort}
 use Rattle.refusals.specs.declared.Refusal.the-variants.{CodeTooShort, NotACode, TapeTooShort, NoSuchVisit}
 use Rattle.refusals.specs.Refusals.{answer, number}
-use Rattle.refusals.specs.Checks.{numbers, First, here, past, Clear}
-use Rattle.refusals.specs.CheckLaws.{first-answered, first-positive, first-more, refused-first, among, first-among}
+use Rattle.refusals.specs.Checks.{numbers, First, here}
+use Rattle.refusals.specs.CheckLaws.{first-answered, first-positive, first-more, first-behind, refused-first, among, first-among}
 use Rattle.bits.specs.Bits.{cell-count, in-front}
 use Rattle.semantics.specs.Code.{Canonical}
 use Rattle.semantics.specs.Sweeps.{greedy}
 use Rattle.semantics.specs.GreedyLaws.{greedy-canonical}
 use Rattle.steps.specs.StateSets.{words as state-sets}
 use Rattle.walks.specs.Whole.{whole-code}
-use Rattle.codes.specs.Flatten.{flatten-order}
-use Rattle.codes.specs.FlattenLaws.{flatten-refused, flatten-fills}
+use Rattle.entries.specs.CodeOrder.{code-order, Sound, first-2, first-8, first-3}
+use Rattle.codes.specs.Flatten.{room-check, flatten-order}
+use Rattle.codes.specs.FlattenLaws.{first-9, flatten-clear, flatten-refused, flatten-fills}
 use Rattle.parser.specs.Orders.{greedily-among}
 use Rattle.canonical.specs.declared.Canonicalized.{Canonicalized}
 use Rattle.canonical.specs.declared.Canonicalized.the-variants.{Refused}
@@ -90,11 +91,11 @@ module _ (p : Pattern) (code : List ℕ) (count : ℕ) (tape tape-now words word
           fit : Canonical (root p) (tape-of p code count) (greedy (root p) (tape-of p code count))
               → Dec (cell-count 8 (length (greedy (root p) (tape-of p code count))) ≤ length canonical) → ⊥
           fit k (yes l) =
-              let q = h .reads z .fits (greedy (root p) (tape-of p code count)) k l in
+              let q = h .reads z .1 .fits (greedy (root p) (tape-of p code count)) k l in
               let m : _≡_ {A = ℕ} 0 5 = ap (λ a. a .number) (sym (q .0) ∙ ap canonicalized-answer e) in
               omega arith
           fit k (no l) =
-              let q = h .reads z .short (greedy (root p) (tape-of p code count)) k (omega arith) in
+              let q = h .reads z .1 .short (greedy (root p) (tape-of p code count)) k (omega arith) in
               let m : _≡_ {A = ℕ} 7 5 = ap (λ a. a .number) (sym (q .0) ∙ ap canonicalized-answer e) in
               omega arith
 
@@ -114,22 +115,27 @@ module _ (p : Pattern) (code : List ℕ) (count : ℕ) (tape tape-now words word
       let q = only why (first-more (word-check p code count (length words)) f) in
       (q .0, h .spells ∙ sym (flatten-refused p code count tape why f .leaves), q .1, q .2)
 
+  -- one of the code's causes
+  only-code : (why : Refusal) → First why (code-order p code count) → All-left why
+  only-code why f = only-spelling why (first-more (room-check p code count (length tape)) f)
+
   pub only-2 : obeys p ≡ false → All-left (Tree-fault 0)
-  only-2 o = only-spelling (Tree-fault 0) (here (ap not o))
+  only-2 o = only-code (Tree-fault 0) (first-2 p code count o)
 
   module _ (o : obeys p ≡ true) where
     pub only-8 : whole-code (root p) code count ≡ false → All-left NotACode
-    only-8 w = only-spelling NotACode (past (ap not o) (here (ap not w)))
+    only-8 w = only-code NotACode (first-8 p code count o w)
 
     module _ (w : whole-code (root p) code count ≡ true) where
       pub only-3 : letter-limit < letters → All-left TapeTooLong
-      only-3 l = only-spelling TapeTooLong (past (ap not o) (past (ap not w) (here (lt-ltb letter-limit letters l))))
+      only-3 l = only-code TapeTooLong (first-3 p code count o w l)
 
       module _ (f : letters ≤ letter-limit) where
+        sound : Sound p code count
+        sound = record { good = o; whole = w; few = f }
+
         pub only-9 : length tape < letters → All-left (TapeTooShort letters)
-        only-9 l =
-            only-spelling (TapeTooShort letters)
-            (past (ap not o) (past (ap not w) (past (le-ltb letter-limit letters f) (here (lt-ltb (length tape) letters l)))))
+        only-9 l = only-spelling (TapeTooShort letters) (first-9 p code count sound (length tape) l)
 
         module _ (g : letters ≤ length tape) where
           -- 6: "marks, code; settling has filled the tape"
@@ -137,11 +143,9 @@ module _ (p : Pattern) (code : List ℕ) (count : ℕ) (tape tape-now words word
               → (r ≡ Refused (WordsTooShort (2 * (letters + 1)))) × (tape-now ≡ in-front (tape-of p code count) tape)
               × (words-now ≡ words) × (canonical-now ≡ canonical)
           only-6 l =
-              let few = le-ltb letter-limit letters f in
-              let room = le-ltb (length tape) letters g in
+              let c = flatten-clear p code count sound (length tape) g in
               let q = only (WordsTooShort (2 * (letters + 1)))
-              (past (ap not o) (past (ap not w) (past few (past room (here (lt-ltb (length words) (2 * (letters + 1)) l)))))) in
-              let c : Clear (flatten-order p code count (length tape)) = (ap not o, (ap not w, (few, (room, tt)))) in
+              (first-behind (flatten-order p code count (length tape)) c (here (lt-ltb (length words) (2 * (letters + 1)) l))) in
               (q .0, h .spells ∙ flatten-fills p code count tape c, q .1, q .2)
 
           -- 7: "code; the rest is filled"
@@ -151,5 +155,5 @@ module _ (p : Pattern) (code : List ℕ) (count : ℕ) (tape tape-now words word
               × (words-now ≡ in-front (state-sets p (tape-of p code count)) words) × (canonical-now ≡ canonical)
           only-7 k bits b l =
               let s = settles p code count tape tape-now words words-now canonical canonical-now r h o w f g k in
-              let m = s .2 .short bits b l in
+              let m = s .2 .1 .short bits b l in
               (canonicalized-same r (Refused (CodeTooShort (cell-count 8 (length bits)))) (m .0), s .0, s .1, m .1)

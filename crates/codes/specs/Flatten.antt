@@ -1,31 +1,29 @@
 -- Spelling a code: the answer and the tape, for every input. Definitions only.
 use mathlib.Core.Path.{_≡_}
-use mathlib.Core.Bool.{not, cond}
-use mathlib.Core.List.{List, [], _∷_}
+use mathlib.Core.Bool.{cond}
+use mathlib.Core.List.{List, [], _∷_, _++_}
 use Prim.Native.Nat.{ℕ}
 use lib.Dec.{eqb, ltb}
 use lib.ListN.{length}
 use Rattle.syntax.specs.declared.Pattern.{Pattern}
-use Rattle.refusals.specs.declared.Refusal.the-variants.{Tree as Tree-fault, TapeTooLong, NotACode, TapeTooShort}
-use Rattle.syntax.specs.Letter.{letter-limit}
+use Rattle.refusals.specs.declared.Refusal.the-variants.{TapeTooShort}
 use Rattle.syntax.specs.Trees.{root}
-use Rattle.syntax.specs.Table.{obeys}
 use Rattle.refusals.specs.Refusals.{Answer, answer, refused}
 use Rattle.refusals.specs.Checks.{Check, first-cause}
 use Rattle.bits.specs.Bits.{in-front}
-use Rattle.walks.specs.Whole.{whole-code, letters-of}
+use Rattle.walks.specs.Whole.{letters-of}
+use Rattle.entries.specs.CodeOrder.{code-order}
 use Rattle.codes.specs.declared.Flattened.{Flattened}
 use Rattle.codes.specs.declared.Flattened.the-variants.{Letters, Refused}
 
--- 01: "Spelling a code: 2, 8, 3, 9. Gives the letters." Of 2: "Each service tests the loaded table it is given", and 0 is returned beside it;
--- 9: "tape buffer shorter than the spelling", with the "letters needed".
+-- 01, of 9: "tape buffer shorter than the spelling", with the "letters needed"
+abbrev pub room-check : Pattern → (code : List ℕ) → (count size : ℕ) → List Check
+room-check p code count size =
+    (ltb size (length (letters-of (root p) code count)), TapeTooShort (length (letters-of (root p) code count))) ∷ []
+
+-- 01: "Spelling a code: 2, 8, 3, 9. Gives the letters."
 abbrev pub flatten-order : Pattern → (code : List ℕ) → (count : ℕ) → (size : ℕ) → List Check
-flatten-order p code count size =
-    (not (obeys p), Tree-fault 0)
-    ∷ (not (whole-code (root p) code count), NotACode)
-    ∷ (ltb letter-limit (length (letters-of (root p) code count)), TapeTooLong)
-    ∷ (ltb size (length (letters-of (root p) code count)), TapeTooShort (length (letters-of (root p) code count)))
-    ∷ []
+flatten-order p code count size = code-order p code count ++ room-check p code count size
 
 unfoldable pub flatten-answer : Pattern → (code : List ℕ) → (count : ℕ) → (size : ℕ) → Answer
 flatten-answer p code count size = first-cause (flatten-order p code count size) (answer 0 (length (letters-of (root p) code count)))

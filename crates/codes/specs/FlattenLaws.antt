@@ -1,10 +1,10 @@
 -- Spelling a whole code: one law for each way of the service.
 use mathlib.Core.Path.{_≡_, refl, sym, ap, ap₂, subst, _∙_}
-use mathlib.Core.Bool.{true, false, not, cond}
+use mathlib.Core.Bool.{true, false, cond}
 use mathlib.Core.List.{List, _++_}
-use Prim.Native.Nat.{ℕ, suc, _+_, _-_, _≤_, _<_}
+use Prim.Native.Nat.{ℕ, suc, _+_, _≤_, _<_}
 use native.Mathlib.Omega.{arith}
-use lib.Dec.{eqb, ltb}
+use lib.Dec.{eqb}
 use borrow.Author.Tests.{lt-ltb, le-ltb, ne-eqb}
 use lib.ListN.{length, drop, getD, set, length-set}
 use lib.Seq.{take-at, paste, paste-zero, paste-suc}
@@ -16,22 +16,16 @@ use Rattle.syntax.specs.Trees.{root}
 use Rattle.syntax.specs.Table.{obeys}
 use Rattle.refusals.specs.Refusals.{answer, number}
 use Rattle.refusals.specs.RefusalLaws.{number-positive}
-use Rattle.refusals.specs.Checks.{First, here, past, Clear}
-use Rattle.refusals.specs.CheckLaws.{first-answered, clear-success}
+use Rattle.refusals.specs.Checks.{First, here, Clear}
+use Rattle.refusals.specs.CheckLaws.{first-more, first-behind, clear-both, first-answered, clear-success}
 use Rattle.bits.specs.Bits.{in-front}
-use Rattle.table.specs.Cells.{tree-in, Holds}
-use Rattle.table.specs.CellLaws.{holds-tree}
 use Rattle.codes.specs.declared.Flattened.the-variants.{Letters, Refused}
 use Rattle.walks.specs.Whole.{whole-code, letters-of}
-use Rattle.codes.specs.Flatten.{flatten-order, flatten-answer, flatten-tape, Flattens}
+use Rattle.codes.specs.Flatten.{room-check, flatten-order, flatten-answer, flatten-tape, Flattens}
 use Rattle.entries.specs.declared.Measured.{Measured}
 use Rattle.entries.specs.Measures.{Reads, measured-no, measured-yes, measured-letters}
 use Rattle.entries.specs.WholeLaws.{letters-front}
-
--- a table that holds the pattern: what was read at its last line is the pattern's
-pub reads-root : (p : Pattern) (table : List ℕ) → obeys p ≡ true → Holds p table → {code : List ℕ} {count : ℕ} {xs ys xs' ys' : List ℕ} {m : Measured}
-    → Reads code (tree-in table (p .count - 1)) count xs ys xs' ys' m → Reads code (root p) count xs ys xs' ys' m
-reads-root p table o h {code} {count} {xs} {ys} {xs'} {ys'} {m} k = subst (λ t. Reads code t count xs ys xs' ys' m) (holds-tree p table o h) k
+use Rattle.entries.specs.CodeOrder.{code-order, Sound, first-2, first-8, first-3, sound-clear}
 
 -- ── the loop that copies: i letters are in front of what the tape held ──
 pub record Copied (own old now : List ℕ) (n i : ℕ) : Type 0 where
@@ -63,6 +57,17 @@ paste-front new rest old n e =
     let z : 0 + n ≡ length new = omega arith in
     ap₂ (λ xs k. xs ++ drop k old) (take-at new (drop (length new) rest) n e) z
 
+-- ── 9, behind the causes of a code ──
+module _ (p : Pattern) (code : List ℕ) (count : ℕ) (s : Sound p code count) (size : ℕ) where
+  abbrev letters : ℕ
+  letters = length (letters-of (root p) code count)
+
+  pub first-9 : size < letters → First (TapeTooShort letters) (flatten-order p code count size)
+  first-9 l = first-behind (code-order p code count) (sound-clear p code count s) (here (lt-ltb size letters l))
+
+  pub flatten-clear : letters ≤ size → Clear (flatten-order p code count size)
+  flatten-clear l = clear-both (code-order p code count) (room-check p code count size) (sound-clear p code count s) (le-ltb size letters l, tt)
+
 module _ (p : Pattern) (code : List ℕ) (count : ℕ) (tape : List ℕ) where
   -- the first cause that holds is answered, and the tape is left
   pub flatten-refused : (why : Refusal) → First why (flatten-order p code count (length tape)) → Flattens p code count tape tape (Refused why)
@@ -82,12 +87,16 @@ module _ (p : Pattern) (code : List ℕ) (count : ℕ) (tape : List ℕ) where
       ap (λ a. cond (eqb (a .number) 0) (in-front (letters-of (root p) code count) tape) tape)
       (clear-success (flatten-order p code count (length tape)) (answer 0 (length (letters-of (root p) code count))) c)
 
+  -- so is one of the code's causes
+  pub flatten-no-code : (why : Refusal) → First why (code-order p code count) → Flattens p code count tape tape (Refused why)
+  flatten-no-code why f = flatten-refused why (first-more (room-check p code count (length tape)) f)
+
   pub flatten-bad : obeys p ≡ false → Flattens p code count tape tape (Refused (Tree-fault 0))
-  flatten-bad o = flatten-refused (Tree-fault 0) (here (ap not o))
+  flatten-bad o = flatten-no-code (Tree-fault 0) (first-2 p code count o)
 
   module _ (o : obeys p ≡ true) {own ys own' ys' : List ℕ} {m : Measured} (k : Reads code (root p) count own ys own' ys' m) where
     pub flatten-not : m .whole ≡ false → Flattens p code count tape tape (Refused NotACode)
-    flatten-not f = flatten-refused NotACode (past (ap not o) (here (ap not (measured-no (root p) code count m (k .is) f))))
+    flatten-not f = flatten-no-code NotACode (first-8 p code count o (measured-no (root p) code count m (k .is) f))
 
     module _ (f : m .whole ≡ true) where
       whole : whole-code (root p) code count ≡ true
@@ -96,30 +105,25 @@ module _ (p : Pattern) (code : List ℕ) (count : ℕ) (tape : List ℕ) where
       pub flatten-long : letter-limit < m .letters → Flattens p code count tape tape (Refused TapeTooLong)
       flatten-long h =
           let n = measured-letters (root p) code count m (k .is) f in
-          flatten-refused TapeTooLong
-          (past (ap not o) (past (ap not whole) (here (lt-ltb letter-limit (length (letters-of (root p) code count)) (omega arith)))))
+          flatten-no-code TapeTooLong (first-3 p code count o whole (omega arith))
 
       module _ (h : m .letters ≤ letter-limit) where
         exactly : length (letters-of (root p) code count) ≡ m .letters
         exactly = let n = measured-letters (root p) code count m (k .is) f in omega arith
 
-        few : ltb letter-limit (length (letters-of (root p) code count)) ≡ false
-        few = let n = exactly in le-ltb letter-limit (length (letters-of (root p) code count)) (omega arith)
+        sound : Sound p code count
+        sound = record { good = o; whole = whole; few = omega (arith, exactly) }
 
         pub flatten-short : length tape < m .letters → Flattens p code count tape tape (Refused (TapeTooShort (m .letters)))
         flatten-short g =
-            let n = exactly in
             subst (λ l. Flattens p code count tape tape (Refused (TapeTooShort l))) exactly
-            (flatten-refused (TapeTooShort (length (letters-of (root p) code count)))
-            (past (ap not o) (past (ap not whole) (past few (here (lt-ltb (length tape) (length (letters-of (root p) code count)) (omega arith)))))))
+            (flatten-refused (TapeTooShort (length (letters-of (root p) code count))) (first-9 p code count sound (length tape) (omega (arith, exactly))))
 
         pub flatten-done : m .letters ≤ length tape → length own ≡ letter-limit → {tape' : List ℕ} → tape' ≡ paste tape 0 own' (m .letters)
             → Flattens p code count tape tape' (Letters (m .letters))
         unfolding flatten-answer
         flatten-done g long e =
-            let n = exactly in
-            let room = le-ltb (length tape) (length (letters-of (root p) code count)) (omega arith) in
-            let clear : Clear (flatten-order p code count (length tape)) = (ap not o, (ap not whole, (few, (room, tt)))) in
+            let clear = flatten-clear p code count sound (length tape) (omega (arith, exactly)) in
             let new = letters-front (root p) code count whole (k .wrote f) (omega (arith, exactly)) in
             record {
               answers = ap (answer 0) (sym exactly)

@@ -1,20 +1,15 @@
 -- Spelling a code: the first cause that holds is answered, whatever later causes hold, and all is left as it was.
 use mathlib.Core.Path.{_≡_, refl, sym, ap, _∙_}
-use mathlib.Core.Bool.{true, false, not}
 use mathlib.Core.List.{List, [], _∷_}
-use Prim.Native.Nat.{ℕ, _≤_, _<_}
-use borrow.Author.Tests.{lt-ltb, le-ltb}
+use Prim.Native.Nat.{ℕ}
 use lib.ListN.{length}
 use Rattle.syntax.specs.declared.Pattern.{Pattern}
-use Rattle.syntax.specs.Letter.{letter-limit}
-use Rattle.syntax.specs.Table.{obeys}
 use Rattle.syntax.specs.Trees.{root}
 use Rattle.refusals.specs.declared.Refusal.{Refusal}
-use Rattle.refusals.specs.declared.Refusal.the-variants.{Tree as Tree-fault, TapeTooLong, NotACode, TapeTooShort}
 use Rattle.refusals.specs.Refusals.{answer}
-use Rattle.refusals.specs.Checks.{numbers, First, here, past}
+use Rattle.refusals.specs.Checks.{numbers, First}
 use Rattle.refusals.specs.CheckLaws.{refused-first}
-use Rattle.walks.specs.Whole.{whole-code, letters-of}
+use Rattle.walks.specs.Whole.{letters-of}
 use Rattle.codes.specs.declared.Flattened.{Flattened}
 use Rattle.codes.specs.declared.Flattened.the-variants.{Refused}
 use Rattle.codes.specs.Flatten.{flatten-order, flatten-answer, flattened-answer, Flattens}
@@ -33,6 +28,7 @@ module _ (p : Pattern) (code : List ℕ) (count : ℕ) where
     abbrev Only : Refusal → Type 0
     Only why = (r ≡ Refused why) × (tape-now ≡ tape)
 
+    -- which cause is the first: `first-2`, `first-8` and `first-3` of entries, by `first-more`, and `first-9`
     pub flatten-only : (why : Refusal) → First why (flatten-order p code count (length tape)) → Only why
     flatten-only why f = flattens-one p code count tape tape-now tape r (Refused why) h (flatten-refused p code count tape why f)
 
@@ -40,18 +36,3 @@ module _ (p : Pattern) (code : List ℕ) (count : ℕ) where
     pub flatten-first : (why : Refusal) → r ≡ Refused why → First why (flatten-order p code count (length tape))
     unfolding flatten-answer
     flatten-first why e = refused-first (flatten-order p code count (length tape)) (answer 0 letters) refl why (sym (h .answers) ∙ ap flattened-answer e)
-
-    pub flatten-only-2 : obeys p ≡ false → Only (Tree-fault 0)
-    flatten-only-2 o = flatten-only (Tree-fault 0) (here (ap not o))
-
-    pub flatten-only-8 : obeys p ≡ true → whole-code (root p) code count ≡ false → Only NotACode
-    flatten-only-8 o w = flatten-only NotACode (past (ap not o) (here (ap not w)))
-
-    pub flatten-only-3 : obeys p ≡ true → whole-code (root p) code count ≡ true → letter-limit < letters → Only TapeTooLong
-    flatten-only-3 o w l = flatten-only TapeTooLong (past (ap not o) (past (ap not w) (here (lt-ltb letter-limit letters l))))
-
-    pub flatten-only-9 : obeys p ≡ true → whole-code (root p) code count ≡ true → letters ≤ letter-limit → length tape < letters
-        → Only (TapeTooShort letters)
-    flatten-only-9 o w f l =
-        flatten-only (TapeTooShort letters)
-        (past (ap not o) (past (ap not w) (past (le-ltb letter-limit letters f) (here (lt-ltb (length tape) letters l)))))

@@ -43,7 +43,8 @@ pub enum Flattened {
     Refused(Refusal),
 }
 
-// Spells a code: its letters in front of the tape, copied there once they are known to fit.
+// Spells a code: its letters in front of the tape, copied there once they are known to fit. It does not begin with `gather` of entries, whose
+// tests it makes: as so short a function it was compiled into settling, which then held its array while it parsed, for 3,632 bytes of stack more.
 pub fn flatten(p: Pattern, code: &[u8], count: u32, tape: &mut [u8]) -> Flattened
     ensures { λ r. ⌜ Flattens p (now (code .entry)) count (now (tape .entry)) (now (tape .exit)) r ⌝ }
 {

@@ -34,6 +34,15 @@ no-letters : (w : List ℕ) (n : ℕ) → n ≡ length w → eqb n 0 ≡ at-end 
 no-letters [] n e = ap (λ k. eqb k 0) e
 no-letters (c ∷ w) n e = ne-eqb n 0 (λ z. omega (arith, e, z))
 
+-- right words of some letters have the flag 1 state set of all of them last
+pub last-word : (p : Pattern) (w marks : List ℕ) → Marks-of p w marks → getD marks (2 * length w + 1) 0 ≡ state-set p true w
+last-word p w marks right =
+    let whole : length w - length w ≡ 0 = omega arith in
+    sym (getD-take (words-for (length w)) marks (2 * length w + 1) 0 (omega arith))
+    ∙ ap (λ ws. getD ws (2 * length w + 1) 0) right
+    ∙ tail-at p w (length w) true (omega arith)
+    ∙ ap (λ k. state-set p true (drop k w)) whole
+
 -- right words of the letters held, with a page's words grown behind them, are those of the page before these letters
 module _ (p : Pattern) (rules : Rules p) (w page marks : List ℕ) (n : ℕ) (size : n ≡ length w) (right : Marks-of p w marks) where
   abbrev more : List ℕ
@@ -43,12 +52,7 @@ module _ (p : Pattern) (rules : Rules p) (w page marks : List ℕ) (n : ℕ) (si
   next-word : getD marks (2 * n + 1) 0 ≡ state-set p true w
   next-word =
       let at : 2 * n + 1 ≡ 2 * length w + 1 = omega (arith, size) in
-      let whole : length w - length w ≡ 0 = omega arith in
-      ap (λ k. getD marks k 0) at
-      ∙ sym (getD-take (words-for (length w)) marks (2 * length w + 1) 0 (omega arith))
-      ∙ ap (λ ws. getD ws (2 * length w + 1) 0) right
-      ∙ tail-at p w (length w) true (omega arith)
-      ∙ ap (λ k. state-set p true (drop k w)) whole
+      ap (λ k. getD marks k 0) at ∙ last-word p w marks right
 
   pub grown-right : words-for (n + length page) ≤ length marks → Marks-of p (page ++ w) (sets marks (2 * (n + 1)) more)
   grown-right room =

@@ -3,7 +3,7 @@ use mathlib.Core.Path.{_≡_, refl, sym, ap, ap₂, subst, _∙_}
 use mathlib.Core.Bool.{Bool, true, false, cond, true≢false, false≢true}
 use mathlib.Core.Option.{none, some, Option·none-ne-some}
 use mathlib.Core.List.{List, [], _∷_, _++_, map}
-use Prim.Native.Nat.{ℕ, suc, _+_, _*_, _≤_, _<_}
+use Prim.Native.Nat.{ℕ, suc, _+_, _*_, _≤_, _<_, min}
 use native.Mathlib.Omega.{arith}
 use native.Mathlib.Decide.{decLt}
 use lib.ListN.{length, length-append, length-set, set}
@@ -19,9 +19,7 @@ use Rattle.semantics.specs.Accounts.{handed-down}
 use Rattle.semantics.specs.AccountLaws.{letters}
 use Rattle.semantics.specs.Positions.{Seen, joined}
 use Rattle.table.specs.Cells.{node-in, account-in, tree-in, Good}
-use Rattle.walks.specs.Looks.{stops}
-use Rattle.walks.specs.Words.{same-seen, then-some}
-use Rattle.walks.specs.Walks.{cap}
+use Rattle.walks.specs.Looks.{stops, same-seen, then-some}
 use Rattle.walks.specs.Lines.{line-as, star-as, first-lower, second-lower, side-lower, star-lower}
 use Rattle.entries.specs.declared.Entered.{Entered}
 use Rattle.entries.specs.Entries.{Entries, accounts-in, entries-at, entries-then, leaf-tree, leaf-entries, entries-stays}
@@ -38,6 +36,10 @@ pub record Ready (code tape owners : List ℕ) (at n : ℕ) : Type 0 where
 
 pub ready-at : {code tape owners : List ℕ} {at n j : ℕ} → Ready code tape owners at n → j ≤ length code * 8 → Ready code tape owners j n
 ready-at s h = record { within = h; short = s .short; few = s .few; long = s .long; wide = s .wide }
+
+-- 3,601 stands for every number of letters above 3,600: a letter is spelled without a bit, so the number itself need not fit a machine word
+abbrev pub cap : ℕ → ℕ
+cap n = min (letter-limit + 1) n
 
 -- a walk that fails answers one value, whatever it had read
 abbrev pub failed : Entered
@@ -204,7 +206,7 @@ module _ {code : List ℕ} {v : Tree} {ov at : ℕ} {t : Tree} {ot from : ℕ} {
           wide = k .wide ∙ w .wide;
           answer = k .answer ∙ entered-join (one .entries) (entries-at code u ou (r .at)) n (r .n) (one .count) ∙ ap (λ s. entered s n) (sym is);
           wrote = λ fs j g.
-              let (x, i, y, p, q, h) = then-some (some (one .entries, r .at)) (entries-at code u ou) fs j (sym is ∙ g) in
+              let (x, i, y, p, q, h) = then-some _++_ (some (one .entries, r .at)) (entries-at code u ou) fs j (sym is ∙ g) in
               let (px, pi) = same-seen p in
               let (l, m) = k .wrote y j (ap (entries-at code u ou) pi ∙ q) in
               let all = ap (λ a. a ++ y) px ∙ h in (

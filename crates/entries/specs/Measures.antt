@@ -20,13 +20,12 @@ use Rattle.semantics.specs.Decode.{Read, read, value-of, is-code}
 use Rattle.semantics.specs.DecodeLaws.{read-sound}
 use Rattle.semantics.specs.Positions.{see, seen}
 use Rattle.walks.specs.Whole.{whole-code, letters-of}
-use Rattle.walks.specs.Walks.{cap}
-use Rattle.walks.specs.Words.{same-seen}
+use Rattle.walks.specs.Looks.{same-seen}
 use Rattle.walks.specs.WholeLaws.{whole-value}
 use Rattle.entries.specs.declared.Entered.{Entered}
 use Rattle.entries.specs.declared.Measured.{Measured}
 use Rattle.entries.specs.Entries.{Entries, entries-at}
-use Rattle.entries.specs.Entering.{Enters, Wrote, enters-some, enters-none}
+use Rattle.entries.specs.Entering.{cap, Enters, Wrote, enters-some, enters-none}
 use Rattle.entries.specs.WholeLaws.{whole-entries, entered-count}
 
 abbrev pub no-measure : Measured

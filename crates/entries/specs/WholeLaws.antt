@@ -21,7 +21,7 @@ use Rattle.semantics.specs.DecodeLaws.{read-code}
 use Rattle.semantics.specs.CodeLaws.{value-of-sound}
 use Rattle.semantics.specs.Positions.{see, seen}
 use Rattle.walks.specs.Whole.{whole-code, letters-of}
-use Rattle.walks.specs.Words.{same-seen}
+use Rattle.walks.specs.Looks.{same-seen}
 use Rattle.walks.specs.WholeLaws.{whole-handed, whole-value, spells}
 use Rattle.entries.specs.Entries.{Entries, accounts-in, entries-at}
 use Rattle.entries.specs.Entering.{Wrote}

@@ -1,9 +1,10 @@
 // The entries of a code: each letter that it spells, with the account that its litres go to. One walk tests a code and writes them into two
-// lent slices.
+// lent slices (`enter`). Totals, of a whole tape or of a term,
+// begin with `gather`, which tests the table too and answers the causes of a code.
 // The walk is not handed the bit count: over a whole code it stops behind the last bit, whatever bits follow, since no code begins another. It
 // writes into arrays of the service's own, so that no cell of the caller's is touched before the code is known to be whole; where it is not, they
-// hold anything and nobody reads them. Spelling and comparing lend no cells for accounts. Totals are a loop over what is written, and later
-// terms and tariffs are too.
+// hold anything and nobody reads them. Spelling and comparing lend no cells for accounts. Totals, of a whole tape or of a
+// term, are a loop over what is written, and later tariffs are too.
 ghost use mathlib.Core.Path.{_≡_};
 ghost use mathlib.Core.Bool.{true};
 ghost use Prim.Native.Nat.{_+_, _*_, _≤_, _<_};
@@ -13,18 +14,21 @@ ghost use Rattle.bits.specs.Bits.{byte-limit};
 ghost use Rattle.semantics.specs.Accounts.{handed-down};
 ghost use Rattle.table.specs.Cells.{Good, tree-in};
 ghost use Rattle.walks.specs.Lines.{range-node};
-ghost use Rattle.walks.specs.Walks.{cap};
 ghost use Rattle.entries.specs.Entries.{leaf-tree};
-ghost use Rattle.entries.specs.Entering.{Ready, went, failed, Enters};
+ghost use Rattle.entries.specs.Entering.{Ready, cap, went, failed, Enters};
 ghost use Rattle.entries.specs.Measures.{no-measure, Reads};
+ghost use Rattle.entries.specs.Gather.{Gathers};
 use bits::byte_at;
 use bits::handed_good;
+use refusals::Refusal;
 use syntax::Leaf;
 use syntax::Node;
 use syntax::Pattern;
 use syntax::in_range;
+use syntax::obeys_rules;
 use table::account_at;
 use table::node_at;
+use table::table_of;
 use walks::side_at;
 use walks::stops_at;
 
@@ -265,4 +269,38 @@ pub fn enter(
         whole: true,
         letters: entered.n as u32,
     }
+}
+
+// What gathering a code's entries answers: how many there are, or why there are none.
+pub enum Gathered {
+    Entries(usize),
+    Refused(Refusal),
+}
+
+// Tests the table and the code, and lays the code's letters in front of one buffer and their accounts in front of another. Refused, the
+// buffers hold anything. It is no service: services lend it arrays of their own, which are long enough for any tape.
+pub fn gather(
+    p: Pattern,
+    code: &[u8],
+    count: u32,
+    letters: &mut [u8],
+    accounts: &mut [u8],
+) -> Gathered
+    requires { ⌜ (length (now letters) ≡ letter-limit) × (length (now accounts) ≡ letter-limit) ⌝ }
+    ensures { λ r. ⌜ Gathers p (now (code .entry)) count (now (letters .exit)) (now (accounts .exit)) r ⌝ }
+{
+    if !obeys_rules(p) {
+        return Gathered::Refused(Refusal::Tree(0));
+    }
+    let table = table_of(p);
+    let root = p.count - 1;
+    let measured = enter(&table, root, code, count, letters, accounts);
+    if !measured.whole {
+        return Gathered::Refused(Refusal::NotACode);
+    }
+    let n = measured.letters as usize;
+    if Pattern::MAX_LETTERS < n {
+        return Gathered::Refused(Refusal::TapeTooLong);
+    }
+    Gathered::Entries(n)
 }

@@ -7,7 +7,7 @@ use native.Mathlib.Numerals.{add-one}
 use native.Mathlib.Nat.{add-zero}
 use native.Mathlib.Omega.{arith}
 use lib.Dec.{eqb}
-use lib.ListN.{length, getD, drop, set, length-drop}
+use lib.ListN.{length, getD, drop, set, length-drop, length-set}
 use lib.Seq.{drop-cons, drop-length, sets, length-sets}
 use Rattle.syntax.specs.declared.Pattern.{Pattern}
 use Rattle.syntax.specs.Letter.{is-letter, letter-limit}
@@ -17,20 +17,30 @@ use Rattle.bits.specs.Bits.{in-front}
 use Rattle.semantics.specs.Sweeps.{at-end}
 use Rattle.table.specs.Cells.{line-in, tree-in, Holds}
 use Rattle.table.specs.CellLaws.{holds-tree}
-use Rattle.masks.specs.Leaves.{letter-cells}
+use Rattle.masks.specs.Leaves.{letter-cells, entry}
 use Rattle.masks.specs.Closure.{end-mask}
 use Rattle.masks.specs.Masks.{Leaf-masks, Masks-of}
 use Rattle.steps.specs.declared.Words.{Words}
 use Rattle.steps.specs.StateSets.{state-set}
-use Rattle.steps.specs.Steps.{state-end}
+use Rattle.steps.specs.Steps.{state-end, step-of}
 use Rattle.first_sweep.specs.Fill.{small-letters, all-letters}
-use Rattle.first_sweep.specs.Sweep.{put}
+use Rattle.first_sweep.specs.Sweep.{put, Filling, filling-down}
 use Rattle.first_sweep.specs.Tail.{tail-words}
 use Rattle.first_sweep.specs.Grow.{Step, one-behind, grown-by, grown, stored-step, grown-length, grown-stored}
 
 -- two words are written, from cell `at` on, that of flag 0 first
 pub record Puts-words (zero one at : ℕ) (words words-now : List ℕ) : Type 0 where
   pub is : words-now ≡ set (set words at zero) (at + 1) one
+
+-- a fill goes on by such words; z and o are what is written
+pub filling-put : (zs os ts ks : List ℕ) (e : ℕ) (tape old : List ℕ) → 2 * (length tape + 1) ≤ length old → (i next c : ℕ) (last : Bool)
+    (words now : List ℕ) (r : Words) (z o : ℕ) → 0 < i → Filling zs os ts ks e tape old i next last words → c ≡ getD tape (i - 1) 0
+    → r ≡ step-of zs os ts (entry ks c) next last → Puts-words z o (2 * (i - 1)) words now → z ≡ r .zero → o ≡ r .one
+    → Filling zs os ts ks e tape old (i - 1) (r .one) false now
+filling-put zs os ts ks e tape old room i next c last words now r z o h f g s w flag-0 flag-1 =
+    subst (Filling zs os ts ks e tape old (i - 1) (r .one) false)
+    (sym (w .is ∙ ap₂ (λ x y. set (set words (2 * (i - 1)) x) (2 * (i - 1) + 1) y) flag-0 flag-1))
+    (filling-down zs os ts ks e tape old room i next c last words r h f g s)
 
 -- every letter has an entry in the table of letters, the tape has at most 3,600 with the page, and the buffer is long enough
 pub record Page-sweepable (page : List ℕ) (held : ℕ) (words : List ℕ) : Type 0 where
@@ -110,6 +120,47 @@ module _ (f : Step) (first held : ℕ) (page old : List ℕ) where
 
   pub growing-end : (at behind : ℕ) (last : Bool) (words : List ℕ) → Growing 0 at behind last words → Sweeps-page f first held page old words
   growing-end at behind last words g = record { is = g .wrote }
+
+-- ---- a page from any letter on
+-- every letter has an entry in the table of letters, and there is room for the words of those left
+pub record Page-left (page : List ℕ) (i at : ℕ) (words : List ℕ) : Type 0 where
+  pub letters : (i : ℕ) → getD page i 0 < letter-cells
+  pub inside : i ≤ length page
+  pub room : at + 2 * i ≤ length words
+
+module _ (f : Step) (page : List ℕ) where
+  -- the words down to letter j, whatever is held and whatever the words were
+  pub record Grows-onward (i at behind : ℕ) (last : Bool) (words : List ℕ) (j at-now behind-now : ℕ) (last-now : Bool) (words-now : List ℕ) : Type 0 where
+    pub inside : j ≤ length page
+    pub same : length words-now ≡ length words
+    pub place : at-now + 2 * j ≡ at + 2 * i
+    pub to : (first held : ℕ) (old : List ℕ) → Growing f first held page old i at behind last words
+        → Growing f first held page old j at-now behind-now last-now words-now
+
+  -- and so the page is swept
+  pub record Grows-on (i at behind : ℕ) (last : Bool) (words words-now : List ℕ) : Type 0 where
+    pub is : (first held : ℕ) (old : List ℕ) → Growing f first held page old i at behind last words → Sweeps-page f first held page old words-now
+
+  module _ (i at behind : ℕ) (last : Bool) (words : List ℕ) where
+    pub grows-start : i ≤ length page → Grows-onward i at behind last words i at behind last words
+    grows-start h = record { inside = h; same = refl; place = refl; to = λ a b c g. g }
+
+    pub grows-down : (j at-now behind-now c : ℕ) (last-now : Bool) (words-now new : List ℕ) (r : Words) → 0 < j
+        → Grows-onward i at behind last words j at-now behind-now last-now words-now → c ≡ getD page (j - 1) 0 → r ≡ f c behind-now last-now
+        → Puts-words (r .zero) (r .one) at-now words-now new → Grows-onward i at behind last words (j - 1) (at-now + 2) (r .one) false new
+    grows-down j at-now behind-now c last-now words-now new r o q e s w = record {
+      inside = omega (arith, q .inside);
+      same = ap length (w .is) ∙ simp length-set (q .same);
+      place = omega (arith, q .place);
+      to = λ first held old g.
+          growing-down f first held page old j at-now behind-now c last-now words-now new r (r .zero) (r .one) o (q .to first held old g) e s w refl refl;
+    }
+
+    pub grows-end : (at-now behind-now : ℕ) (last-now : Bool) (words-now : List ℕ) → Grows-onward i at behind last words 0 at-now behind-now last-now words-now
+        → Grows-on i at behind last words words-now
+    grows-end at-now behind-now last-now words-now q = record {
+      is = λ first held old g. growing-end f first held page old at-now behind-now last-now words-now (q .to first held old g);
+    }
 
 -- so that the buffer holds the words of the definition, from the flag 1 word of the letters held
 pub grown-words :

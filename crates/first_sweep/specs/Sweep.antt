@@ -77,10 +77,11 @@ module _ (zs os ts ks : List ℕ) (e : ℕ) where
           ends = rw d refl;
         }
 
-    pub filling-end : (next : ℕ) (last : Bool) (words : List ℕ) → Filling tape ended 0 next last words → words ≡ in-front (sweep-of zs os ts ks e tape) old
+    pub filling-end : (words : List ℕ) → words ≡ sweep-of zs os ts ks e tape ++ drop (2 * (length tape + 1)) ended
+        → words ≡ in-front (sweep-of zs os ts ks e tape) old
     unfolding in-front
-    filling-end next last words f =
-        f .filled ∙ ap (λ z. sweep-of zs os ts ks e tape ++ z) ended-behind ∙ ap (λ k. sweep-of zs os ts ks e tape ++ drop k old) (sym (sweep-length tape))
+    filling-end words f =
+        f ∙ ap (λ z. sweep-of zs os ts ks e tape ++ z) ended-behind ∙ ap (λ k. sweep-of zs os ts ks e tape ++ drop k old) (sym (sweep-length tape))
 
     pub filling-next : (i next c : ℕ) (last : Bool) (words : List ℕ) (r : Words) → Filling tape old (i + 1) next last words → c ≡ getD tape i 0
         → r ≡ step-of zs os ts (entry ks c) next last → Filling tape old i (r .one) false (set (set words (2 * i) (r .zero)) (2 * i + 1) (r .one))
@@ -107,3 +108,37 @@ module _ (zs os ts ks : List ℕ) (e : ℕ) where
     filling-down i next c last words r o f g h =
         let e : i ≡ i - 1 + 1 = omega arith in
         filling-next (i - 1) next c last words r (subst (λ k. Filling tape old k next last words) e f) g h
+
+-- ---- a fill from any position on
+module _ (zs os ts ks tape : List ℕ) where
+  -- what was filled from position i on is filled from position j on, whatever the end's word and what lies behind the last position
+  pub record Onward (i next : ℕ) (last : Bool) (words : List ℕ) (j next-now : ℕ) (last-now : Bool) (words-now : List ℕ) : Type 0 where
+    pub inside : j ≤ length tape
+    pub same : length words-now ≡ length words
+    pub to : (e : ℕ) (old : List ℕ) → Filling zs os ts ks e tape old i next last words → Filling zs os ts ks e tape old j next-now last-now words-now
+
+  -- and so it is filled
+  pub record Fills-on (i next : ℕ) (last : Bool) (words words-now : List ℕ) : Type 0 where
+    pub is : (e : ℕ) (old : List ℕ) → Filling zs os ts ks e tape old i next last words
+        → words-now ≡ sweep-of zs os ts ks e tape ++ drop (2 * (length tape + 1)) old
+
+  module _ (i next : ℕ) (last : Bool) (words : List ℕ) where
+    pub onward-start : i ≤ length tape → Onward i next last words i next last words
+    onward-start h = record { inside = h; same = refl; to = λ e old f. f }
+
+    pub onward-down : (j next-now c : ℕ) (last-now : Bool) (words-now : List ℕ) (r : Words) → 2 * (length tape + 1) ≤ length words → 0 < j
+        → Onward i next last words j next-now last-now words-now → c ≡ getD tape (j - 1) 0 → r ≡ step-of zs os ts (entry ks c) next-now last-now
+        → Onward i next last words (j - 1) (r .one) false (set (set words-now (2 * (j - 1)) (r .zero)) (2 * (j - 1) + 1) (r .one))
+    onward-down j next-now c last-now words-now r room o q g h = record {
+      inside = omega (arith, q .inside);
+      same = simp length-set (q .same);
+      to = λ e old f. filling-down zs os ts ks e tape old (omega (arith, f .same)) j next-now c last-now words-now r o (q .to e old f) g h;
+    }
+
+    pub onward-end : (next-now : ℕ) (last-now : Bool) (words-now : List ℕ) → Onward i next last words 0 next-now last-now words-now
+        → Fills-on i next last words words-now
+    onward-end next-now last-now words-now q = record { is = λ e old f. q .to e old f .filled }
+
+    pub fills-end : (e : ℕ) (old : List ℕ) (room : 2 * (length tape + 1) ≤ length old) (words-now : List ℕ) → Fills-on i next last words words-now
+        → Filling zs os ts ks e tape (ended zs os ts ks e tape old room) i next last words → words-now ≡ in-front (sweep-of zs os ts ks e tape) old
+    fills-end e old room words-now f g = filling-end zs os ts ks e tape old room words-now (f .is e (ended zs os ts ks e tape old room) g)

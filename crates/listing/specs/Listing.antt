@@ -18,7 +18,7 @@ use Rattle.semantics.specs.Accounts.{totals}
 use Rattle.semantics.specs.Decode.{value-of}
 use Rattle.semantics.specs.Sweeps.{readable, greedy}
 use Rattle.steps.specs.StateSets.{words as state-sets}
-use Rattle.totals.specs.Totals.{entries-by}
+use Rattle.entries.specs.Gather.{entries-by}
 use Rattle.parser.specs.Parse.{early}
 use Rattle.listing.specs.declared.Listed.{Listed}
 use Rattle.listing.specs.declared.Listed.the-variants.{Bytes, TooShort}

@@ -32,7 +32,8 @@ use Rattle.semantics.specs.GreedyLaws.{greedy-canonical, readable-iff}
 use Rattle.steps.specs.StateSets.{words as state-sets}
 use Rattle.first_sweep.specs.Meaning.{words-length}
 use Rattle.totals.specs.declared.Totalled.{Totalled}
-use Rattle.totals.specs.Totals.{entries-by, entries-of, totals-answer, totals-litres, Totals}
+use Rattle.entries.specs.Gather.{entries-by, entries-of}
+use Rattle.totals.specs.Totals.{totals-answer, totals-litres, Totals}
 use Rattle.totals.specs.TotalsLaws.{totalled-many}
 use Rattle.canonical.specs.RoundTrip.{canonical-whole, canonical-spells}
 use Rattle.parser.specs.declared.Parsed.{Parsed}
@@ -226,8 +227,8 @@ module _ (p : Pattern) (tape ws us xs ys : List ℕ) (lw : length ws ≡ word-li
 
     swept : (b : Bool) → readable (root p) tape ≡ b → (r : Parsed) → Reads-greedily (root p) tape xs ys (parsed-answer r) → Follows p tape us ys r
     swept true e r g =
-        is-readable e r (g .fits (greedy (root p) tape) (greedy-canonical (root p) tape e) (omega (arith, greedy-few p (clear .good) tape (clear .few) e)))
-    swept false e r g = not-readable e r (g .unreadable (λ v q. false≢true (sym e ∙ readable-iff (root p) tape .1 (v, q))) .0)
+        is-readable e r (g .1 .fits (greedy (root p) tape) (greedy-canonical (root p) tape e) (omega (arith, greedy-few p (clear .good) tape (clear .few) e)))
+    swept false e r g = not-readable e r (g .0 .unreadable (λ v q. false≢true (sym e ∙ readable-iff (root p) tape .1 (v, q))) .0)
 
   follows : (r : Parsed) → Parses p tape ws us xs ys r → Follows p tape us ys r
   follows r w = go (decLe 1 (early-cause p tape .number))

@@ -13,8 +13,8 @@ use Rattle.semantics.specs.Accounts.{totals-to}
 use Rattle.semantics.specs.AccountLaws.{totals-old}
 use Rattle.semantics.specs.Decode.{value-of}
 use Rattle.steps.specs.StateSets.{words as state-sets}
-use Rattle.totals.specs.Totals.{entries-by}
-use Rattle.totals.specs.TotalsLaws.{by-few}
+use Rattle.entries.specs.Gather.{entries-by}
+use Rattle.entries.specs.EntryAccounts.{by-few}
 use Rattle.totals.specs.OldTotals.{Old-accounts, old-root}
 use Rattle.listing_lines.specs.LineBytes.{tape-line, account-lines, open-lines}
 use Rattle.listing_lines.specs.Lines.{zeros-behind}

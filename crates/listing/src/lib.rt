@@ -74,7 +74,7 @@ fn list_tape(p: Pattern, tape: &[u8], out: &mut [u8]) -> usize
 }
 
 // How many bytes of a tape file are before one closing byte 10.
-fn letters_of(tape: &[u8]) -> usize
+pub fn letters_of(tape: &[u8]) -> usize
     ensures { λ r. ⌜ Letters (now (tape .entry)) r ⌝ }
 {
     let n = tape.len();

@@ -10,7 +10,9 @@ ghost use Rattle.terms.specs.Terms.{term-refused, term-outcome};
 ghost use Rattle.parser.specs.Parse.{parsed-answer};
 ghost use Rattle.canonical.specs.Canonicalize.{canonicalized-answer};
 ghost use Rattle.desk.specs.Desks.{desk-refused, desk-answer};
+ghost use Rattle.reach.specs.Locate.{located-answer};
 ghost use Rattle.packing.specs.Packing.{unpacked, in-cells};
+ghost use Rattle.packing.specs.Cells.{beyond, Gives};
 
 mod desks; // desks.rt: a page desk in bytes
 
@@ -26,14 +28,19 @@ pub use desks::of_other_length;
 pub use desks::put_desk;
 use loading::Outcome;
 use parser::Parsed;
+use reach::Located;
 use refusals::Refusal;
 use refusals::number_of;
 use refusals::value_of;
+use syntax::Pattern;
 use terms::TermOutcome;
 use terms::TermRefusal;
 use terms::term_number_of;
 use terms::term_value_of;
 use totals::TotalsOutcome;
+
+// The one cause that is the calls' own: an account without a cell has litres.
+pub const CELLS_TOO_FEW: u32 = 20;
 
 pub fn packed(number: u32, value: u32) -> u64
     ensures { λ r. ⌜ unpacked r ≡ answer number value ⌝ }
@@ -80,6 +87,16 @@ pub fn of_canonicalized(canonicalized: Canonicalized) -> u64
     match canonicalized {
         Canonicalized::Bits(n) => packed(0, n),
         Canonicalized::Refused(why) => of_refusal(why),
+    }
+}
+
+// The value has the reach in its upper 16 bits, and the position at which the tape resumes in its lower 16.
+pub fn of_located(located: Located) -> u64
+    ensures { λ r. ⌜ unpacked r ≡ located-answer located ⌝ }
+{
+    match located {
+        Located::Positions(reach, resume) => packed(0, reach as u32 * 65536 + resume as u32),
+        Located::Refused(why) => of_refusal(why),
     }
 }
 
@@ -158,4 +175,32 @@ pub fn put_totals(totals: &[u32], cells: &mut [u32])
         cells[i] = totals[i];
         i += 1;
     }
+}
+
+// Whether an account without a cell has litres.
+pub fn litres_beyond(totals: &[u32], cells: usize) -> bool
+    ensures { λ r. ⌜ r ≡ beyond (now (totals .entry)) cells ⌝ }
+{
+    let mut account = cells;
+    while account < totals.len() {
+        if 0 < totals[account] {
+            return true;
+        }
+        account += 1;
+    }
+    false
+}
+
+// Totals of all accounts, handed out in the cells that are lent. If there is no cell for an account with litres, the answer is 20 and the
+// cells are 0: no litre is left out in silence.
+pub fn give_totals(answer: u64, totals: &[u32], cells: &mut [u32]) -> u64
+    ensures { λ r. ⌜ Gives (unpacked answer) (now (totals .entry)) (now (cells .entry)) (now (cells .exit)) r ⌝ }
+{
+    if litres_beyond(totals, cells.len()) {
+        let none: [u32; Pattern::ACCOUNTS] = [0; Pattern::ACCOUNTS];
+        put_totals(&none, cells);
+        return packed(CELLS_TOO_FEW, 0);
+    }
+    put_totals(totals, cells);
+    answer
 }

@@ -1,15 +1,14 @@
 -- Reading a tape: the first cause that holds is answered, whatever later causes hold, and leaves what 01's table says.
 use mathlib.Core.Path.{_≡_, refl, sym, ap, subst, _∙_}
-use mathlib.Core.Bool.{Bool, true, false, not, true≢false, false≢true}
+use mathlib.Core.Bool.{Bool, true, false, true≢false, false≢true}
 use mathlib.Core.List.{List, [], _∷_}
 use Prim.Native.Nat.{ℕ, _+_, _*_, _≤_, _<_}
 use native.Mathlib.Omega.{arith}
 use native.Mathlib.Decide.{decLe}
-use borrow.Author.Tests.{lt-ltb, le-ltb}
+use borrow.Author.Tests.{lt-ltb}
+use lib.Dec.{ltb}
 use lib.ListN.{length}
 use Rattle.syntax.specs.declared.Pattern.{Pattern}
-use Rattle.syntax.specs.Letter.{first-bad, letter-limit}
-use Rattle.syntax.specs.Table.{obeys}
 use Rattle.syntax.specs.Tree.{Tree}
 use Rattle.syntax.specs.Trees.{root}
 use Rattle.refusals.specs.declared.Refusal.{Refusal}
@@ -17,7 +16,9 @@ use Rattle.refusals.specs.declared.Refusal.the-variants.{LineForm, Tree as Tree
 use Rattle.refusals.specs.declared.Refusal.the-variants.{CodeTooShort, NotACode, TapeTooShort, NoSuchVisit}
 use Rattle.refusals.specs.Refusals.{Answer, answer, number, refused}
 use Rattle.refusals.specs.Checks.{numbers, First, here, past}
-use Rattle.refusals.specs.CheckLaws.{refused-first, among}
+use Rattle.refusals.specs.CheckLaws.{first-more, refused-first, among}
+use Rattle.checks.specs.TapeOrder.{tape-order}
+use Rattle.checks.specs.TapeLaws.{Is-taken, taken-clear}
 use Rattle.bits.specs.Bits.{cell-count, in-front}
 use Rattle.semantics.specs.Value.{Value, flat}
 use Rattle.semantics.specs.Code.{Canonical}
@@ -43,13 +44,13 @@ greedily-among t tape code code-now a g = go (readable t tape) refl
     by b e q = subst (λ c. among (c .number) (0 ∷ 5 ∷ 7 ∷ []) ≡ true) (sym e) q
 
     fit : readable t tape ≡ true → Dec (cell-count 8 (length (greedy t tape)) ≤ length code) → among (a .number) (0 ∷ 5 ∷ 7 ∷ []) ≡ true
-    fit e (yes l) = by (answer 0 (length (greedy t tape))) (g .fits (greedy t tape) (greedy-canonical t tape e) l .0) refl
+    fit e (yes l) = by (answer 0 (length (greedy t tape))) (g .1 .fits (greedy t tape) (greedy-canonical t tape e) l .0) refl
     fit e (no l) =
-        by (refused (CodeTooShort (cell-count 8 (length (greedy t tape))))) (g .short (greedy t tape) (greedy-canonical t tape e) (omega arith) .0) refl
+        by (refused (CodeTooShort (cell-count 8 (length (greedy t tape))))) (g .1 .short (greedy t tape) (greedy-canonical t tape e) (omega arith) .0) refl
 
     go : (b : Bool) → readable t tape ≡ b → among (a .number) (0 ∷ 5 ∷ 7 ∷ []) ≡ true
     go true e = fit e (decLe (cell-count 8 (length (greedy t tape))) (length code))
-    go false e = by (refused Unreadable) (g .unreadable (λ v q. true≢false (sym (readable-iff t tape .1 (v, q)) ∙ e)) .0) refl
+    go false e = by (refused Unreadable) (g .0 .unreadable (λ v q. true≢false (sym (readable-iff t tape .1 (v, q)) ∙ e)) .0) refl
 
 -- 2, 3, 4 and 6 are none of these
 early-apart : (why : Refusal) → among (number why) (2 ∷ 3 ∷ 4 ∷ 6 ∷ []) ≡ true → among (number why) (0 ∷ 5 ∷ 7 ∷ []) ≡ true → ⊥
@@ -82,44 +83,35 @@ module _ (p : Pattern) (tape words words-now code code-now : List ℕ) (r : Pars
           let q = greedily-among (root p) tape code code-now (parsed-answer r) (h .reads (omega arith)) in
           absurd (early-apart why m (subst (λ a. among (a .number) (0 ∷ 5 ∷ 7 ∷ []) ≡ true) (ap parsed-answer e) q))
 
-  pub only-2 : obeys p ≡ false → Only (Tree-fault 0)
-  only-2 o = only (Tree-fault 0) (here (ap not o))
+  -- 2, 3 and 4 are `tape-2`, `tape-3` and `tape-4` of crate checks, handed on
+  pub only-tape : (why : Refusal) → First why (tape-order p tape) → Only why
+  only-tape why f = only why (first-more ((ltb (length words) (2 * (length tape + 1)), WordsTooShort (2 * (length tape + 1))) ∷ []) f)
 
-  module _ (o : obeys p ≡ true) where
-    pub only-3 : letter-limit < length tape → Only TapeTooLong
-    only-3 l = only TapeTooLong (past (ap not o) (here (lt-ltb letter-limit (length tape) l)))
+  module _ (t : Is-taken p tape) where
+    pub only-6 : length words < 2 * (length tape + 1) → Only (WordsTooShort (2 * (length tape + 1)))
+    only-6 l =
+        let c = taken-clear p tape t in
+        only (WordsTooShort (2 * (length tape + 1)))
+        (past (c .0) (past (c .1 .0) (past (c .1 .1 .0) (here (lt-ltb (length words) (2 * (length tape + 1)) l)))))
 
-    module _ (f : length tape ≤ letter-limit) where
-      pub only-4 : first-bad tape < length tape → Only (TapeByte (first-bad tape))
-      only-4 l =
-          only (TapeByte (first-bad tape))
-          (past (ap not o) (past (le-ltb letter-limit (length tape) f) (here (lt-ltb (first-bad tape) (length tape) l))))
+    -- behind the first sweep: "code; marks are filled", and "code; the rest is filled"
+    module _ (w : 2 * (length tape + 1) ≤ length words) where
+      abbrev Filled : Refusal → Type 0
+      Filled why = (r ≡ Refused why) × (words-now ≡ in-front (state-sets p tape) words) × (code-now ≡ code)
 
-      module _ (g : length tape ≤ first-bad tape) where
-        pub only-6 : length words < 2 * (length tape + 1) → Only (WordsTooShort (2 * (length tape + 1)))
-        only-6 l =
-            only (WordsTooShort (2 * (length tape + 1)))
-            (past (ap not o) (past (le-ltb letter-limit (length tape) f) (past (le-ltb (first-bad tape) (length tape) g)
-            (here (lt-ltb (length words) (2 * (length tape + 1)) l)))))
+      tested : Tested p tape words
+      tested = record { good = t .good; few = t .few; letters = t .letters; room = w }
 
-        -- behind the first sweep: "code; marks are filled", and "code; the rest is filled"
-        module _ (w : 2 * (length tape + 1) ≤ length words) where
-          abbrev Filled : Refusal → Type 0
-          Filled why = (r ≡ Refused why) × (words-now ≡ in-front (state-sets p tape) words) × (code-now ≡ code)
+      -- however short the code buffer is: 5 before 7
+      pub only-5 : ((v : Value (root p)) → flat (root p) v ≡ tape → ⊥) → Filled Unreadable
+      only-5 unspelled =
+          let z = tested-zero tested in
+          let e = h .reads z .0 .unreadable unspelled in
+          (parsed-same r (Refused Unreadable) (e .0), h .fills z, e .1)
 
-          tested : Tested p tape words
-          tested = record { good = o; few = f; letters = g; room = w }
-
-          -- however short the code buffer is: 5 before 7
-          pub only-5 : ((v : Value (root p)) → flat (root p) v ≡ tape → ⊥) → Filled Unreadable
-          only-5 unspelled =
-              let z = tested-zero tested in
-              let e = h .reads z .unreadable unspelled in
-              (parsed-same r (Refused Unreadable) (e .0), h .fills z, e .1)
-
-          pub only-7 : (bits : List Bool) → Canonical (root p) tape bits → length code < cell-count 8 (length bits)
-              → Filled (CodeTooShort (cell-count 8 (length bits)))
-          only-7 bits k l =
-              let z = tested-zero tested in
-              let e = h .reads z .short bits k l in
-              (parsed-same r (Refused (CodeTooShort (cell-count 8 (length bits)))) (e .0), h .fills z, e .1)
+      pub only-7 : (bits : List Bool) → Canonical (root p) tape bits → length code < cell-count 8 (length bits)
+          → Filled (CodeTooShort (cell-count 8 (length bits)))
+      only-7 bits k l =
+          let z = tested-zero tested in
+          let e = h .reads z .1 .short bits k l in
+          (parsed-same r (Refused (CodeTooShort (cell-count 8 (length bits)))) (e .0), h .fills z, e .1)

@@ -11,7 +11,7 @@ use lib.Dec.{eqb, ltb}
 use lib.ListN.{length, getD, drop, length-append, length-drop, List·getD-append}
 use Rattle.syntax.specs.declared.Pattern.{Pattern}
 use Rattle.refusals.specs.declared.Refusal.{Refusal}
-use Rattle.refusals.specs.declared.Refusal.the-variants.{Tree as Tree-fault, TapeTooLong, TapeByte, Unreadable, WordsTooShort, CodeTooShort}
+use Rattle.refusals.specs.declared.Refusal.the-variants.{Unreadable, WordsTooShort, CodeTooShort}
 use Rattle.syntax.specs.Letter.{first-bad, letter-limit}
 use Rattle.refusals.specs.Refusals.{answer, refused}
 use Rattle.refusals.specs.Checks.{First, here, past}
@@ -41,6 +41,7 @@ use Rattle.first_sweep.specs.Fill.{Fillable}
 use Rattle.second_sweep.specs.declared.Swept.{Swept}
 use Rattle.second_sweep.specs.Parts.{Sweeps}
 use Rattle.second_sweep.specs.Sweeping.{Own, may-stop, Behind, Knows, Wrote}
+use Rattle.checks.specs.TapeLaws.{Is-taken, taken-clear}
 use Rattle.parser.specs.declared.Parsed.{Parsed}
 use Rattle.parser.specs.declared.Parsed.the-variants.{Bits, Refused}
 use Rattle.parser.specs.Parse.{parsed-answer, early-order, early, Reads-greedily, Parses}
@@ -239,11 +240,13 @@ module _ (p : Pattern) (tape ws : List ℕ) (h : First-swept p tape ws) where
   -- the code of the greedy value, written or not, is what reading promises
   pub reads-greedily : {xs ys : List ℕ} {r : Parsed} → Writes (greedy (root p) tape) xs ys r →
       Reads-greedily (root p) tape xs ys (parsed-answer r)
-  reads-greedily {xs} {ys} {r} w = record {
-    unreadable = λ f. let q = readable-iff (root p) tape .0 (h .reads) in absurd (f (q .0) (q .1));
-    fits = λ bits k l. let (a, b) = of bits k .fits l in (ap parsed-answer a, b);
-    short = λ bits k l. let (a, b) = of bits k .short l in (ap parsed-answer a, b);
-  }
+  reads-greedily {xs} {ys} {r} w = (
+    record { unreadable = λ f. let q = readable-iff (root p) tape .0 (h .reads) in absurd (f (q .0) (q .1)) },
+    record {
+      fits = λ bits k l. let (a, b) = of bits k .fits l in (ap parsed-answer a, b);
+      short = λ bits k l. let (a, b) = of bits k .short l in (ap parsed-answer a, b);
+    },
+  )
     where
       of : (bits : List Bool) → Canonical (root p) tape bits → Writes bits xs ys r
       of bits k = subst (λ b. Writes b xs ys r) (canonical-greedy (root p) tape bits k .1) w
@@ -261,30 +264,13 @@ module _ (p : Pattern) (tape ws xs : List ℕ) where
         reads = λ z. absurd (omega (arith, z, n));
       }
 
-  pub parse-rules : obeys p ≡ false → Parses p tape ws ws xs xs (Refused (Tree-fault 0))
-  parse-rules e = parse-refused (Tree-fault 0) (here (ap not e))
-
-  module _ (good : obeys p ≡ true) where
-    pub parse-long : letter-limit < length tape → Parses p tape ws ws xs xs (Refused TapeTooLong)
-    parse-long h = parse-refused TapeTooLong (past (ap not good) (here (lt-ltb letter-limit (length tape) h)))
-
-    module _ (few : length tape ≤ letter-limit) where
-      short : ltb letter-limit (length tape) ≡ false
-      short = le-ltb letter-limit (length tape) few
-
-      pub parse-byte : (bad : ℕ) → bad ≡ first-bad tape → bad < length tape → Parses p tape ws ws xs xs (Refused (TapeByte bad))
-      parse-byte bad e h =
-          subst (λ i. Parses p tape ws ws xs xs (Refused (TapeByte i))) (sym e)
-          (parse-refused (TapeByte (first-bad tape))
-          (past (ap not good) (past short (here (lt-ltb (first-bad tape) (length tape) (omega (arith, e, h)))))))
-
-      module _ (letters : length tape ≤ first-bad tape) where
-        pub parse-words : (needed : ℕ) → needed ≡ 2 * (length tape + 1) → length ws < needed → Parses p tape ws ws xs xs (Refused (WordsTooShort needed))
-        parse-words needed e h =
-            subst (λ n. Parses p tape ws ws xs xs (Refused (WordsTooShort n))) (sym e)
-            (parse-refused (WordsTooShort (2 * (length tape + 1)))
-            (past (ap not good) (past short (past (le-ltb (first-bad tape) (length tape) letters)
-            (here (lt-ltb (length ws) (2 * (length tape + 1)) (omega (arith, e, h))))))))
+  pub parse-words : Is-taken p tape → (needed : ℕ) → needed ≡ 2 * (length tape + 1) → length ws < needed
+      → Parses p tape ws ws xs xs (Refused (WordsTooShort needed))
+  parse-words t needed e h =
+      let c = taken-clear p tape t in
+      subst (λ n. Parses p tape ws ws xs xs (Refused (WordsTooShort n))) (sym e)
+      (parse-refused (WordsTooShort (2 * (length tape + 1)))
+      (past (c .0) (past (c .1 .0) (past (c .1 .1 .0) (here (lt-ltb (length ws) (2 * (length tape + 1)) (omega (arith, e, h))))))))
 
 -- the tests in front of the first sweep are passed
 pub record Tested (p : Pattern) (tape ws : List ℕ) : Type 0 where
@@ -336,12 +322,10 @@ module _ {p : Pattern} {tape ws : List ℕ} (d : Tested p tape ws) where
       parse-unreadable xs f =
           let none : (bits : List Bool) → Canonical (root p) tape bits → ⊥ =
           λ bits k. true≢false (sym (canonical-greedy (root p) tape bits k .0) ∙ sym marked ∙ f) in
-          on us xs xs (Refused Unreadable) filled
-          (record {
-            unreadable = λ n. (refl, refl);
-            fits = λ bits k l. absurd (none bits k);
-            short = λ bits k l. absurd (none bits k);
-          })
+          on us xs xs (Refused Unreadable) filled (
+            record { unreadable = λ n. (refl, refl) },
+            record { fits = λ bits k l. absurd (none bits k); short = λ bits k l. absurd (none bits k) },
+          )
 
       pub first-swept : o ≡ true → First-swept p tape us
       first-swept f =
@@ -365,7 +349,7 @@ obeys-few p h = let r = obeys-iff p .0 h in (r .one, r .few)
 module _ (p : Pattern) (tape ws us xs ys : List ℕ) (r : Parsed) (h : Parses p tape ws us xs ys r) where
   -- 5 is answered exactly if the checks before it pass and no value of the pattern, with or without an empty round, spells the tape
   pub unreadable-iff : early p tape (length ws) .number ≡ 0 → (parsed-answer r ≡ refused Unreadable) ↔ ((v : Value (root p)) → flat (root p) v ≡ tape → ⊥)
-  unreadable-iff e = (λ a v f. other (h .reads e) a v f, λ n. h .reads e .unreadable n .0)
+  unreadable-iff e = (λ a v f. other (h .reads e) a v f, λ n. h .reads e .0 .unreadable n .0)
     where
       other : Reads-greedily (root p) tape xs ys (parsed-answer r) → parsed-answer r ≡ refused Unreadable →
           (v : Value (root p)) → flat (root p) v ≡ tape → ⊥
@@ -374,9 +358,9 @@ module _ (p : Pattern) (tape ws us xs ys : List ℕ) (r : Parsed) (h : Parses p 
           fit : Dec (cell-count 8 (length (greedy (root p) tape)) ≤ length xs) → ⊥
           fit (yes l) =
               let k = greedy-canonical (root p) tape (readable-iff (root p) tape .1 (v, f)) in
-              let z = ap (λ x. x .number) (sym (g .fits (greedy (root p) tape) k l .0) ∙ a) in
+              let z = ap (λ x. x .number) (sym (g .1 .fits (greedy (root p) tape) k l .0) ∙ a) in
               omega arith
           fit (no l) =
               let k = greedy-canonical (root p) tape (readable-iff (root p) tape .1 (v, f)) in
-              let z = ap (λ x. x .number) (sym (g .short (greedy (root p) tape) k (omega arith) .0) ∙ a) in
+              let z = ap (λ x. x .number) (sym (g .1 .short (greedy (root p) tape) k (omega arith) .0) ∙ a) in
               omega arith

@@ -28,7 +28,7 @@ pub reads-greedy : (p : Pattern) (tape ws us xs ys : List ℕ) (r : Parsed) → 
     (parsed-answer r ≡ answer 0 (length (greedy (root p) tape))) × (ys ≡ in-front (pack 8 (greedy (root p) tape)) xs)
 reads-greedy p tape ws us xs ys r h good few letters room reads fit =
     let d : Tested p tape ws = record { good = good; few = few; letters = letters; room = room } in
-    h .reads (tested-zero d) .fits (greedy (root p) tape) (greedy-canonical (root p) tape reads) fit
+    h .reads (tested-zero d) .1 .fits (greedy (root p) tape) (greedy-canonical (root p) tape reads) fit
 
 -- the pattern a*, as a table of 64 lines
 abbrev pub rounds : Pattern

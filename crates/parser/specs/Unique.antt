@@ -27,14 +27,14 @@ greedily-one t tape xs ys zs a b f g = go (readable t tape) refl
     both e us p q = (p .0 ∙ sym (q .0), p .1 ∙ sym (q .1))
 
     fit : readable t tape ≡ true → Dec (cell-count 8 (length (greedy t tape)) ≤ length xs) → (a ≡ b) × (ys ≡ zs)
-    fit e (yes l) = let k = greedy-canonical t tape e in both _ _ (f .fits (greedy t tape) k l) (g .fits (greedy t tape) k l)
-    fit e (no l) = let k = greedy-canonical t tape e in both _ _ (f .short (greedy t tape) k (omega arith)) (g .short (greedy t tape) k (omega arith))
+    fit e (yes l) = let k = greedy-canonical t tape e in both _ _ (f .1 .fits (greedy t tape) k l) (g .1 .fits (greedy t tape) k l)
+    fit e (no l) = let k = greedy-canonical t tape e in both _ _ (f .1 .short (greedy t tape) k (omega arith)) (g .1 .short (greedy t tape) k (omega arith))
 
     go : (r : Bool) → readable t tape ≡ r → (a ≡ b) × (ys ≡ zs)
     go true e = fit e (decLe (cell-count 8 (length (greedy t tape))) (length xs))
     go false e =
         let none : (v : Value t) → flat t v ≡ tape → ⊥ = λ v q. true≢false (sym (readable-iff t tape .1 (v, q)) ∙ e) in
-        both _ _ (f .unreadable none) (g .unreadable none)
+        both _ _ (f .0 .unreadable none) (g .0 .unreadable none)
 
 -- number and value fix the answer
 pub parsed-same : (r s : Parsed) → parsed-answer r ≡ parsed-answer s → r ≡ s

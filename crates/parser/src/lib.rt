@@ -2,15 +2,16 @@
 // The sweeps are crates of their own, so that the edits of this service do not cost their proofs again.
 ghost use Prim.Native.Nat.{_<_};
 ghost use Rattle.table.specs.Cells.{Good};
+ghost use Rattle.checks.specs.TapeLaws.{Is-taken};
 ghost use Rattle.parser.specs.Parse.{Parses};
 ghost use Rattle.parser.specs.Writing.{Writable, Misses, Writes-all};
 use bits::is_open;
+use checks::TapeCheck;
+use checks::check_tape;
 use first_sweep::fill;
 use refusals::Refusal;
 use second_sweep::sweep;
 use syntax::Pattern;
-use syntax::first_bad;
-use syntax::obeys_rules;
 use table::table_of;
 
 // What reading a tape answers: the bit count of its code, or why it is refused.
@@ -21,7 +22,7 @@ pub enum Parsed {
 
 // How many bytes the code of node l needs where a buffer has fewer, else 0. Bits are counted only where the buffer might not hold them: with
 // at most 64 choices no code of n letters takes more than 17n + 8 bytes.
-fn bytes_missing(table: &[u64; 64], words: &[u64], tape: &[u8], l: usize, size: usize) -> usize
+pub fn bytes_missing(table: &[u64; 64], words: &[u64], tape: &[u8], l: usize, size: usize) -> usize
     requires { ⌜ Good (now table) × (l < 64) × Writable (now table) (now words) (now tape) l ⌝ }
     ensures { λ r. ⌜ Misses (now (table .entry)) (now (words .entry)) (now (tape .entry)) l size r ⌝ }
 {
@@ -37,8 +38,14 @@ fn bytes_missing(table: &[u64; 64], words: &[u64], tape: &[u8], l: usize, size: 
     0
 }
 
-// A code buffer that is too short is found before a bit is written, so that it is left as it was.
-fn write_code(table: &[u64; 64], words: &[u64], tape: &[u8], l: usize, code: &mut [u8]) -> Parsed
+// The code of a tape whose words are filled. A code buffer that is too short is found before a bit is written, so that it is left as it was.
+pub fn write_code(
+    table: &[u64; 64],
+    words: &[u64],
+    tape: &[u8],
+    l: usize,
+    code: &mut [u8],
+) -> Parsed
     requires { ⌜ Good (now table) × (l < 64) × Writable (now table) (now words) (now tape) l ⌝ }
     ensures { λ r.
         ⌜ Writes-all (now (table .entry)) (now (words .entry)) (now (tape .entry)) l (now (code .entry)) (now (code .exit)) r ⌝ }
@@ -51,22 +58,13 @@ fn write_code(table: &[u64; 64], words: &[u64], tape: &[u8], l: usize, code: &mu
     Parsed::Bits(swept.at)
 }
 
-pub fn parse(p: Pattern, tape: &[u8], words: &mut [u64], code: &mut [u8]) -> Parsed
+// Reads a tape that is taken.
+fn read(p: Pattern, tape: &[u8], words: &mut [u64], code: &mut [u8]) -> Parsed
+    requires { ⌜ Is-taken p (now tape) ⌝ }
     ensures { λ r.
         ⌜ Parses p (now (tape .entry)) (now (words .entry)) (now (words .exit)) (now (code .entry)) (now (code .exit)) r ⌝ }
 {
-    if !obeys_rules(p) {
-        return Parsed::Refused(Refusal::Tree(0));
-    }
-    let n = tape.len();
-    if Pattern::MAX_LETTERS < n {
-        return Parsed::Refused(Refusal::TapeTooLong);
-    }
-    let bad = first_bad(tape);
-    if bad < n {
-        return Parsed::Refused(Refusal::TapeByte(bad as u32));
-    }
-    let needed = 2 * (n + 1);
+    let needed = 2 * (tape.len() + 1);
     if words.len() < needed {
         return Parsed::Refused(Refusal::WordsTooShort(needed as u32));
     }
@@ -77,4 +75,14 @@ pub fn parse(p: Pattern, tape: &[u8], words: &mut [u64], code: &mut [u8]) -> Par
         return Parsed::Refused(Refusal::Unreadable);
     }
     write_code(&table, words, tape, root, code)
+}
+
+pub fn parse(p: Pattern, tape: &[u8], words: &mut [u64], code: &mut [u8]) -> Parsed
+    ensures { λ r.
+        ⌜ Parses p (now (tape .entry)) (now (words .entry)) (now (words .exit)) (now (code .entry)) (now (code .exit)) r ⌝ }
+{
+    match check_tape(p, tape) {
+        TapeCheck::Refused(why) => Parsed::Refused(why),
+        TapeCheck::Taken => read(p, tape, words, code),
+    }
 }

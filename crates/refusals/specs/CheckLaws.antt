@@ -10,7 +10,7 @@ use lib.Dec.{eqb}
 use Rattle.refusals.specs.declared.Refusal.{Refusal}
 use Rattle.refusals.specs.Refusals.{number, Answer, refused}
 use Rattle.refusals.specs.RefusalLaws.{refused-same, number-positive}
-use Rattle.refusals.specs.Checks.{Check-of, Check, first-of, first-cause, numbers-of, numbers, First, here, past, Clear}
+use Rattle.refusals.specs.Checks.{Check-of, Check, first-of, first-cause, numbers-of, numbers, wrapped, First, here, past, Clear}
 
 cond-true : (b : Bool) (x y : Answer) → b ≡ true → cond b x y ≡ x
 cond-true true x y e = refl
@@ -31,6 +31,15 @@ module _ {Cause : Type 0} where
   first-more more (here e) = here e
   first-more more (past e f) = past e (first-more more f)
 
+  -- nor do causes before it, where none of them holds
+  pub first-behind : {why : Cause} (cs : List (Check-of Cause)) {more : List (Check-of Cause)} → Clear cs → First why more → First why (cs ++ more)
+  first-behind [] c f = f
+  first-behind (d ∷ cs) c f = past (c .0) (first-behind cs (c .1) f)
+
+  pub clear-both : (cs more : List (Check-of Cause)) → Clear cs → Clear more → Clear (cs ++ more)
+  clear-both [] more c d = d
+  clear-both (e ∷ cs) more c d = (c .0, clear-both cs more (c .1) d)
+
   pub clear-parts : (cs more : List (Check-of Cause)) → Clear (cs ++ more) → Clear cs × Clear more
   clear-parts [] more c = (tt, c)
   clear-parts (d ∷ cs) more c = let q = clear-parts cs more (c .1) in ((c .0, q .0), q .1)
@@ -44,6 +53,20 @@ module _ {Cause : Type 0} where
       go true r = inr (why, here refl)
       go false (inl c) = inl (refl, c)
       go false (inr (w, f)) = inr (w, past refl f)
+
+-- ── of an order whose causes are wrapped ──
+module _ {Cause Wider : Type 0} (wrap : Cause → Wider) where
+  pub first-wrapped : {why : Cause} {cs : List (Check-of Cause)} → First why cs → First (wrap why) (wrapped wrap cs)
+  first-wrapped (here e) = here e
+  first-wrapped (past e f) = past e (first-wrapped f)
+
+  pub clear-wrapped : (cs : List (Check-of Cause)) → Clear cs → Clear (wrapped wrap cs)
+  clear-wrapped [] c = tt
+  clear-wrapped (d ∷ cs) c = (c .0, clear-wrapped cs (c .1))
+
+  pub wrapped-clear : (cs : List (Check-of Cause)) → Clear (wrapped wrap cs) → Clear cs
+  wrapped-clear [] c = tt
+  wrapped-clear (d ∷ cs) c = (c .0, wrapped-clear cs (c .1))
 
 -- ── of any causes, by the number and value that each says ──
 module _ {Cause : Type 0} (says : Cause → Answer) where

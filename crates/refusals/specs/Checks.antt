@@ -31,6 +31,11 @@ numbers-of says (c ∷ cs) = says (c .1) .number ∷ numbers-of says cs
 abbrev pub numbers : List Check → List ℕ
 numbers = numbers-of refused
 
+-- an order taken over by a service whose own enum wraps the causes
+abbrev pub wrapped : {Cause Wider : Type 0} → (wrap : Cause → Wider) → List (Check-of Cause) → List (Check-of Wider)
+wrapped wrap [] = []
+wrapped wrap (c ∷ cs) = (c .0, wrap (c .1)) ∷ wrapped wrap cs
+
 -- 01: "its cause holds and none before it in the service's order does"
 pub data First {Cause : Type 0} (why : Cause) : List (Check-of Cause) → Type 0 where
   here : {holds : Bool} {later : List (Check-of Cause)} → holds ≡ true → First why ((holds, why) ∷ later)

@@ -9,6 +9,7 @@ pub mod Code
 pub mod Automaton
 pub mod Visits
 pub mod Accounts
+pub mod Begins
 -- 01's rule of accounts before 02's Job 5; AccountLaws: where a pattern has no account 9, Accounts' entries are those of this rule
 pub mod Innermost
 -- Layer 2, how it is computed: decoding, the two sweeps, leaving out empty iterations. Programs are proved against these.
@@ -16,6 +17,7 @@ pub mod Decode
 pub mod Sweeps
 pub mod Strip
 pub mod Positions
+pub mod Fronts
 -- Visits with the bits written during them, and what is promised of a piece (02, Job 10). These must be believed too; they read a code back by
 -- Decode.
 pub mod Cuts
@@ -44,9 +46,14 @@ pub mod AlikeLaws
 pub mod PieceLaws
 pub mod AccountLaws
 pub mod LetterLaws
+pub mod BeginLaws
+pub mod FrontLaws
+pub mod FrontSteps
+pub mod EndLaws
 pub mod Promised
--- C1 to C11 and the listing of document 01, and rows for `Z`; cuts, and where the law of pieces ends; chains of accounts.
+-- C1 to C11 and the listing of document 01, and rows for `Z`; cuts, and where the law of pieces ends; chains of accounts; how far tapes can be read.
 pub mod Examples
 pub mod CutCases
 pub mod PieceExamples
 pub mod AccountChains
+pub mod ReachExamples

@@ -4,6 +4,8 @@ pub mod Parts
 -- The visits that a walk over a code passes, and the search for one of them.
 pub mod Traces
 pub mod TraceLaws
+-- No node stands inside itself, so that a visit ends where the search of its parts ends.
+pub mod Apart
 pub mod Seeks
 -- The services: one law for each way of the code.
 pub mod SpanLaws

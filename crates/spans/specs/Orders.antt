@@ -3,23 +3,21 @@ use mathlib.Core.Path.{_≡_, refl, sym, ap, _∙_}
 use mathlib.Core.Bool.{true, false, not}
 use mathlib.Core.Option.{none}
 use mathlib.Core.List.{List, [], _∷_}
-use Prim.Native.Nat.{ℕ, _≤_, _<_}
-use borrow.Author.Tests.{lt-ltb, le-ltb}
-use lib.ListN.{length}
+use Prim.Native.Nat.{ℕ, _≤_}
 use Rattle.syntax.specs.declared.Pattern.{Pattern}
-use Rattle.syntax.specs.Letter.{first-bad, letter-limit}
-use Rattle.syntax.specs.Table.{obeys}
 use Rattle.syntax.specs.Trees.{root}
 use Rattle.refusals.specs.declared.Refusal.{Refusal}
-use Rattle.refusals.specs.declared.Refusal.the-variants.{Tree as Tree-fault, TapeTooLong, TapeByte, NotACode, NoSuchVisit}
+use Rattle.refusals.specs.declared.Refusal.the-variants.{NotACode, NoSuchVisit}
 use Rattle.refusals.specs.Refusals.{answer}
 use Rattle.refusals.specs.Checks.{numbers, First, here, past}
-use Rattle.refusals.specs.CheckLaws.{refused-first}
+use Rattle.refusals.specs.CheckLaws.{first-more, refused-first}
+use Rattle.checks.specs.TapeOrder.{tape-order}
+use Rattle.checks.specs.TapeLaws.{Is-taken}
 use Rattle.codes.specs.Spells.{code-of-tape}
 use Rattle.spans.specs.declared.SpanOutcome.the-variants.{Refused}
 use Rattle.spans.specs.declared.Spanned.{Spanned}
 use Rattle.spans.specs.Spans.{span-visit, unvisited, span-order, span-answer, span-outcome, refused-span, Spans}
-use Rattle.spans.specs.SpanLaws.{span-refused}
+use Rattle.spans.specs.SpanLaws.{span-refused, past-tape}
 use Rattle.spans.specs.Unique.{spans-one}
 use Rattle.spans.specs.Outside.{outside-none}
 
@@ -40,32 +38,19 @@ module _ (p : Pattern) (tape code : List ℕ) (count l k : ℕ) (r : Spanned) (h
   unfolding span-answer
   only-first why e = refused-first (span-order p tape code count l k) (answer 0 0) refl why (sym (h .answers) ∙ ap span-outcome e)
 
-  pub only-2 : obeys p ≡ false → Only (Tree-fault 0)
-  only-2 o = only (Tree-fault 0) (here (ap not o))
+  -- 2, 3 and 4 are `tape-2`, `tape-3` and `tape-4` of crate checks, handed on
+  pub only-tape : (why : Refusal) → First why (tape-order p tape) → Only why
+  only-tape why f = only why (first-more _ f)
 
-  module _ (o : obeys p ≡ true) where
-    pub only-3 : letter-limit < length tape → Only TapeTooLong
-    only-3 e = only TapeTooLong (past (ap not o) (here (lt-ltb letter-limit (length tape) e)))
+  module _ (t : Is-taken p tape) where
+    -- whatever node and visit are asked for: 8 before 10
+    pub only-8 : code-of-tape (root p) tape code count ≡ false → Only NotACode
+    only-8 c = only NotACode (past-tape p tape code count l k t (here (ap not c)))
 
-    module _ (f : length tape ≤ letter-limit) where
-      pub only-4 : first-bad tape < length tape → Only (TapeByte (first-bad tape))
-      only-4 e =
-          only (TapeByte (first-bad tape))
-          (past (ap not o) (past (le-ltb letter-limit (length tape) f) (here (lt-ltb (first-bad tape) (length tape) e))))
+    module _ (c : code-of-tape (root p) tape code count ≡ true) where
+      pub only-10 : span-visit p code count l k ≡ none → Only NoSuchVisit
+      only-10 v = only NoSuchVisit (past-tape p tape code count l k t (past (ap not c) (here (ap unvisited v))))
 
-      module _ (e : length tape ≤ first-bad tape) where
-        -- whatever node and visit are asked for: 8 before 10
-        pub only-8 : code-of-tape (root p) tape code count ≡ false → Only NotACode
-        only-8 c =
-            only NotACode (past (ap not o) (past (le-ltb letter-limit (length tape) f) (past (le-ltb (first-bad tape) (length tape) e) (here (ap not c)))))
-
-        module _ (c : code-of-tape (root p) tape code count ≡ true) where
-          pub only-10 : span-visit p code count l k ≡ none → Only NoSuchVisit
-          only-10 v =
-              only NoSuchVisit
-              (past (ap not o) (past (le-ltb letter-limit (length tape) f)
-              (past (le-ltb (first-bad tape) (length tape) e) (past (ap not c) (here (ap unvisited v))))))
-
-          -- "node outside the table"
-          pub only-10-outside : p .count ≤ l → Only NoSuchVisit
-          only-10-outside g = only-10 (outside-none p o code count l k g)
+      -- "node outside the table"
+      pub only-10-outside : p .count ≤ l → Only NoSuchVisit
+      only-10-outside g = only-10 (outside-none p (t .good) code count l k g)

@@ -2,7 +2,7 @@
 use mathlib.Core.Path.{_≡_, refl, sym, ap, subst, _∙_}
 use mathlib.Core.Bool.{Bool, true, false, not, cond, true≢false, false≢true}
 use mathlib.Core.Option.{Option, none, some, Option·none-ne-some}
-use mathlib.Core.List.{List}
+use mathlib.Core.List.{List, _++_}
 use Prim.Native.Nat.{ℕ, _+_, _*_, _-_, _≤_, _<_}
 use native.Mathlib.Omega.{arith}
 use lib.Dec.{eqb, ltb}
@@ -13,7 +13,7 @@ use Rattle.refusals.specs.declared.Refusal.{Refusal}
 use Rattle.refusals.specs.declared.Refusal.the-variants.{Tree as Tree-fault, TapeTooLong, TapeByte, NotACode, NoSuchVisit}
 use Rattle.refusals.specs.Refusals.{answer, number}
 use Rattle.refusals.specs.RefusalLaws.{number-positive}
-use Rattle.refusals.specs.Checks.{First, here, past, Clear}
+use Rattle.refusals.specs.Checks.{Check, First, here, past, Clear}
 use Rattle.refusals.specs.CheckLaws.{first-answered, clear-success, zero-clear}
 use Rattle.syntax.specs.Bools.{and-fst, and-snd}
 use Rattle.syntax.specs.Letter.{first-bad, letter-limit}
@@ -27,17 +27,21 @@ use Rattle.semantics.specs.Visits.{Visit, visits, visits-at, visit}
 use Rattle.semantics.specs.Code.{code-limit}
 use Rattle.table.specs.Cells.{tree-in, Holds}
 use Rattle.table.specs.CellLaws.{holds-tree}
+use Rattle.walks.specs.Looks.{same-seen}
 use Rattle.walks.specs.Whole.{whole-code, letters-of}
 use Rattle.walks.specs.WholeLaws.{value-see, whole-handed, whole-value, spells}
 use Rattle.codes.specs.Spells.{same, code-of-tape}
 use Rattle.codes.specs.SpellLaws.{same-length}
+use Rattle.checks.specs.TapeOrder.{tape-order}
+use Rattle.checks.specs.TapeLaws.{Is-taken, taken-clear}
 use Rattle.spans.specs.declared.SpanOutcome.the-variants.{Shown}
 use Rattle.spans.specs.declared.Spanned.{Spanned}
 use Rattle.spans.specs.declared.find.Found.{Found}
+use Rattle.spans.specs.declared.find.Found.the-variants.{Hit, Passed}
 use Rattle.spans.specs.Spans.{visit-by, span-visit, unvisited, span-order, span-answer}
 use Rattle.spans.specs.Spans.{start-of, size-of, span-shown, span-outcome, refused-span, Spans}
-use Rattle.spans.specs.Traces.{trace, trace-visits, trace-at, found-by, found-in}
-use Rattle.spans.specs.Seeks.{Seeking, Finds, same-trace}
+use Rattle.spans.specs.Traces.{trace, trace-visits, trace-at, found-by, found-in, numbers}
+use Rattle.spans.specs.Seeks.{Seeking, Finds}
 
 -- ── what is known of a code of the tape ──
 module _ (t : Tree) (tape code : List ℕ) (count : ℕ) (w : code-of-tape t tape code count ≡ true) where
@@ -112,70 +116,63 @@ module _ (p : Pattern) (tape code : List ℕ) (count l k : ℕ) where
       go true z q = (zero-clear (span-order p tape code count l k) (answer 0 0) (eqb-true (span-answer p tape code count l k .number) 0 z), q)
       go false z q = absurd (Option·none-ne-some x q)
 
-  pub span-bad : obeys p ≡ false → Refuses (Tree-fault 0)
-  span-bad o = span-refused (Tree-fault 0) (here (ap not o))
+  module _ (t : Is-taken p tape) where
+    clear : Clear (tape-order p tape)
+    clear = taken-clear p tape t
 
-  module _ (o : obeys p ≡ true) where
-    pub span-long : letter-limit < length tape → Refuses TapeTooLong
-    span-long h = span-refused TapeTooLong (past (ap not o) (here (lt-ltb letter-limit (length tape) h)))
+    -- past the causes of the tape
+    pub past-tape : {why : Refusal} {more : List Check} → First why more → First why (tape-order p tape ++ more)
+    past-tape f = past (clear .0) (past (clear .1 .0) (past (clear .1 .1 .0) f))
 
-    module _ (h : length tape ≤ letter-limit) where
-      few : ltb letter-limit (length tape) ≡ false
-      few = le-ltb letter-limit (length tape) h
+    pub span-not : code-of-tape (root p) tape code count ≡ false → Refuses NotACode
+    span-not c = span-refused NotACode (past-tape (here (ap not c)))
 
-      pub span-byte : (bad : ℕ) → bad ≡ first-bad tape → bad < length tape → Refuses (TapeByte bad)
-      span-byte bad e b =
-          subst (λ i. Refuses (TapeByte i)) (sym e)
-          (span-refused (TapeByte (first-bad tape)) (past (ap not o) (past few (here (lt-ltb (first-bad tape) (length tape) (omega (arith, b, e)))))))
+    module _ (w : code-of-tape (root p) tape code count ≡ true) where
+      given : (x : Visit) → span-visit p code count l k ≡ some x → span-answer p tape code count l k ≡ answer 0 0
+      unfolding span-answer
+      given x e =
+          clear-success (span-order p tape code count l k) (answer 0 0)
+          (clear .0, (clear .1 .0, (clear .1 .1 .0, (ap not w, (ap unvisited e, tt)))))
 
-      module _ (bad : ℕ) (e : bad ≡ first-bad tape) (b : length tape ≤ bad) where
-        letters : ltb (first-bad tape) (length tape) ≡ false
-        letters = le-ltb (first-bad tape) (length tape) (omega (arith, b, e))
+      module _ (r : Found) (fi : Finds (trace-at code count (root p) 0) 0 l k r) where
+        -- what was found is the visit of layer 1
+        found-visit : (j : ℕ) × (n : ℕ) × (i : ℕ) × (r ≡ found-by n j i (span-visit p code count l k))
+        unfolding span-visit visit trace-at found-in
+        found-visit =
+            let (v, e) = whole-value (root p) code count (tape-whole (root p) tape code count w) in
+            let (f, _) = same-seen (sym (fi .is) ∙ value-see (root p) code count (trace (root p)) v e) in
+            let j = fi .stop in
+            let n = k - length (visits-at l (visits (root p) v 0)) in
+            let i = 0 + length (flat (root p) v) in (
+              j,
+              n,
+              i,
+              fi .result ∙ ap (λ z. found-in l k j (z 0)) f ∙ ap (found-in l k j) (trace-visits (root p) v 0)
+                  ∙ ap (λ z. found-by n j i (visit-by (root p) l k z)) (sym e),
+            )
 
-        pub span-not : code-of-tape (root p) tape code count ≡ false → Refuses NotACode
-        span-not c = span-refused NotACode (past (ap not o) (past few (past letters (here (ap not c)))))
+        pub span-none : (a b c : ℕ) → r ≡ Passed a b c → Refuses NoSuchVisit
+        span-none a b c t = go (span-visit p code count l k) refl
+          where
+            go : (x : Option Visit) → span-visit p code count l k ≡ x → Refuses NoSuchVisit
+            go none e =
+                span-refused NoSuchVisit (past-tape (past (ap not w) (here (ap unvisited e))))
+            go (some x) e =
+                let (j, n, i, q) = found-visit in
+                absurd (false≢true (ap (λ z. numbers z .0) (sym t ∙ q ∙ ap (found-by n j i) e)))
 
-        module _ (w : code-of-tape (root p) tape code count ≡ true) where
-          given : (x : Visit) → span-visit p code count l k ≡ some x → span-answer p tape code count l k ≡ answer 0 0
-          unfolding span-answer
-          given x e =
-              clear-success (span-order p tape code count l k) (answer 0 0)
-              (ap not o, (few, (letters, (ap not w, (ap unvisited e, tt)))))
-
-          module _ (r : Found) (fi : Finds (trace-at code count (root p) 0) 0 l k r) where
-            -- what was found is the visit of layer 1
-            found-visit : (j : ℕ) × (n : ℕ) × (i : ℕ) × (r ≡ found-by n j i (span-visit p code count l k))
-            unfolding span-visit visit trace-at found-in
-            found-visit =
-                let (v, e) = whole-value (root p) code count (tape-whole (root p) tape code count w) in
-                let (f, _) = same-trace (sym (fi .is) ∙ value-see (root p) code count (trace (root p)) v e) in
-                let j = fi .stop in
-                let n = k - length (visits-at l (visits (root p) v 0)) in
-                let i = 0 + length (flat (root p) v) in (
-                  j,
-                  n,
-                  i,
-                  fi .result ∙ ap (λ z. found-in l k j (z 0)) f ∙ ap (found-in l k j) (trace-visits (root p) v 0)
-                      ∙ ap (λ z. found-by n j i (visit-by (root p) l k z)) (sym e),
-                )
-
-            pub span-none : r .hit ≡ false → Refuses NoSuchVisit
-            span-none t = go (span-visit p code count l k) refl
-              where
-                go : (x : Option Visit) → span-visit p code count l k ≡ x → Refuses NoSuchVisit
-                go none e =
-                    span-refused NoSuchVisit (past (ap not o) (past few (past letters (past (ap not w) (here (ap unvisited e))))))
-                go (some x) e = let (j, n, i, q) = found-visit in absurd (false≢true (sym t ∙ ap (λ z. z .hit) (q ∙ ap (found-by n j i) e)))
-
-            pub span-found : r .hit ≡ true → Spans p tape code count l k (record { outcome = Shown; start = r .start; length = r .size })
-            span-found t = go (span-visit p code count l k) refl
-              where
-                go : (x : Option Visit) → span-visit p code count l k ≡ x
-                    → Spans p tape code count l k (record { outcome = Shown; start = r .start; length = r .size })
-                go none e = let (j, n, i, q) = found-visit in absurd (false≢true (sym (ap (λ z. z .hit) (q ∙ ap (found-by n j i) e)) ∙ t))
-                go (some x) e =
-                    let (j, n, i, q) = found-visit in
-                    let g = q ∙ ap (found-by n j i) e in
-                    let a = given x e in
-                    let s = shown-at x a e in
-                    record { answers = sym a; starts = ap (λ z. z .start) g ∙ sym (ap start-of s); lengths = ap (λ z. z .size) g ∙ sym (ap size-of s) }
+        pub span-found : (a b : ℕ) → r ≡ Hit a b → Spans p tape code count l k (record { outcome = Shown; start = a; length = b })
+        span-found a b t = go (span-visit p code count l k) refl
+          where
+            go : (x : Option Visit) → span-visit p code count l k ≡ x → Spans p tape code count l k (record { outcome = Shown; start = a; length = b })
+            go none e = let (j, n, i, q) = found-visit in absurd (true≢false (ap (λ z. numbers z .0) (sym t ∙ q ∙ ap (found-by n j i) e)))
+            go (some x) e =
+                let (j, n, i, q) = found-visit in
+                let g = sym t ∙ q ∙ ap (found-by n j i) e in
+                let a = given x e in
+                let s = shown-at x a e in
+                record {
+                  answers = sym a;
+                  starts = ap (λ z. numbers z .1 .0) g ∙ sym (ap start-of s);
+                  lengths = ap (λ z. numbers z .1 .1 .0) g ∙ sym (ap size-of s);
+                }

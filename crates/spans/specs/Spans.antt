@@ -2,17 +2,16 @@
 use mathlib.Core.Path.{_≡_}
 use mathlib.Core.Bool.{Bool, true, false, not, cond}
 use mathlib.Core.Option.{Option, none, some}
-use mathlib.Core.List.{List, [], _∷_}
+use mathlib.Core.List.{List, [], _∷_, _++_}
 use Prim.Native.Nat.{ℕ}
-use lib.Dec.{eqb, ltb}
-use lib.ListN.{length, take, drop}
+use lib.Dec.{eqb}
+use lib.ListN.{take, drop}
 use Rattle.syntax.specs.declared.Pattern.{Pattern}
 use Rattle.refusals.specs.declared.Refusal.{Refusal}
-use Rattle.refusals.specs.declared.Refusal.the-variants.{Tree as Tree-fault, TapeTooLong, TapeByte, NotACode, NoSuchVisit}
-use Rattle.syntax.specs.Letter.{first-bad, letter-limit}
+use Rattle.refusals.specs.declared.Refusal.the-variants.{NotACode, NoSuchVisit}
 use Rattle.syntax.specs.Tree.{Tree}
 use Rattle.syntax.specs.Trees.{root}
-use Rattle.syntax.specs.Table.{obeys}
+use Rattle.checks.specs.TapeOrder.{tape-order}
 use Rattle.refusals.specs.Refusals.{Answer, answer, refused}
 use Rattle.refusals.specs.Checks.{Check, first-cause}
 use Rattle.bits.specs.Bits.{held}
@@ -40,12 +39,8 @@ unvisited (some x) = false
 -- 01: "Showing the piece [..]: 2, 3, 4, 8, 10."
 abbrev pub span-order : Pattern → (tape code : List ℕ) → (count node k : ℕ) → List Check
 span-order p tape code count l k =
-    (not (obeys p), Tree-fault 0)
-    ∷ (ltb letter-limit (length tape), TapeTooLong)
-    ∷ (ltb (first-bad tape) (length tape), TapeByte (first-bad tape))
-    ∷ (not (code-of-tape (root p) tape code count), NotACode)
-    ∷ (unvisited (span-visit p code count l k), NoSuchVisit)
-    ∷ []
+    tape-order p tape
+    ++ ((not (code-of-tape (root p) tape code count), NotACode) ∷ (unvisited (span-visit p code count l k), NoSuchVisit) ∷ [])
 
 unfoldable pub span-answer : Pattern → (tape code : List ℕ) → (count node k : ℕ) → Answer
 span-answer p tape code count l k = first-cause (span-order p tape code count l k) (answer 0 0)

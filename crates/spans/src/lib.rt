@@ -2,17 +2,19 @@
 // They are apart from crate codes because no other service needs their walk and its laws. Whether the code is the tape's is asked of
 // `codes::spells`, so that a code is tested once and `find` goes over one that is known to be whole.
 ghost use mathlib.Core.Path.{_≡_};
+ghost use Rattle.checks.specs.TapeLaws.{Is-taken};
 ghost use Rattle.spans.specs.Spans.{Spans, refused-span, span-shown};
 ghost use Rattle.spans.specs.Parts.{Part-of-tape};
 
 mod find; // find.rt: the walk that looks for a visit
 
+use checks::TapeCheck;
+use checks::check_tape;
 use codes::spells;
+use find::Found;
 use find::find;
 use refusals::Refusal;
 use syntax::Pattern;
-use syntax::first_bad;
-use syntax::obeys_rules;
 use table::table_of;
 
 // What showing a piece answers: that it is shown, or why not.
@@ -38,33 +40,34 @@ fn no_span(why: Refusal) -> Spanned
     }
 }
 
-// Start and length of a visit's piece. A visit is looked for only when the code is known to be the tape's.
-pub fn span(p: Pattern, tape: &[u8], code: &[u8], count: u32, node: u32, visit: u32) -> Spanned
+// Start and length of a visit's piece, of a tape that is taken. A visit is looked for only when the code is known to be the tape's.
+fn show(p: Pattern, tape: &[u8], code: &[u8], count: u32, node: u32, visit: u32) -> Spanned
+    requires { ⌜ Is-taken p (now tape) ⌝ }
     ensures { λ r. ⌜ Spans p (now (tape .entry)) (now (code .entry)) count node visit r ⌝ }
 {
-    if !obeys_rules(p) {
-        return no_span(Refusal::Tree(0));
-    }
-    if Pattern::MAX_LETTERS < tape.len() {
-        return no_span(Refusal::TapeTooLong);
-    }
-    let bad = first_bad(tape);
-    if bad < tape.len() {
-        return no_span(Refusal::TapeByte(bad as u32));
-    }
     let table = table_of(p);
     let root = p.count - 1;
     if !spells(&table, root, code, count, tape) {
-        return no_span(Refusal::NotACode); // before a visit is looked for
+        return no_span(Refusal::NotACode);
     }
     let found = find(&table, root, code, count, 0, 0, node, visit);
-    if !found.hit {
+    let Found::Hit(start, length) = found else {
         return no_span(Refusal::NoSuchVisit);
-    }
+    };
     Spanned {
         outcome: SpanOutcome::Shown,
-        start: found.start,
-        length: found.size,
+        start,
+        length,
+    }
+}
+
+// Start and length of a visit's piece.
+pub fn span(p: Pattern, tape: &[u8], code: &[u8], count: u32, node: u32, visit: u32) -> Spanned
+    ensures { λ r. ⌜ Spans p (now (tape .entry)) (now (code .entry)) count node visit r ⌝ }
+{
+    match check_tape(p, tape) {
+        TapeCheck::Refused(why) => no_span(why),
+        TapeCheck::Taken => show(p, tape, code, count, node, visit),
     }
 }
 

@@ -1,15 +1,30 @@
 // One step of the first sweep: the two state sets of a position out of the next position's (01: marks), and the memo of steps made before.
 // `step` is told whether the next position is the tape's end: the next flag 1 state set does not say it, since for the pattern `a` it is 0 at the
-// end and 0 where nothing can be read. It asks nothing of its arrays, so that a caller may keep its words elsewhere. Steps are remembered in 32
-// slots by letter: any slot is right, and on a tape of readings most positions are like an earlier one.
+// end and 0 where nothing can be read. It asks nothing of its arrays, so that a caller may keep its words elsewhere.
+// On a tape of readings the same few pairs of state sets come again and again. So pairs are numbered as they come, 1 to 39, and a table of bytes
+// notes which pair a step leads to: a step that was made before is one byte read. A row is the pair that the step starts from, a column the
+// leaves that take the letter, so letters that the same leaves take share one. A column is chosen by the lowest of these leaves and belongs to
+// the first leaves that ask for it; others make their steps each time.
+// A tape with more pairs, or with many new steps, goes on without numbers: there the table would cost more than it saves.
 ghost use mathlib.Core.Path.{_≡_};
 ghost use mathlib.Core.Bool.{_&&_};
 ghost use lib.Dec.{eqb};
 ghost use Prim.Native.Nat.{_*_, _≤_, _<_};
+ghost use lib.ListN.{length};
 ghost use Rattle.bits.specs.Bits.{bit};
 ghost use Rattle.steps.specs.Steps.{behind, step-of};
-ghost use Rattle.steps.specs.Memo.{Remembers};
+ghost use Rattle.masks.specs.Leaves.{entry};
+ghost use Rattle.steps.specs.Memo.{Knows, Extends, Found, Numbers, Claims, Notes, Learns, Goes};
 use table::follower_at;
+
+// Pairs have numbers below this. As the number of a pair it says that pairs are no longer numbered.
+const PAIRS: usize = 40;
+// Two cells for each pair, the state set of flag 0 first. There is no pair 0, so cell 0 counts the pairs, and cell 1 the steps noted.
+pub const PAIR_CELLS: usize = 80;
+// A column for each leaf.
+pub const COLUMNS: usize = 64;
+// A row of columns for each pair: the number of the pair that the step leads to, or 0 if it is not noted.
+pub const WAY_CELLS: usize = 2560;
 
 // The two state sets of a position: with flag 0 and with flag 1.
 pub struct Words {
@@ -62,46 +77,163 @@ pub fn step(
     Words { zero: a, one: b }
 }
 
-// Whether what a slot keeps is of these leaves and this state set.
-fn is_kept(kept: u64, takers: u64, behind: u64, next: u64) -> bool
-    ensures { λ r. ⌜ r ≡ (eqb kept takers && eqb behind next) ⌝ }
+// The column of a letter, by the lowest of the leaves that take it.
+pub fn column_of(takers: u64) -> usize
+    ensures { λ r. ⌜ r < 64 ⌝ }
 {
-    if kept != takers {
-        return false;
-    }
-    behind == next
+    (u64::trailing_zeros(takers) % 64) as usize
 }
 
-// A step from what was remembered of the last one in this slot, where that was for the same leaves and from the same state set. Four cells
-// of the memo are the slot's: the leaves, the state set of the next position, and the two that the step gave.
-pub fn recall(
-    zero: &[u64; 64],
-    one: &[u64; 64],
-    table: &[u64; 64],
-    takers: u64,
-    next: u64,
-    last: bool,
-    slot: usize,
-    memo: &mut [u64],
-) -> Words
-    requires { ⌜ (slot < 32) × Remembers (now zero) (now one) (now table) (now memo) ⌝ }
-    ensures { λ r. ⌜ r ≡ step-of (now (zero .entry)) (now (one .entry)) (now (table .entry)) takers next last ⌝ }
-    ensures { λ _. ⌜ Remembers (now (zero .entry)) (now (one .entry)) (now (table .entry)) (now (memo .exit)) ⌝ }
+// A number of a pair as the table of bytes holds it.
+fn wide(x: u8) -> usize
+    ensures { λ r. ⌜ r ≡ x ⌝ }
 {
-    if last {
-        return step(zero, one, table, takers, next, last);
+    x as usize
+}
+
+// Whether a kept pair is this one.
+fn is_same(x: u64, zero: u64, y: u64, one: u64) -> bool
+    ensures { λ r. ⌜ r ≡ (eqb x zero && eqb y one) ⌝ }
+{
+    if x != zero {
+        return false;
     }
-    let k = 4 * slot;
-    if is_kept(memo[k], takers, memo[k + 1], next) {
-        return Words {
-            zero: memo[k + 2],
-            one: memo[k + 3],
-        };
+    y == one
+}
+
+// The number of a pair among those numbered, or the next number.
+fn find(pairs: &[u64; PAIR_CELLS], count: usize, zero: u64, one: u64) -> usize
+    requires { ⌜ count < 40 ⌝ }
+    ensures { λ r. ⌜ Found (now (pairs .entry)) count zero one r ⌝ }
+{
+    let mut n = 1;
+    while n <= count {
+        if is_same(pairs[2 * n], zero, pairs[2 * n + 1], one) {
+            return n;
+        }
+        n += 1;
     }
-    let r = step(zero, one, table, takers, next, last);
-    memo[k] = takers;
-    memo[k + 1] = next;
-    memo[k + 2] = r.zero;
-    memo[k + 3] = r.one;
-    r
+    n
+}
+
+// Whether a step may still be noted: fewer than `notes` are. If so, it is counted.
+fn is_noted(pairs: &mut [u64; PAIR_CELLS], notes: u64) -> bool
+    requires { ⌜ (length (now pairs) ≡ 80) × (entry (now pairs) 0 < 40) ⌝ }
+    ensures { λ _. ⌜ Extends (now (pairs .entry)) (now (pairs .exit)) ⌝ }
+{
+    let noted = pairs[1];
+    if notes <= noted {
+        return false;
+    }
+    pairs[1] = noted + 1;
+    true
+}
+
+// The number of a pair: its own, or a new one, or PAIRS if there is no room for it.
+fn number_of(pairs: &mut [u64; PAIR_CELLS], zero: u64, one: u64) -> usize
+    requires { ⌜ (length (now pairs) ≡ 80) × (entry (now pairs) 0 < 40) ⌝ }
+    ensures { λ r. ⌜ Numbers (now (pairs .entry)) (now (pairs .exit)) zero one r ⌝ }
+{
+    let count = pairs[0] as usize;
+    let n = find(pairs, count, zero, one);
+    if n <= count {
+        return n;
+    }
+    if n == PAIRS {
+        return n;
+    }
+    pairs[0] = n as u64;
+    pairs[2 * n] = zero;
+    pairs[2 * n + 1] = one;
+    n
+}
+
+// Whether a column belongs to these leaves. If it belongs to none, it does from now on.
+fn claims(owners: &mut [u64; COLUMNS], column: usize, takers: u64) -> bool
+    requires { ⌜ (column < 64) × (length (now owners) ≡ 64) ⌝ }
+    ensures { λ r. ⌜ Claims (now (owners .entry)) (now (owners .exit)) column takers r ⌝ }
+{
+    if takers == 0 {
+        return false;
+    }
+    let owner = owners[column];
+    if owner == 0 {
+        owners[column] = takers;
+        return true;
+    }
+    owner == takers
+}
+
+// Notes which pair a step leads to, if both pairs are numbered and the column belongs to the leaves of the step.
+fn note(
+    owners: &mut [u64; COLUMNS],
+    ways: &mut [u8; WAY_CELLS],
+    takers: u64,
+    column: usize,
+    pair: usize,
+    to: usize,
+)
+    requires { ⌜ (column < 64) × (pair < 40) × (to ≤ 40) × (length (now owners) ≡ 64) ⌝ }
+    ensures { λ _. ⌜ Notes (now (owners .entry)) (now (ways .entry)) takers pair to (now (owners .exit)) (now (ways .exit)) ⌝ }
+{
+    if pair == 0 {
+        return;
+    }
+    if to == PAIRS {
+        return;
+    }
+    if claims(owners, column, takers) {
+        ways[64 * pair + column] = to as u8;
+    }
+}
+
+// Learns a step: numbers the pair that it leads to and, if there is room, notes it. Gives that number, or PAIRS if pairs are no longer numbered.
+// At most `notes` steps are noted.
+pub fn learn(
+    owners: &mut [u64; COLUMNS],
+    pairs: &mut [u64; PAIR_CELLS],
+    ways: &mut [u8; WAY_CELLS],
+    takers: u64,
+    pair: usize,
+    notes: u64,
+    w: Words,
+) -> usize
+    requires { ⌜ (pair < 40) × (length (now owners) ≡ 64) × (length (now pairs) ≡ 80) × (entry (now pairs) 0 < 40) ⌝ }
+    ensures { λ r. ⌜ Learns (now (owners .entry)) (now (pairs .entry)) (now (ways .entry)) takers pair w
+        (now (owners .exit)) (now (pairs .exit)) (now (ways .exit)) r ⌝ }
+{
+    if is_noted(pairs, notes) {
+        let to = number_of(pairs, w.zero, w.one);
+        note(owners, ways, takers, column_of(takers), pair, to);
+        return to;
+    }
+    PAIRS
+}
+
+// The pair that a step leads to, or 0 if the step is not noted. It is asked for each letter, so it is small enough to become part of the sweep's
+// loop: as a call it took three times as long (measured).
+pub fn known(
+    owners: &[u64; COLUMNS],
+    ways: &[u8; WAY_CELLS],
+    takers: u64,
+    column: usize,
+    pair: usize,
+) -> usize
+    requires { ⌜ (column < 64) × (pair < 40) ⌝ }
+    ensures { λ r. ⌜ Knows (now (owners .entry)) (now (ways .entry)) takers column pair r ⌝ }
+{
+    if owners[column] != takers {
+        return 0;
+    }
+    wide(ways[64 * pair + column])
+}
+
+// Whether letters are left, and pairs are still numbered.
+pub fn goes_on(left: usize, pair: usize) -> bool
+    ensures { λ r. ⌜ Goes left pair r ⌝ }
+{
+    if PAIRS <= pair {
+        return false;
+    }
+    0 < left
 }

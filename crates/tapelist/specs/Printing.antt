@@ -1,10 +1,16 @@
 -- What the program's functions promise: how much is held of a file, and what is printed. No contract can say what a file has: `libc::read` says
 -- how many bytes it put, and not which. Definitions only.
 use mathlib.Core.Path.{_≡_}
-use mathlib.Core.List.{List}
+use mathlib.Core.List.{List, [], _∷_}
 use Prim.Native.Nat.{ℕ, _≤_, _<_}
 use lib.ListN.{take}
-use Rattle.listing.specs.Listing.{listing-of}
+use Rattle.refusals.specs.Refusals.{refused}
+use Rattle.loading.specs.Load.{load-table}
+use Rattle.reach.specs.declared.Located.{Located}
+use Rattle.reach.specs.declared.Located.the-variants.{Positions, Refused}
+use Rattle.reach.specs.Locate.{Locates}
+use Rattle.text.specs.Text.{line, refused-line}
+use Rattle.listing.specs.Listing.{tape-of, listing-of}
 use Rattle.listing.specs.Shortened.{text-bytes}
 
 -- bytes of a pattern's text and of a tape that decide the listing (`listing-short` of crate listing)
@@ -28,3 +34,18 @@ pub record Prints (text tape bytes : List ℕ) : Type 0 where
   pub held : bytes ≡ listing-of text tape
   pub files : (pattern-file tape-file : List ℕ) (m n : ℕ) → text-least ≤ m → tape-least ≤ n
       → text ≡ take m pattern-file → tape ≡ take n tape-file → bytes ≡ listing-of pattern-file tape-file
+
+-- `located`
+abbrev pub located-word : List ℕ
+located-word = 108 ∷ 111 ∷ 99 ∷ 97 ∷ 116 ∷ 101 ∷ 100 ∷ []
+
+-- a line of where a tape breaks: the reach, and the position at which the tape resumes; or the refusal
+abbrev pub located-line : Located → List ℕ
+located-line (Positions reach resume) = line located-word reach resume
+located-line (Refused why) = refused-line (refused why)
+
+-- what is printed after the listing, of the bytes held: what locating promises on the table of the text and the letters of the tape
+pub record Tells (text tape bytes : List ℕ) : Type 0 where
+  pub located : Located
+  pub locates : Locates (load-table text) (tape-of tape) located
+  pub told : bytes ≡ located-line located

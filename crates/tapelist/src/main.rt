@@ -1,13 +1,21 @@
 // Prints the listing of the pattern in `pattern.tsv` and the tape in `tape.txt`, both in the working folder. A file that
-// cannot be opened or read gives a message on standard error and nothing on standard output. All that is printed comes
-// from `listing::list`.
+// cannot be opened or read gives a message on standard error and nothing on standard output. The listing is what
+// `listing::list` gives. Started with an argument, whatever it is, the program prints one line more, where the tape breaks: the
+// word `located` and the two positions that `reach::locate` gives, or the line of its refusal.
 ghost use Prim.Native.Nat.{_≤_};
 ghost use lib.ListN.{length};
-ghost use Rattle.tapelist.specs.Printing.{text-least, tape-least, Held, Prints};
+ghost use Rattle.text.specs.Text.{Puts};
+ghost use Rattle.tapelist.specs.Printing.{text-least, tape-least, Held, Prints, located-line, Tells};
 use libc::STDOUT_FILENO;
 use listing::Listed;
 use listing::MAX_LISTING;
+use listing::letters_of;
 use listing::list;
+use loading::load;
+use reach::Located;
+use reach::locate;
+use text::put_line;
+use text::put_refused;
 
 // Bytes held of each file. The first `text-bytes` bytes of a pattern's text, 1,025, and the first 3,602 of a tape give the listing
 // of the whole files: law `listing-short` of crate listing.
@@ -64,8 +72,8 @@ fn read_file(name: &[u8], buf: &mut [u8]) -> usize
     held
 }
 
-// Writes to standard output, and is all that does. The files' bytes are passed so that the contract can speak of them: what is
-// handed to the system is their listing.
+// Writes a listing to standard output. The files' bytes are passed so that the contract can speak of them: what is handed to the
+// system is their listing. Nothing but this and `tell` writes there.
 fn print(text: &[u8], tape: &[u8], bytes: &[u8])
     requires { ⌜ Prints (now text) (now tape) (now bytes) ⌝ }
 {
@@ -83,6 +91,43 @@ fn print_listing(text: &[u8], tape: &[u8]) {
     print(text, tape, &out[..n]);
 }
 
+// Bytes of a line with a word of seven letters and two numbers: at most 30.
+const MAX_LINE: usize = 32;
+
+// Writes to standard output where a tape breaks.
+fn tell(text: &[u8], tape: &[u8], bytes: &[u8])
+    requires { ⌜ Tells (now text) (now tape) (now bytes) ⌝ }
+{
+    if !io::write_all(STDOUT_FILENO, bytes) {
+        os::fail(b"standard output");
+    }
+}
+
+fn put_located(located: Located, out: &mut [u8]) -> usize
+    ensures { λ r. ⌜ Puts (now (out .entry)) 0 (located-line located) (now (out .exit)) r ⌝ }
+    ensures { λ r. ⌜ length (located-line located) ≤ 30 ⌝ }
+{
+    match located {
+        Located::Positions(reach, resume) => put_line(
+            out,
+            0,
+            b"located",
+            reach as u64,
+            resume as u64,
+        ),
+        Located::Refused(why) => put_refused(out, 0, why),
+    }
+}
+
+fn print_break(text: &[u8], tape: &[u8]) {
+    let loaded = load(text);
+    let n = letters_of(tape);
+    let located = locate(loaded.pattern, &tape[..n]);
+    let mut out = [0u8; MAX_LINE];
+    let size = put_located(located, &mut out);
+    tell(text, tape, &out[..size]);
+}
+
 // Prints nothing where one of the files cannot be read. The buffers hold as many bytes as decide the listing.
 fn list_files(text: &mut [u8], tape: &mut [u8])
     requires { ⌜ (text-least ≤ length (now text)) × (tape-least ≤ length (now tape)) ⌝ }
@@ -96,6 +141,9 @@ fn list_files(text: &mut [u8], tape: &mut [u8])
         return;
     }
     print_listing(&text[..m], &tape[..n]);
+    if 1 < os::arg_count() {
+        print_break(&text[..m], &tape[..n]);
+    }
 }
 
 fn main() {

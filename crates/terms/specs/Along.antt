@@ -12,6 +12,7 @@ use Rattle.calendar.specs.DateLaws.{day-past, past-stays, past-no-date, past-af
 use Rattle.semantics.specs.AccountLaws.{letters}
 use Rattle.semantics.specs.VisitLaws.{All}
 use Rattle.entries.specs.Entries.{Entries}
+use Rattle.terms.specs.declared.Term.{Term}
 use Rattle.terms.specs.Terms.{day-end, after-letter, Dated, dated, in-term}
 use Rattle.terms.specs.Days.{date-behind}
 use Rattle.terms.specs.Adding.{dated-append}
@@ -113,42 +114,42 @@ pub dated-past : (es : Entries) (start : Date) → is-date start ≡ true
 dated-past es start h = dates-past es start (inl h)
 
 -- ── terms before and behind the tape ──
-abbrev pub Outside : (first last : Date) → List Dated → Type 0
-Outside first last xs = All (λ x. in-term first last (x .date) ≡ false) xs
+abbrev pub Outside : Term → List Dated → Type 0
+Outside term xs = All (λ x. in-term term (x .date) ≡ false) xs
 
-module _ (first last : Date) where
+module _ (term : Term) where
   not-both : {b : Bool} → b ≡ true → b ≡ false → ⊥
   not-both p q = true≢false (sym p ∙ q)
 
-  out-late : (d : Date) → is-after d last ≡ true → in-term first last d ≡ false
+  out-late : (d : Date) → is-after d (term .last) ≡ true → in-term term d ≡ false
   unfolding in-term
-  out-late d h = rw h (and-false (not (is-after first d)))
+  out-late d h = rw h (and-false (not (is-after (term .first) d)))
 
-  out-early : (d : Date) → is-after first d ≡ true → in-term first last d ≡ false
+  out-early : (d : Date) → is-after (term .first) d ≡ true → in-term term d ≡ false
   unfolding in-term
   out-early d h = rw h
 
   -- a term whose last date is before the start
-  pub term-before : (start : Date) → is-after start last ≡ true → (es : Entries) → Outside first last (dated start es)
+  pub term-before : (start : Date) → is-after start (term .last) ≡ true → (es : Entries) → Outside term (dated start es)
   term-before start h es = go (dated start es) (from-start es start start (after-self start))
     where
-      late : (d : Date) → is-after start d ≡ false → (b : Bool) → is-after d last ≡ b → is-after d last ≡ true
+      late : (d : Date) → is-after start d ≡ false → (b : Bool) → is-after d (term .last) ≡ b → is-after d (term .last) ≡ true
       late d e true f = f
-      late d e false f = absurd (not-both h (upto-trans start d last e f))
+      late d e false f = absurd (not-both h (upto-trans start d (term .last) e f))
 
-      go : (xs : List Dated) → All (λ x. is-after start (x .date) ≡ false) xs → Outside first last xs
+      go : (xs : List Dated) → All (λ x. is-after start (x .date) ≡ false) xs → Outside term xs
       go [] k = tt
-      go (x ∷ xs) k = (out-late (x .date) (late (x .date) (k .0) (is-after (x .date) last) refl), go xs (k .1))
+      go (x ∷ xs) k = (out-late (x .date) (late (x .date) (k .0) (is-after (x .date) (term .last)) refl), go xs (k .1))
 
   -- a term whose first date is after the last letter's
-  pub term-behind : (start : Date) (es : Entries) (e : ℕ × ℕ) → is-after first (date-behind start (letters es)) ≡ true
-      → Outside first last (dated start (es ++ (e ∷ [])))
+  pub term-behind : (start : Date) (es : Entries) (e : ℕ × ℕ) → is-after (term .first) (date-behind start (letters es)) ≡ true
+      → Outside term (dated start (es ++ (e ∷ [])))
   term-behind start es e h = go (dated start (es ++ (e ∷ []))) (upto-end es e start)
     where
-      early : (d : Date) → is-after d (date-behind start (letters es)) ≡ false → (b : Bool) → is-after first d ≡ b → is-after first d ≡ true
+      early : (d : Date) → is-after d (date-behind start (letters es)) ≡ false → (b : Bool) → is-after (term .first) d ≡ b → is-after (term .first) d ≡ true
       early d k true f = f
-      early d k false f = absurd (not-both h (upto-trans first d (date-behind start (letters es)) f k))
+      early d k false f = absurd (not-both h (upto-trans (term .first) d (date-behind start (letters es)) f k))
 
-      go : (xs : List Dated) → All (λ x. is-after (x .date) (date-behind start (letters es)) ≡ false) xs → Outside first last xs
+      go : (xs : List Dated) → All (λ x. is-after (x .date) (date-behind start (letters es)) ≡ false) xs → Outside term xs
       go [] k = tt
-      go (x ∷ xs) k = (out-early (x .date) (early (x .date) (k .0) (is-after first (x .date)) refl), go xs (k .1))
+      go (x ∷ xs) k = (out-early (x .date) (early (x .date) (k .0) (is-after (term .first) (x .date)) refl), go xs (k .1))

@@ -10,7 +10,8 @@ use lib.Seq.{take-suc}
 use Rattle.calendar.specs.declared.Date.{Date}
 use Rattle.calendar.specs.Dates.{is-date, next-date}
 use Rattle.calendar.specs.DateLaws.{next-stays}
-use Rattle.totals.specs.Sums.{pairs}
+use Rattle.entries.specs.Gather.{pairs}
+use Rattle.terms.specs.declared.Term.{Term}
 use Rattle.terms.specs.declared.days.Day.{Day}
 use Rattle.terms.specs.Terms.{day-end, after-letter, dated, in-term, all-dates, dates-good}
 
@@ -20,8 +21,8 @@ date-behind d [] = d
 date-behind d (c ∷ w) = date-behind (after-letter c d) w
 
 -- a date, and whether it lies in the term
-abbrev pub day-of : (first last : Date) → Date → Day
-day-of first last d = record { date = d; inside = in-term first last d }
+abbrev pub day-of : Term → Date → Day
+day-of term d = record { date = d; inside = in-term term d }
 
 pub behind-append : (v w : List ℕ) (d : Date) → date-behind d (v ++ w) ≡ date-behind (date-behind d v) w
 behind-append [] w d = refl

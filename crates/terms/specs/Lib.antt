@@ -1,8 +1,8 @@
 pub mod Terms
 pub mod Days
 pub mod Adding
-pub mod TermWays
 pub mod Unique
+pub mod TermWays
 pub mod Orders
 pub mod Along
 pub mod TermLaws

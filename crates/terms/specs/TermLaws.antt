@@ -6,10 +6,9 @@ use Prim.Native.Nat.{ℕ, _+_, _*_, _<_}
 use native.Mathlib.Omega.{arith}
 use lib.Dec.{eqb}
 use lib.ListN.{length, getD}
-use borrow.Author.Tests.{not-false}
 use Rattle.syntax.specs.declared.Pattern.{Pattern}
 use Rattle.syntax.specs.Bools.{and-fst, and-snd}
-use Rattle.syntax.specs.Table.{obeys, account-limit}
+use Rattle.syntax.specs.Table.{account-limit}
 use Rattle.syntax.specs.Trees.{root}
 use Rattle.refusals.specs.Checks.{Clear}
 use Rattle.calendar.specs.declared.Date.{Date}
@@ -19,51 +18,55 @@ use Rattle.semantics.specs.Accounts.{litres, total, totals, digits}
 use Rattle.semantics.specs.AccountLaws.{letters, totals-add, getD-totals}
 use Rattle.semantics.specs.VisitLaws.{All}
 use Rattle.entries.specs.Entries.{Entries}
+use Rattle.entries.specs.CodeOrder.{code-order, clear-sound}
+use Rattle.entries.specs.Gather.{entries-of}
+use Rattle.entries.specs.EntryAccounts.{root-accounts, entries-few}
 use Rattle.totals.specs.declared.Totalled.{Totalled}
 use Rattle.totals.specs.declared.TotalsOutcome.the-variants.{Added as All-added}
-use Rattle.totals.specs.Totals.{entries-of, totals-order, totals-answer, totals-litres, no-litres, Totals}
+use Rattle.totals.specs.Totals.{totals-answer, totals-litres, no-litres, Totals}
 use Rattle.totals.specs.Sums.{charge-totals}
-use Rattle.totals.specs.TotalsLaws.{root-accounts, entries-few, totals-added, many-or-none, sum-list, sum-totals}
+use Rattle.totals.specs.TotalsLaws.{totals-added, many-or-none, sum-list, sum-totals}
 use Rattle.totals.specs.Unique.{totals-one}
-use Rattle.terms.specs.declared.TermOutcome.{TermOutcome}
+use Rattle.terms.specs.declared.Term.{Term}
 use Rattle.terms.specs.declared.TermOutcome.the-variants.{Added}
 use Rattle.terms.specs.declared.TermTotalled.{TermTotalled}
 use Rattle.terms.specs.Terms.{Dated, dated, in-term, within, all-dates, dates-good, terms-answer, terms-litres, Term-totals}
-use Rattle.terms.specs.Orders.{Answered, by-totalling, by-dates, by-term, by-success, terms-answered, terms-added}
+use Rattle.terms.specs.Orders.{terms-none, terms-added}
 use Rattle.terms.specs.Days.{date-behind}
 use Rattle.terms.specs.Along.{entry-list, dated-entries, Outside, term-before, term-behind}
 
 -- ── the letters of a term ──
-outside-none : (f l : Date) (xs : List Dated) → Outside f l xs → within f l xs ≡ []
-outside-none f l [] k = refl
-outside-none f l (x ∷ xs) k = rw (k .0) (outside-none f l xs (k .1))
+outside-none : (t : Term) (xs : List Dated) → Outside t xs → within t xs ≡ []
+outside-none t [] k = refl
+outside-none t (x ∷ xs) k = rw (k .0) (outside-none t xs (k .1))
 
-pub within-all : (P : ℕ × ℕ → Type 0) (f l : Date) (xs : List Dated) → All P (entry-list xs) → All P (within f l xs)
-within-all P f l [] h = tt
-within-all P f l (x ∷ xs) h = go (in-term f l (x .date)) (within-all P f l xs (h .1))
+pub within-all : (P : ℕ × ℕ → Type 0) (t : Term) (xs : List Dated) → All P (entry-list xs) → All P (within t xs)
+within-all P t [] h = tt
+within-all P t (x ∷ xs) h = go (in-term t (x .date)) (within-all P t xs (h .1))
   where
-    go : (b : Bool) → All P (within f l xs) → All P (cond b (x .entry ∷ within f l xs) (within f l xs))
+    go : (b : Bool) → All P (within t xs) → All P (cond b (x .entry ∷ within t xs) (within t xs))
     go true k = (h .0, k)
     go false k = k
 
-all-in : (d : Date) → is-date d ≡ true → in-term first-date last-date d ≡ true
+-- the term of all days
+abbrev pub every-date : Term
+every-date = record { first = first-date; last = last-date }
+
+all-in : (d : Date) → is-date d ≡ true → in-term every-date d ≡ true
 unfolding in-term
 all-in d e = rw (first-of-all d e, last-of-all d e)
 
-within-every : (xs : List Dated) → all-dates xs ≡ true → within first-date last-date xs ≡ entry-list xs
+within-every : (xs : List Dated) → all-dates xs ≡ true → within every-date xs ≡ entry-list xs
 within-every [] e = refl
 within-every (x ∷ xs) e =
     rw (all-in (x .date) (and-fst (is-date (x .date)) (all-dates xs) e))
     (ap (λ es. x .entry ∷ es) (within-every xs (and-snd (is-date (x .date)) (all-dates xs) e)))
 
 -- ── terms that part the tape's days ──
-abbrev pub Term : Type 0
-Term = Date × Date
-
 -- in how many of the terms a date lies
 abbrev pub terms-with : List Term → Date → ℕ
 terms-with [] d = 0
-terms-with (t ∷ ts) d = cond (in-term (t .0) (t .1) d) 1 0 + terms-with ts d
+terms-with (t ∷ ts) d = cond (in-term t d) 1 0 + terms-with ts d
 
 -- 02: "terms that part the tape's days": each letter's date lies in exactly one of them
 abbrev pub Part-days : List Term → List Dated → Type 0
@@ -72,7 +75,7 @@ Part-days ts xs = All (λ x. terms-with ts (x .date) ≡ 1) xs
 -- the litres of an account in each of the terms, added up
 abbrev pub total-over : (account : ℕ) → List Term → List Dated → ℕ
 total-over a [] xs = 0
-total-over a (t ∷ ts) xs = total a (within (t .0) (t .1) xs) + total-over a ts xs
+total-over a (t ∷ ts) xs = total a (within t xs) + total-over a ts xs
 
 -- the litres of one letter, if it goes to the account
 abbrev litres-to : (account : ℕ) → ℕ × ℕ → ℕ
@@ -83,11 +86,11 @@ over-one : (a : ℕ) (ts : List Term) (x : Dated) (xs : List Dated)
     → total-over a ts (x ∷ xs) ≡ terms-with ts (x .date) * litres-to a (x .entry) + total-over a ts xs
 unfolding total
 over-one a [] x xs = omega arith
-over-one a (t ∷ ts) x xs = go (in-term (t .0) (t .1) (x .date)) (over-one a ts x xs)
+over-one a (t ∷ ts) x xs = go (in-term t (x .date)) (over-one a ts x xs)
   where
     go : (b : Bool) → total-over a ts (x ∷ xs) ≡ terms-with ts (x .date) * litres-to a (x .entry) + total-over a ts xs
-        → total a (cond b (x .entry ∷ within (t .0) (t .1) xs) (within (t .0) (t .1) xs)) + total-over a ts (x ∷ xs)
-        ≡ (cond b 1 0 + terms-with ts (x .date)) * litres-to a (x .entry) + (total a (within (t .0) (t .1) xs) + total-over a ts xs)
+        → total a (cond b (x .entry ∷ within t xs) (within t xs)) + total-over a ts (x ∷ xs)
+        ≡ (cond b 1 0 + terms-with ts (x .date)) * litres-to a (x .entry) + (total a (within t xs) + total-over a ts xs)
     go true e = omega arith
     go false e = omega arith
 
@@ -118,18 +121,18 @@ sum-digits : (es : Entries) → All (λ e. e .1 < account-limit + 1) es → sum-
 unfolding totals
 sum-digits es h = sum-totals (account-limit + 1) es ∙ totals-add (account-limit + 1) es h
 
-clear-litres : (p : Pattern) (code : List ℕ) (count : ℕ) → Clear (totals-order p code count) → (t : Totalled) → Totals p code count t
+clear-litres : (p : Pattern) (code : List ℕ) (count : ℕ) → Clear (code-order p code count) → (t : Totalled) → Totals p code count t
     → t .litres ≡ totals (entries-of (root p) code count)
 clear-litres p code count c t g =
     let es = entries-of (root p) code count in
     totals-one p code count t (record { outcome = All-added; litres = totals es }) g (totals-added p code count c (totals es) refl) .1
 
 -- 02, Job 7: "There are 201 totals", refused or not
-pub term-litres-many : (p : Pattern) (code : List ℕ) (count : ℕ) (start first last : Date)
-    → length (terms-litres p code count start first last) ≡ account-limit + 1
+pub term-litres-many : (p : Pattern) (code : List ℕ) (count : ℕ) (start : Date) (term : Term)
+    → length (terms-litres p code count start term) ≡ account-limit + 1
 unfolding terms-litres
-term-litres-many p code count start first last =
-    many-or-none (eqb (terms-answer p code count start first last .number) 0) (within first last (dated start (entries-of (root p) code count)))
+term-litres-many p code count start term =
+    many-or-none (eqb (terms-answer p code count start term .number) 0) (within term (dated start (entries-of (root p) code count)))
 
 -- the litres of no letters
 no-entries : totals [] ≡ no-litres
@@ -148,57 +151,46 @@ module _ (p : Pattern) (code : List ℕ) (count : ℕ) (start : Date) where
   abbrev pub tape-dated : List Dated
   tape-dated = dated start (entries-of (root p) code count)
 
-  -- ── where nothing is refused ──
-  record Cleared (first last : Date) (r : TermTotalled) : Type 0 where
-    clear : Clear (totals-order p code count)
-    dates : dates-good start (entries-of (root p) code count) ≡ true
-    sums : r .litres ≡ totals (within first last tape-dated)
-
-  module _ (first last : Date) (r : TermTotalled) (h : Term-totals p code count start first last r) where
-    cleared : r .outcome ≡ Added → Cleared first last r
-    cleared e = go (r .outcome) (terms-answered p code count start first last r h) e
-      where
-        go : (o : TermOutcome) → Answered p code count start first last o → o ≡ Added → Cleared first last r
-        go o (by-totalling f) q = absurd (let z : _≡_ {A = ℕ} 0 1 = (cc) in omega arith)
-        go o (by-dates c d) q = absurd (let z : _≡_ {A = ℕ} 0 1 = (cc) in omega arith)
-        go o (by-term c d t) q = absurd (let z : _≡_ {A = ℕ} 0 1 = (cc) in omega arith)
-        go o (by-success c d t) q = record { clear = c; dates = d; sums = terms-added p code count start first last r h c d t .1 }
+  module _ (term : Term) (r : TermTotalled) (h : Term-totals p code count start term r) where
+    -- where nothing is refused
+    added-sums : r .outcome ≡ Added → r .litres ≡ totals (within term tape-dated)
+    added-sums e = terms-added p code count start term r h (terms-none p code count start term r h e) .1
 
     -- 02: "A term outside the tape totals 0."
-    pub term-outside : Outside first last tape-dated → r .litres ≡ no-litres
+    pub term-outside : Outside term tape-dated → r .litres ≡ no-litres
     unfolding terms-litres
     term-outside k =
         h .gives
-        ∙ ap (λ es. cond (eqb (terms-answer p code count start first last .number) 0) (totals es) no-litres) (outside-none first last tape-dated k)
-        ∙ zeros (eqb (terms-answer p code count start first last .number) 0)
+        ∙ ap (λ es. cond (eqb (terms-answer p code count start term .number) 0) (totals es) no-litres) (outside-none term tape-dated k)
+        ∙ zeros (eqb (terms-answer p code count start term .number) 0)
 
-    pub before-tape : is-after start last ≡ true → r .litres ≡ no-litres
-    before-tape e = term-outside (term-before first last start e (entries-of (root p) code count))
+    pub before-tape : is-after start (term .last) ≡ true → r .litres ≡ no-litres
+    before-tape e = term-outside (term-before term start e (entries-of (root p) code count))
 
     pub behind-tape : (es : Entries) (e : ℕ × ℕ) → entries-of (root p) code count ≡ es ++ (e ∷ [])
-        → is-after first (date-behind start (letters es)) ≡ true → r .litres ≡ no-litres
-    behind-tape es e q a = term-outside (subst (λ fs. Outside first last (dated start fs)) (sym q) (term-behind first last start es e a))
+        → is-after (term .first) (date-behind start (letters es)) ≡ true → r .litres ≡ no-litres
+    behind-tape es e q a = term-outside (subst (λ fs. Outside term (dated start fs)) (sym q) (term-behind term start es e a))
 
     -- a term's totals add up to the digits of its letters
-    pub term-digits : r .outcome ≡ Added → sum-list (r .litres) ≡ digits (letters (within first last tape-dated))
+    pub term-digits : r .outcome ≡ Added → sum-list (r .litres) ≡ digits (letters (within term tape-dated))
     term-digits e =
-        let k = cleared e in
         let es = entries-of (root p) code count in
-        let known = root-accounts p (not-false (obeys p) (k .clear .0)) in
-        ap sum-list (k .sums)
-        ∙ sum-digits (within first last (dated start es))
-        (within-all (λ x. x .1 < account-limit + 1) first last (dated start es)
+        let clear = terms-none p code count start term r h e .clear in
+        let known = root-accounts p (clear-sound p code count clear .good) in
+        ap sum-list (added-sums e)
+        ∙ sum-digits (within term (dated start es))
+        (within-all (λ x. x .1 < account-limit + 1) term (dated start es)
         (subst (All (λ x. x .1 < account-limit + 1)) (sym (dated-entries es start))
         (entries-few (account-limit + 1) (root p) known (omega arith) code count)))
 
   -- the term of all days has the totals of the whole tape
-  pub term-of-all : (r : TermTotalled) → Term-totals p code count start first-date last-date r → r .outcome ≡ Added
+  pub term-of-all : (r : TermTotalled) → Term-totals p code count start every-date r → r .outcome ≡ Added
       → (t : Totalled) → Totals p code count t → r .litres ≡ t .litres
   unfolding dates-good
   term-of-all r h e t g =
-      let k = cleared first-date last-date r h e in
+      let k = terms-none p code count start every-date r h e in
       let es = entries-of (root p) code count in
-      k .sums
+      added-sums every-date r h e
       ∙ ap totals (within-every (dated start es) (and-snd (is-date start) (all-dates (dated start es)) (k .dates)) ∙ dated-entries es start)
       ∙ sym (clear-litres p code count (k .clear) t g)
 
@@ -208,7 +200,7 @@ module _ (p : Pattern) (code : List ℕ) (count : ℕ) (start : Date) where
   Each-added [] [] = Unit {0}
   Each-added [] (r ∷ rs) = ⊥
   Each-added (t ∷ ts) [] = ⊥
-  Each-added (t ∷ ts) (r ∷ rs) = (Term-totals p code count start (t .0) (t .1) r) × (r .outcome ≡ Added) × Each-added ts rs
+  Each-added (t ∷ ts) (r ∷ rs) = (Term-totals p code count start t r) × (r .outcome ≡ Added) × Each-added ts rs
 
   each-over : (a : ℕ) → a < account-limit + 1 → (ts : List Term) (rs : List TermTotalled) → Each-added ts rs
       → sum-account a rs ≡ total-over a ts tape-dated
@@ -216,8 +208,8 @@ module _ (p : Pattern) (code : List ℕ) (count : ℕ) (start : Date) where
   each-over a h [] (r ∷ rs) k = absurd k
   each-over a h (t ∷ ts) [] k = absurd k
   each-over a h (t ∷ ts) (r ∷ rs) k =
-      let one = ap (λ s. getD s a 0) (cleared (t .0) (t .1) r (k .0) (k .1) .sums)
-      ∙ total-at (within (t .0) (t .1) tape-dated) a h in
+      let one = ap (λ s. getD s a 0) (added-sums t r (k .0) (k .1))
+      ∙ total-at (within t tape-dated) a h in
       let more = each-over a h ts rs (k .2) in
       omega arith
 
@@ -232,7 +224,7 @@ module _ (p : Pattern) (code : List ℕ) (count : ℕ) (start : Date) where
   whole-litres [] (r ∷ rs) k d t g = absurd k
   whole-litres (f ∷ ts) [] k d t g = absurd k
   whole-litres (f ∷ ts) (r ∷ rs) k d t g =
-      clear-litres p code count (cleared (f .0) (f .1) r (k .0) (k .1) .clear) t g
+      clear-litres p code count (terms-none p code count start f r (k .0) (k .1) .clear) t g
 
   pub terms-part : (ts : List Term) (rs : List TermTotalled) → Each-added ts rs → Part-days ts tape-dated
       → (t : Totalled) → Totals p code count t → (a : ℕ) → a < account-limit + 1 → sum-account a rs ≡ getD (t .litres) a 0

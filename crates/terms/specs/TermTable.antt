@@ -6,7 +6,7 @@ use Prim.Native.Nat.{ℕ}
 use Rattle.calendar.specs.Dates.{leap, leap-day, month-length, is-date, next-date, is-after, date-of}
 use Rattle.semantics.specs.Accounts.{litres, total}
 use Rattle.entries.specs.Entries.{Entries}
-use Rattle.terms.specs.Terms.{after-letter, dated, in-term, within, dates-good, is-term}
+use Rattle.terms.specs.Terms.{after-letter, dated, term-of, in-term, within, dates-good, is-term}
 
 -- a digit for account 1, and `D` without an account
 abbrev digit : ℕ → ℕ × ℕ
@@ -30,7 +30,7 @@ abbrev tape : Entries
 tape = digit 49 ∷ day ∷ digit 50 ∷ day ∷ digit 52 ∷ []
 
 abbrev litres-in : (start first last : ℕ) → ℕ
-litres-in s f l = total 1 (within (date-of f) (date-of l) (dated (date-of s) tape))
+litres-in s f l = total 1 (within (term-of f l) (dated (date-of s) tape))
 
 pub leap-day-term : litres-in 20240228 20240229 20240229 ∷ litres-in 20240228 20240228 20240229 ∷ litres-in 20240228 20240301 20240301
     ∷ litres-in 20240228 20000101 20991231 ∷ litres-in 20240228 20240101 20240227 ∷ litres-in 20240228 20240302 20240331 ∷ []
@@ -39,13 +39,13 @@ unfolding leap leap-day month-length is-date next-date is-after after-letter in-
 leap-day-term = refl
 
 -- a `D` belongs to the day it ends: of `1D2D4` the first day has two letters
-pub first-day : within (date-of 20240228) (date-of 20240228) (dated (date-of 20240228) tape) ≡ digit 49 ∷ day ∷ []
+pub first-day : within (term-of 20240228 20240228) (dated (date-of 20240228) tape) ≡ digit 49 ∷ day ∷ []
 unfolding leap leap-day month-length is-date next-date is-after after-letter in-term
 first-day = refl
 
 -- one day is a term; a date before 2000, a day that there is not, and a last date before the first make none
-pub terms-or-none : is-term (date-of 20240229) (date-of 20240229) ∷ is-term (date-of 19991231) (date-of 20240229)
-    ∷ is-term (date-of 20240101) (date-of 20230229) ∷ is-term (date-of 20240229) (date-of 20240228) ∷ []
+pub terms-or-none : is-term (term-of 20240229 20240229) ∷ is-term (term-of 19991231 20240229)
+    ∷ is-term (term-of 20240101 20230229) ∷ is-term (term-of 20240229 20240228) ∷ []
     ≡ true ∷ false ∷ false ∷ false ∷ []
 unfolding leap leap-day month-length is-date is-after is-term
 terms-or-none = refl

@@ -1,18 +1,21 @@
 -- Totals within a billing term: the date of each letter, the answer and the totals, for every input. Definitions only.
 use mathlib.Core.Path.{_≡_}
 use mathlib.Core.Bool.{Bool, true, _&&_, not, cond}
-use mathlib.Core.List.{List, [], _∷_}
+use mathlib.Core.List.{List, [], _∷_, _++_}
 use Prim.Native.Nat.{ℕ}
 use lib.Dec.{eqb}
 use Rattle.syntax.specs.declared.Pattern.{Pattern}
 use Rattle.syntax.specs.Trees.{root}
 use Rattle.refusals.specs.Refusals.{number, value, Answer, answer}
-use Rattle.refusals.specs.Checks.{Check-of, first-of, first-cause}
+use Rattle.refusals.specs.Checks.{Check-of, first-of, wrapped}
 use Rattle.calendar.specs.declared.Date.{Date}
-use Rattle.calendar.specs.Dates.{is-date, next-date, is-after}
+use Rattle.calendar.specs.Dates.{is-date, next-date, is-after, date-of}
 use Rattle.semantics.specs.Accounts.{totals}
 use Rattle.entries.specs.Entries.{Entries}
-use Rattle.totals.specs.Totals.{entries-of, totals-order, no-litres}
+use Rattle.entries.specs.CodeOrder.{code-order}
+use Rattle.entries.specs.Gather.{entries-of}
+use Rattle.totals.specs.Totals.{no-litres}
+use Rattle.terms.specs.declared.Term.{Term}
 use Rattle.terms.specs.declared.TermRefusal.{TermRefusal}
 use Rattle.terms.specs.declared.TermRefusal.the-variants.{Base, TapeUndated, NotATerm}
 use Rattle.terms.specs.declared.TermOutcome.{TermOutcome}
@@ -39,13 +42,17 @@ dated d [] = []
 dated d (e ∷ es) = record { entry = e; date = d } ∷ dated (after-letter (e .0) d) es
 
 -- ── the letters of a term ──
--- 02: "within a term, first and last date both included"
-unfoldable pub in-term : (first last : Date) → Date → Bool
-in-term first last d = not (is-after first d) && not (is-after d last)
+-- a term from C: its two dates as numbers
+abbrev pub term-of : (first last : ℕ) → Term
+term-of first last = record { first = date-of first; last = date-of last }
 
-abbrev pub within : (first last : Date) → List Dated → Entries
-within first last [] = []
-within first last (x ∷ xs) = cond (in-term first last (x .date)) (x .entry ∷ within first last xs) (within first last xs)
+-- 02: "within a term, first and last date both included"
+unfoldable pub in-term : Term → Date → Bool
+in-term term d = not (is-after (term .first) d) && not (is-after d (term .last))
+
+abbrev pub within : Term → List Dated → Entries
+within term [] = []
+within term (x ∷ xs) = cond (in-term term (x .date)) (x .entry ∷ within term xs) (within term xs)
 
 -- ── causes ──
 -- each letter has a date
@@ -58,8 +65,8 @@ unfoldable pub dates-good : (start : Date) → Entries → Bool
 dates-good start es = is-date start && all-dates (dated start es)
 
 -- 02 refuses "a term with a date that is no such date, or with its last before its first"
-unfoldable pub is-term : (first last : Date) → Bool
-is-term first last = (is-date first && is-date last) && not (is-after first last)
+unfoldable pub is-term : Term → Bool
+is-term term = (is-date (term .first) && is-date (term .last)) && not (is-after (term .first) (term .last))
 
 -- 02: "with 11, then [..] with 12"
 abbrev pub term-number : TermRefusal → ℕ
@@ -82,23 +89,26 @@ Term-check = Check-of TermRefusal
 abbrev pub first-term-cause : (order : List Term-check) → (success : Answer) → Answer
 first-term-cause = first-of term-refused
 
-abbrev pub dates-order : (start first last : Date) → Entries → List Term-check
-dates-order start first last es = (not (dates-good start es), TapeUndated) ∷ (not (is-term first last), NotATerm) ∷ []
+abbrev pub dates-order : (start : Date) → Term → Entries → List Term-check
+dates-order start term es = (not (dates-good start es), TapeUndated) ∷ (not (is-term term), NotATerm) ∷ []
 
-unfoldable pub dates-answer : (start first last : Date) → Entries → Answer
-dates-answer start first last es = first-term-cause (dates-order start first last es) (answer 0 0)
+unfoldable pub dates-answer : (start : Date) → Term → Entries → Answer
+dates-answer start term es = first-term-cause (dates-order start term es) (answer 0 0)
 
--- 02: "It refuses, after 2, 8 and 3, [..]": the order of totalling comes first, and where none of its causes holds, the dates
-unfoldable pub terms-answer : Pattern → (code : List ℕ) → (count : ℕ) → (start first last : Date) → Answer
-terms-answer p code count start first last =
-    first-cause (totals-order p code count) (dates-answer start first last (entries-of (root p) code count))
+-- 02: "It refuses, after 2, 8 and 3, [..]"
+abbrev pub terms-order : Pattern → (code : List ℕ) → (count : ℕ) → (start : Date) → Term → List Term-check
+terms-order p code count start term =
+    wrapped Base (code-order p code count) ++ dates-order start term (entries-of (root p) code count)
+
+unfoldable pub terms-answer : Pattern → (code : List ℕ) → (count : ℕ) → (start : Date) → Term → Answer
+terms-answer p code count start term = first-term-cause (terms-order p code count start term) (answer 0 0)
 
 -- ── litres ──
 -- 02: "Total litres by account within a term"; refused, all are 0
-unfoldable pub terms-litres : Pattern → (code : List ℕ) → (count : ℕ) → (start first last : Date) → List ℕ
-terms-litres p code count start first last =
-    cond (eqb (terms-answer p code count start first last .number) 0)
-    (totals (within first last (dated start (entries-of (root p) code count)))) no-litres
+unfoldable pub terms-litres : Pattern → (code : List ℕ) → (count : ℕ) → (start : Date) → Term → List ℕ
+terms-litres p code count start term =
+    cond (eqb (terms-answer p code count start term .number) 0)
+    (totals (within term (dated start (entries-of (root p) code count)))) no-litres
 
 abbrev pub term-outcome : TermOutcome → Answer
 term-outcome Added = answer 0 0
@@ -108,14 +118,14 @@ abbrev pub refused-term : TermRefusal → TermTotalled
 refused-term r = record { outcome = Refused r; litres = no-litres }
 
 -- THE PROMISE of totalling within a term, for every table, bytes, count and dates
-pub record Term-totals (p : Pattern) (code : List ℕ) (count : ℕ) (start first last : Date) (r : TermTotalled) : Type 0 where
-  pub answers : term-outcome (r .outcome) ≡ terms-answer p code count start first last
-  pub gives : r .litres ≡ terms-litres p code count start first last
+pub record Term-totals (p : Pattern) (code : List ℕ) (count : ℕ) (start : Date) (term : Term) (r : TermTotalled) : Type 0 where
+  pub answers : term-outcome (r .outcome) ≡ terms-answer p code count start term
+  pub gives : r .litres ≡ terms-litres p code count start term
 
 -- the same of entries that are gathered: what is left to test and to add
-unfoldable pub dates-litres : (start first last : Date) → Entries → List ℕ
-dates-litres start first last es = cond (eqb (dates-answer start first last es .number) 0) (totals (within first last (dated start es))) no-litres
+unfoldable pub dates-litres : (start : Date) → Term → Entries → List ℕ
+dates-litres start term es = cond (eqb (dates-answer start term es .number) 0) (totals (within term (dated start es))) no-litres
 
-pub record Dates-totals (start first last : Date) (es : Entries) (r : TermTotalled) : Type 0 where
-  pub answers : term-outcome (r .outcome) ≡ dates-answer start first last es
-  pub gives : r .litres ≡ dates-litres start first last es
+pub record Dates-totals (start : Date) (term : Term) (es : Entries) (r : TermTotalled) : Type 0 where
+  pub answers : term-outcome (r .outcome) ≡ dates-answer start term es
+  pub gives : r .litres ≡ dates-litres start term es

@@ -7,6 +7,7 @@ use Rattle.syntax.specs.declared.Pattern.{Pattern}
 use Rattle.refusals.specs.Refusals.{number}
 use Rattle.refusals.specs.RefusalLaws.{refused-same, number-positive, number-few}
 use Rattle.calendar.specs.declared.Date.{Date}
+use Rattle.terms.specs.declared.Term.{Term}
 use Rattle.terms.specs.declared.TermRefusal.{TermRefusal}
 use Rattle.terms.specs.declared.TermRefusal.the-variants.{Base, TapeUndated, NotATerm}
 use Rattle.terms.specs.declared.TermOutcome.{TermOutcome}
@@ -38,7 +39,7 @@ term-outcome-same Added (No-totals s) e = let z : 0 ≡ term-number s = ap (λ a
 term-outcome-same (No-totals r) Added e = let z : term-number r ≡ 0 = ap (λ a. a .number) e in absurd (omega (arith, term-number-positive r))
 term-outcome-same (No-totals r) (No-totals s) e = ap No-totals (term-refused-same r s e)
 
-module _ (p : Pattern) (code : List ℕ) (count : ℕ) (start first last : Date) where
-  pub term-totals-one : (r s : TermTotalled) → Term-totals p code count start first last r → Term-totals p code count start first last s
+module _ (p : Pattern) (code : List ℕ) (count : ℕ) (start : Date) (term : Term) where
+  pub term-totals-one : (r s : TermTotalled) → Term-totals p code count start term r → Term-totals p code count start term s
       → (r .outcome ≡ s .outcome) × (r .litres ≡ s .litres)
   term-totals-one r s f g = (term-outcome-same (r .outcome) (s .outcome) (f .answers ∙ sym (g .answers)), f .gives ∙ sym (g .gives))

@@ -4,6 +4,7 @@ ghost use Prim.Native.Nat.{_-_, _≤_};
 ghost use lib.ListN.{length, take};
 ghost use Rattle.terms.specs.Terms.{after-letter, in-term, is-term};
 ghost use Rattle.terms.specs.Days.{date-behind, day-of};
+use crate::Term;
 use calendar::Date;
 use calendar::is_after;
 use calendar::is_date;
@@ -37,25 +38,25 @@ pub(crate) fn last_date(letters: &[u8], n: usize, start: Date) -> Date
 }
 
 // Whether a date lies in a term, first and last date included.
-fn in_term(first: Date, last: Date, date: Date) -> bool
-    ensures { λ r. ⌜ r ≡ in-term first last date ⌝ }
+fn in_term(term: Term, date: Date) -> bool
+    ensures { λ r. ⌜ r ≡ in-term term date ⌝ }
 {
-    let from = !is_after(first, date);
-    let upto = !is_after(date, last);
+    let from = !is_after(term.first, date);
+    let upto = !is_after(date, term.last);
     from && upto
 }
 
-// Whether two dates are those of a term.
-pub(crate) fn is_term(first: Date, last: Date) -> bool
-    ensures { λ r. ⌜ r ≡ is-term first last ⌝ }
+// Whether there is such a term: two dates, the last one not before the first.
+pub(crate) fn is_term(term: Term) -> bool
+    ensures { λ r. ⌜ r ≡ is-term term ⌝ }
 {
-    if !is_date(first) {
+    if !is_date(term.first) {
         return false;
     }
-    if !is_date(last) {
+    if !is_date(term.last) {
         return false;
     }
-    !is_after(first, last)
+    !is_after(term.first, term.last)
 }
 
 // A date, and whether it lies in the term: asked once a day, not once a letter.
@@ -64,23 +65,23 @@ pub(crate) struct Day {
     pub inside: bool,
 }
 
-pub(crate) fn day_of(first: Date, last: Date, date: Date) -> Day
-    ensures { λ r. ⌜ r ≡ day-of first last date ⌝ }
+pub(crate) fn day_of(term: Term, date: Date) -> Day
+    ensures { λ r. ⌜ r ≡ day-of term date ⌝ }
 {
     Day {
         date,
-        inside: in_term(first, last, date),
+        inside: in_term(term, date),
     }
 }
 
 // The day behind a letter.
-pub(crate) fn next_day(first: Date, last: Date, day: Day, c: u8) -> Day
-    requires { ⌜ day ≡ day-of first last (day .date) ⌝ }
-    ensures { λ r. ⌜ r ≡ day-of first last (after-letter c (day .date)) ⌝ }
+pub(crate) fn next_day(term: Term, day: Day, c: u8) -> Day
+    requires { ⌜ day ≡ day-of term (day .date) ⌝ }
+    ensures { λ r. ⌜ r ≡ day-of term (after-letter c (day .date)) ⌝ }
 {
     if c != DAY_END {
         return day;
     }
     let date = next_date(day.date);
-    day_of(first, last, date)
+    day_of(term, date)
 }

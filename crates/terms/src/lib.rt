@@ -5,7 +5,7 @@ ghost use mathlib.Core.Path.{_≡_};
 ghost use Prim.Native.Nat.{_≤_};
 ghost use lib.ListN.{length};
 ghost use Rattle.syntax.specs.Letter.{letter-limit};
-ghost use Rattle.totals.specs.Sums.{Owned, pairs};
+ghost use Rattle.entries.specs.Gather.{pairs, Owned};
 ghost use Rattle.terms.specs.Terms.{term-number, term-value, refused-term, Dates-totals, Term-totals};
 
 mod days; // days.rt: the dates of letters, and which of them lie in a term
@@ -15,13 +15,19 @@ use calendar::Date;
 use calendar::is_date;
 use days::is_term;
 use days::last_date;
+use entries::Gathered;
+use entries::gather;
 use refusals::Refusal;
 use refusals::number_of;
 use refusals::value_of;
 use sums::add_term;
 use syntax::Pattern;
-use totals::Gathered;
-use totals::gather;
+
+// A billing term: its first and its last day, both included. Any two dates, of which `is_term` says whether they are those of a term.
+pub struct Term {
+    pub first: Date,
+    pub last: Date,
+}
 
 // Why totalling within a term refuses: as totalling does, or for its dates.
 pub enum TermRefusal {
@@ -74,47 +80,33 @@ fn no_term_totals(why: TermRefusal) -> TermTotalled
 }
 
 // The totals of the first n entries within a term, once their dates and the term's are tested.
-fn total_dates(
-    letters: &[u8],
-    accounts: &[u8],
-    n: usize,
-    start: Date,
-    first: Date,
-    last: Date,
-) -> TermTotalled
+fn total_dates(letters: &[u8], accounts: &[u8], n: usize, start: Date, term: Term) -> TermTotalled
     requires { ⌜ (n ≤ length (now letters)) × (n ≤ letter-limit) × Owned (now accounts) n ⌝ }
-    ensures { λ r. ⌜ Dates-totals start first last (pairs n (now (letters .entry)) (now (accounts .entry))) r ⌝ }
+    ensures { λ r. ⌜ Dates-totals start term (pairs n (now (letters .entry)) (now (accounts .entry))) r ⌝ }
 {
     let dates = is_date(last_date(letters, n, start));
-    let term = is_term(first, last);
+    let known = is_term(term);
     if !dates {
         return no_term_totals(TermRefusal::TapeUndated);
     }
-    if !term {
+    if !known {
         return no_term_totals(TermRefusal::NotATerm);
     }
     TermTotalled {
         outcome: TermOutcome::Added,
-        litres: add_term(letters, accounts, n, start, first, last),
+        litres: add_term(letters, accounts, n, start, term),
     }
 }
 
 // Litres by account within a term, of a tape whose first letter has the date `start`.
-pub fn term_totals(
-    p: Pattern,
-    code: &[u8],
-    count: u32,
-    start: Date,
-    first: Date,
-    last: Date,
-) -> TermTotalled
-    ensures { λ r. ⌜ Term-totals p (now (code .entry)) count start first last r ⌝ }
+pub fn term_totals(p: Pattern, code: &[u8], count: u32, start: Date, term: Term) -> TermTotalled
+    ensures { λ r. ⌜ Term-totals p (now (code .entry)) count start term r ⌝ }
 {
     let mut letters = [0u8; Pattern::MAX_LETTERS];
     let mut accounts = [0u8; Pattern::MAX_LETTERS];
     let gathered = gather(p, code, count, &mut letters, &mut accounts);
     match gathered {
         Gathered::Refused(why) => no_term_totals(TermRefusal::Base(why)),
-        Gathered::Entries(n) => total_dates(&letters, &accounts, n, start, first, last),
+        Gathered::Entries(n) => total_dates(&letters, &accounts, n, start, term),
     }
 }

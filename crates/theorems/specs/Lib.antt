@@ -6,6 +6,12 @@ pub mod Passed
 -- What reading answers and leaves, handed on to the other services; for tables and for the calls from C.
 pub mod RoundTrip
 pub mod RoundTripText
+-- Where a tape breaks that reading refuses with 5.
+pub mod Located
+-- Letters on a desk with which no tape ends.
+pub mod DeskEnds
+-- Where a call for totals answers 0, no litre is lost.
+pub mod CellDigits
 -- What a text of 01's accounts still gives.
 pub mod OldTexts
 -- The third demand for pattern texts and the call from C.
@@ -33,11 +39,21 @@ pub mod Paper03Fields
 pub mod Paper03Load
 pub mod Paper03Tree
 pub mod Paper03Refusals
--- So 03's statements hold as they stand there, and its contract of spelling is met.
+-- 03's marks, by its followers and steps with fuel, are the words that reading promises.
+pub mod Paper03Marks
+pub mod Paper03Places
+pub mod Paper03MarksSame
+-- So 03's statements hold as they stand there, and its contracts of spelling, reading and settling are met.
 pub mod Paper03Promise
 pub mod Paper03Promised
 pub mod Paper03Entry
 pub mod Paper03Spell
+pub mod Paper03Reading
+pub mod Paper03Settle
 -- Where a text has none of these three they are 03's as 03 has them.
 pub mod Paper03Plain
 pub mod Paper03PlainLaws
+pub mod Paper03PlainMarks
+pub mod Paper03PlainMarksLaws
+pub mod Paper03PlainEntry
+pub mod Paper03PlainEntryLaws

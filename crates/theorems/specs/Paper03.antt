@@ -67,7 +67,7 @@ tape-good cs = leb (length cs) 3600 && letters-good cs
 unfoldable pub choices : Pattern → ℕ
 choices p = count-below (p .count) (λ l. is-choice (node-at p l))
 
--- 03: "two words for each place: flag 0, then flag 1"
+-- 03: "two words for each place: flag 0, then flag 1". Of a tape of letters 03's own, with fuel, are these: Paper03MarksSame, `marks-same`.
 abbrev pub marks : Pattern → (tape : List ℕ) → List ℕ
 marks p cs = words p cs
 

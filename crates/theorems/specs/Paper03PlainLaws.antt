@@ -61,7 +61,7 @@ unfoldable pub no-lazy : List Node → Bool
 no-lazy [] = true
 no-lazy (x ∷ xs) = not (eqb (x .kind) 6) && no-lazy xs
 
-or-false : (b : Bool) → (b || false) ≡ b
+pub or-false : (b : Bool) → (b || false) ≡ b
 or-false true = refl
 or-false false = refl
 
@@ -402,11 +402,11 @@ unfolding parts plain.parts
 parts-same x h = rw (not-true (eqb (x .kind) 6) h, or-false (eqb (x .kind) 5)) refl
 
 module _ (x : Node) (t : List Node) (h : no-lazy (x ∷ t) ≡ true) where
-  first-plain : not (eqb (x .kind) 6) ≡ true
+  pub first-plain : not (eqb (x .kind) 6) ≡ true
   unfolding no-lazy
   first-plain = and-fst (not (eqb (x .kind) 6)) (no-lazy t) h
 
-  rest-plain : no-lazy t ≡ true
+  pub rest-plain : no-lazy t ≡ true
   unfolding no-lazy
   rest-plain = and-snd (not (eqb (x .kind) 6)) (no-lazy t) h
 
@@ -441,7 +441,7 @@ load-same text h cold few = rw (forms-same 0 (lines text) h cold few) (go (eqb (
         ap (λ s. cond (eqb (length (lines text)) 0) (refusal 1 0) s)
         (tree-same (nodes-in (lines text)) (r .kept) ∙ ap plain.tree-refusal (r .nodes))
 
-accepted : (text : List ℕ) → plain.load-refusal text .number ≡ 0 → Plain-lines (lines text)
+pub accepted : (text : List ℕ) → plain.load-refusal text .number ≡ 0 → Plain-lines (lines text)
 unfolding plain.load-refusal or-else refusal
 accepted text h = go (eqb (length (lines text)) 0) (eqb (plain.forms-from 0 (lines text) .number) 0) refl h
   where
@@ -540,11 +540,11 @@ unfoldable pub no-hot : List ℕ → Bool
 no-hot [] = true
 no-hot (c ∷ cs) = not (leb 161 c && leb c 254) && no-hot cs
 
-byte-same : (c : ℕ) → (leb 161 c && leb c 254) ≡ false → letter-byte c ≡ (leb 33 c && leb c 126)
+pub byte-same : (c : ℕ) → (leb 161 c && leb c 254) ≡ false → letter-byte c ≡ (leb 33 c && leb c 126)
 unfolding letter-byte
 byte-same c h = rw h (or-false (leb 33 c && leb c 126))
 
-letters-same : (cs : List ℕ) → no-hot cs ≡ true → letters-good cs ≡ plain.letters-good cs
+pub letters-same : (cs : List ℕ) → no-hot cs ≡ true → letters-good cs ≡ plain.letters-good cs
 unfolding no-hot letters-good plain.letters-good
 letters-same [] h = refl
 letters-same (c ∷ cs) h =

@@ -27,7 +27,7 @@ use Rattle.theorems.specs.Paper03Load.{formed}
 use Rattle.theorems.specs.Paper03Same.{Lists}
 
 -- ── parts and names ──
-parts-same : (c : ℕ) (n : Own-node) → parts-03 (node-as c n) ≡ parts n
+pub parts-same : (c : ℕ) (n : Own-node) → parts-03 (node-as c n) ≡ parts n
 unfolding parts-03
 parts-same c (Leaf-node Nothing) = refl
 parts-same c (Leaf-node (Letter x)) = refl
@@ -37,7 +37,7 @@ parts-same c (Alternative x y) = refl
 parts-same c (Star false x) = refl
 parts-same c (Star true x) = refl
 
-member-same : (v : ℕ) (xs : List ℕ) → member-03 v xs ≡ member v xs
+pub member-same : (v : ℕ) (xs : List ℕ) → member-03 v xs ≡ member v xs
 unfolding member-03
 member-same v [] = refl
 member-same v (x ∷ xs) = ap (λ b. eqb x v || b) (member-same v xs)

@@ -11,6 +11,7 @@ use lib.ListN.{length}
 use Rattle.syntax.specs.declared.Pattern.{Pattern}
 use Rattle.refusals.specs.declared.Refusal.the-variants.{NoSuchVisit}
 use Rattle.refusals.specs.Refusals.{Answer, answer, refused}
+use Rattle.refusals.specs.CheckLaws.{clear-success}
 use Rattle.syntax.specs.Letter.{first-bad, letter-limit}
 use Rattle.syntax.specs.Table.{obeys}
 use Rattle.syntax.specs.Trees.{root}
@@ -18,8 +19,11 @@ use Rattle.bits.specs.Bits.{in-front}
 use Rattle.semantics.specs.Accounts.{totals}
 use Rattle.semantics.specs.Visits.{Visit}
 use Rattle.walks.specs.Whole.{whole-code, letters-of}
-use Rattle.codes.specs.Flatten.{flatten-answer, flatten-tape}
-use Rattle.totals.specs.Totals.{entries-of, no-litres, totals-answer, totals-litres}
+use Rattle.codes.specs.Flatten.{flatten-order, flatten-answer, flatten-tape}
+use Rattle.codes.specs.FlattenLaws.{flatten-clear}
+use Rattle.entries.specs.CodeOrder.{code-order, Sound, sound-clear}
+use Rattle.entries.specs.Gather.{entries-of}
+use Rattle.totals.specs.Totals.{no-litres, totals-answer, totals-litres}
 use Rattle.codes.specs.Spells.{same, code-of-tape}
 use Rattle.spans.specs.Spans.{span-visit, span-answer, span-shown}
 
@@ -37,16 +41,14 @@ module _ (p : Pattern) (code : List ℕ) (count : ℕ) (good : obeys p ≡ true)
   abbrev own : List ℕ
   own = letters-of (root p) code count
 
+  sound : Sound p code count
+  sound = record { good = good; whole = whole; few = few }
+
   module _ (tape : List ℕ) (room : length (letters-of (root p) code count) ≤ length tape) where
     pub flatten-answers : flatten-answer p code count (length tape) ≡ answer 0 (length (letters-of (root p) code count))
     unfolding flatten-answer
     flatten-answers =
-        simp (
-          good,
-          whole,
-          le-ltb letter-limit (length own) few,
-          le-ltb (length tape) (length own) room,
-        )
+        clear-success (flatten-order p code count (length tape)) (answer 0 (length own)) (flatten-clear p code count sound (length tape) room)
 
     pub flatten-writes : flatten-tape p code count tape ≡ in-front (letters-of (root p) code count) tape
     unfolding flatten-tape
@@ -54,7 +56,7 @@ module _ (p : Pattern) (code : List ℕ) (count : ℕ) (good : obeys p ≡ true)
 
   pub totals-answers : totals-answer p code count ≡ answer 0 0
   unfolding totals-answer
-  totals-answers = simp (good, whole, le-ltb letter-limit (length own) few)
+  totals-answers = clear-success (code-order p code count) (answer 0 0) (sound-clear p code count sound)
 
   pub totals-adds : totals-litres p code count ≡ totals (entries-of (root p) code count)
   unfolding totals-litres

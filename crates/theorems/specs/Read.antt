@@ -2,6 +2,7 @@
 -- its greedy code. From the public laws of reading alone, not from how its checks are put down.
 use mathlib.Core.Path.{_≡_, refl, sym, ap, subst, _∙_}
 use mathlib.Core.Bool.{Bool, true, false}
+use mathlib.Core.Logic.{_⊎_, inl, inr}
 use mathlib.Core.List.{List}
 use Prim.Native.Nat.{ℕ, _+_, _*_, _-_, _≤_, _<_}
 use native.Mathlib.Omega.{arith}
@@ -9,9 +10,13 @@ use native.Mathlib.Decide.{decLe}
 use lib.ListN.{length, getD}
 use Rattle.syntax.specs.declared.Pattern.{Pattern}
 use Rattle.refusals.specs.declared.Refusal.{Refusal}
-use Rattle.refusals.specs.declared.Refusal.the-variants.{Tree as Tree-fault, TapeTooLong, TapeByte, Unreadable, WordsTooShort, CodeTooShort}
+use Rattle.refusals.specs.declared.Refusal.the-variants.{Unreadable, WordsTooShort, CodeTooShort}
 use Rattle.refusals.specs.Refusals.{number}
 use Rattle.refusals.specs.RefusalLaws.{number-positive}
+use Rattle.refusals.specs.Checks.{First, Clear}
+use Rattle.refusals.specs.CheckLaws.{which-first}
+use Rattle.checks.specs.TapeOrder.{tape-order}
+use Rattle.checks.specs.TapeLaws.{Is-taken, clear-taken}
 use Rattle.syntax.specs.Letter.{first-bad, letter-limit}
 use Rattle.syntax.specs.Table.{obeys}
 use Rattle.syntax.specs.Trees.{root}
@@ -25,7 +30,7 @@ use Rattle.parser.specs.Parse.{parsed-answer, Parses}
 use Rattle.parser.specs.Writing.{Writes}
 use Rattle.parser.specs.ParseLaws.{filled-at, Tested, first-swept, parse-unreadable, parse-done}
 use Rattle.parser.specs.MarkLaws.{marks-value}
-use Rattle.parser.specs.Orders.{only-2, only-3, only-4, only-6}
+use Rattle.parser.specs.Orders.{only-tape, only-6}
 use Rattle.parser.specs.Unique.{parses-one}
 
 pub record Read (p : Pattern) (tape ws us xs ys : List ℕ) (n : ℕ) : Type 0 where
@@ -103,22 +108,13 @@ module _ (p : Pattern) (tape ws : List ℕ) where
 
     -- the tests, in 01's order: whatever fails is answered
     pub read : Read p tape ws us xs ys n
-    read = obeyed (obeys p) refl
+    read = go (which-first (tape-order p tape))
       where
-        roomy : obeys p ≡ true → length tape ≤ letter-limit → length tape ≤ first-bad tape → Dec (2 * (length tape + 1) ≤ length ws)
-            → Read p tape ws us xs ys n
-        roomy o f g (yes r) = swept (record { good = o; few = f; letters = g; room = r }) root-bit refl
-        roomy o f g (no r) =
-            absurd (not-refused n (WordsTooShort (2 * (length tape + 1))) (only-6 p tape ws us xs ys (Bits n) h o f g (omega arith) .0))
+        roomy : Is-taken p tape → Dec (2 * (length tape + 1) ≤ length ws) → Read p tape ws us xs ys n
+        roomy t (yes r) = swept (record { good = t .good; few = t .few; letters = t .letters; room = r }) root-bit refl
+        roomy t (no r) =
+            absurd (not-refused n (WordsTooShort (2 * (length tape + 1))) (only-6 p tape ws us xs ys (Bits n) h t (omega arith) .0))
 
-        lettered : obeys p ≡ true → length tape ≤ letter-limit → Dec (length tape ≤ first-bad tape) → Read p tape ws us xs ys n
-        lettered o f (yes g) = roomy o f g (decLe (2 * (length tape + 1)) (length ws))
-        lettered o f (no g) = absurd (not-refused n (TapeByte (first-bad tape)) (only-4 p tape ws us xs ys (Bits n) h o f (omega arith) .0))
-
-        short : obeys p ≡ true → Dec (length tape ≤ letter-limit) → Read p tape ws us xs ys n
-        short o (yes f) = lettered o f (decLe (length tape) (first-bad tape))
-        short o (no f) = absurd (not-refused n TapeTooLong (only-3 p tape ws us xs ys (Bits n) h o (omega arith) .0))
-
-        obeyed : (b : Bool) → obeys p ≡ b → Read p tape ws us xs ys n
-        obeyed true o = short o (decLe (length tape) letter-limit)
-        obeyed false o = absurd (not-refused n (Tree-fault 0) (only-2 p tape ws us xs ys (Bits n) h o .0))
+        go : Clear (tape-order p tape) ⊎ ((why : Refusal) × First why (tape-order p tape)) → Read p tape ws us xs ys n
+        go (inl c) = roomy (clear-taken p tape c) (decLe (2 * (length tape + 1)) (length ws))
+        go (inr (why, f)) = absurd (not-refused n why (only-tape p tape ws us xs ys (Bits n) h why f .0))

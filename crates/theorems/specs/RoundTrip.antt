@@ -33,7 +33,8 @@ use Rattle.totals.specs.declared.Totalled.{Totalled}
 use Rattle.totals.specs.declared.TotalsOutcome.{TotalsOutcome}
 use Rattle.totals.specs.declared.TotalsOutcome.the-variants.{Added, Refused as Not-added}
 use Rattle.codes.specs.Flatten.{flattened-answer, Flattens}
-use Rattle.totals.specs.Totals.{entries-by, entries-of, totals-outcome, Totals}
+use Rattle.entries.specs.Gather.{entries-by, entries-of}
+use Rattle.totals.specs.Totals.{totals-outcome, Totals}
 use Rattle.spans.specs.declared.Spanned.{Spanned}
 use Rattle.spans.specs.Spans.{visit-by, span-visit, span-answer, start-of, size-of, span-shown, span-outcome, Spans}
 use Rattle.parser.specs.declared.Parsed.the-variants.{Bits as Parsed-bits}

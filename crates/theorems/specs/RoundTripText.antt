@@ -18,7 +18,9 @@ use Rattle.parser.specs.declared.Parsed.{Parsed}
 use Rattle.parser.specs.declared.Parsed.the-variants.{Bits, Refused}
 use Rattle.parser.specs.Parse.{parsed-answer, Parses}
 use Rattle.canonical.specs.Canonicalize.{canonicalized-answer}
-use Rattle.packing.specs.Packing.{unpacked, in-cells}
+use Rattle.packing.specs.Packing.{unpacked}
+use Rattle.packing.specs.Cells.{Gives}
+use Rattle.packing.specs.CellsLaws.{given-same}
 use Rattle.wumbyra.specs.Packed.{Parses-text, Flattens-text, Canonicalizes-text, shown-answer, span-text, total-text, Totals-text}
 use Rattle.wumbyra.specs.Unique.{unpacked-same}
 use Rattle.theorems.specs.Passed.{visit-answer}
@@ -53,10 +55,10 @@ module _ (text tape ws us xs ys : List ℕ) (r n : ℕ) (h : Parses-text text ta
   -- totals and pieces are those of the greedy value
   module _ (v : Value (root (load-table text))) (g : Greedy (root (load-table text)) tape v) where
     pub text-totals : (cells after : List ℕ) (s : ℕ) → Totals-text text (written n ys) n cells after s
-        → (unpacked s ≡ answer 0 0) × (after ≡ in-cells (totals (accounts (root (load-table text)) v)) cells)
+        → Gives (answer 0 0) (totals (accounts (root (load-table text)) v)) cells after s
     text-totals cells after s t =
         let b = totals-greedy (load-table text) tape ws us xs ys n parsed-text v g in
-        (t .answers ∙ sym (b .answers), t .leaves ∙ ap (λ ls. in-cells ls cells) (sym (b .gives)))
+        given-same (sym (b .answers)) (sym (b .gives)) t
 
     pub text-total : (a : ℕ) → total-text text (written n ys) n a ≡ answer 0 (getD (totals (accounts (root (load-table text)) v)) a 0)
     unfolding total-text

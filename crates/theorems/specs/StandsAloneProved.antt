@@ -54,13 +54,13 @@ module _ (q : Pattern) (good : obeys q ≡ true) (w : List ℕ) (few : length w 
   pub canonical-code : Has-code q w bs
   canonical-code = record {
     read = λ words words-now code code-now r h wide long.
-        let f = h .reads (tested-zero {ws = words} (record { good = good; few = few; letters = letters; room = wide })) .fits bs c long in
+        let f = h .reads (tested-zero {ws = words} (record { good = good; few = few; letters = letters; room = wide })) .1 .fits bs c long in
         (parsed-same r (Bits (length bs)) (f .0), f .1);
     settled = λ x e y.
         let d : Canonical (root q) (spells x) bs = subst (λ z. Canonical (root q) z bs) (sym e) c in
         let s = settles q (x .bytes) (x .count) (y .tape) (y .tape-now) (y .words) (y .words-now) (y .out) (y .out-now) (y .result) (y .kept) good
         (x .is .whole) (x .few) (y .tape-room) (y .word-room) in
-        let f = s .2 .fits bs d (y .code-room bs d) in
+        let f = s .2 .1 .fits bs d (y .code-room bs d) in
         (canonicalized-same (y .result) (Settled-bits (length bs)) (f .0), f .1);
   }
 

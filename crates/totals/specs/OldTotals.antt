@@ -7,7 +7,7 @@ use Prim.Native.Nat.{ℕ, _+_, _-_, _≤_, _<_}
 use native.Mathlib.Omega.{arith}
 use lib.Dec.{eqb}
 use lib.ListN.{replicate, replicate-append-replicate}
-use borrow.Author.Tests.{eqb-true, not-false}
+use borrow.Author.Tests.{eqb-true}
 use Rattle.syntax.specs.declared.Pattern.{Pattern}
 use Rattle.syntax.specs.Table.{obeys, line-at, account-limit, one-digit-limit}
 use Rattle.syntax.specs.Trees.{root}
@@ -16,9 +16,11 @@ use Rattle.refusals.specs.CheckLaws.{zero-clear}
 use Rattle.semantics.specs.Accounts.{totals-to, totals}
 use Rattle.semantics.specs.AccountLaws.{Accounts, totals-old}
 use Rattle.semantics.specs.VisitLaws.{All}
+use Rattle.entries.specs.CodeOrder.{code-order, clear-sound}
+use Rattle.entries.specs.Gather.{entries-of}
+use Rattle.entries.specs.EntryAccounts.{root-below, entries-few}
 use Rattle.totals.specs.declared.Totalled.{Totalled}
-use Rattle.totals.specs.Totals.{entries-of, totals-order, totals-answer, totals-litres, no-litres, Totals}
-use Rattle.totals.specs.TotalsLaws.{root-below, entries-few}
+use Rattle.totals.specs.Totals.{totals-answer, totals-litres, no-litres, Totals}
 
 -- each line of the table has an account of 01, or none
 abbrev pub Old-accounts : Pattern → Type 0
@@ -51,8 +53,8 @@ pub litres-old : (p : Pattern) (code : List ℕ) (count : ℕ) → Old-accounts 
 unfolding totals-answer totals-litres old-litres
 litres-old p code count h =
     old-or-none (eqb (totals-answer p code count .number) 0) (entries-of (root p) code count)
-    (λ e. let c = zero-clear (totals-order p code count) (answer 0 0) (eqb-true (totals-answer p code count .number) 0 e) in
-    old-entries p (not-false (obeys p) (c .0)) h code count)
+    (λ e. let c = zero-clear (code-order p code count) (answer 0 0) (eqb-true (totals-answer p code count .number) 0 e) in
+    old-entries p (clear-sound p code count c .good) h code count)
 
 pub totals-old-accounts : (p : Pattern) (code : List ℕ) (count : ℕ) → Old-accounts p → (r : Totalled) → Totals p code count r
     → r .litres ≡ old-litres p code count ++ new-accounts

@@ -2,58 +2,21 @@
 use mathlib.Core.Path.{_≡_, refl, sym, ap, _∙_}
 use mathlib.Core.Bool.{Bool, true, false, cond}
 use mathlib.Core.List.{List, [], _∷_, _++_}
-use Prim.Native.Nat.{ℕ, zero, suc, _+_, _*_, _≤_, _<_}
+use Prim.Native.Nat.{ℕ, suc, _+_, _*_, _≤_, _<_}
 use native.Mathlib.Omega.{arith}
 use native.Mathlib.Nat.{add-zero, zero-add}
 use lib.Dec.{eqb}
 use borrow.Author.Tests.{eqb-true, eqb-false}
-use lib.ListN.{length, length-append, getD, set, replicate, length-set, length-replicate, getD-replicate}
+use lib.ListN.{length, getD, set, replicate, length-set, length-replicate, getD-replicate}
 use lib.Seq.{getD-set-same, getD-set-other, ext-getD}
 use Rattle.syntax.specs.Letter.{letter-limit}
 use Rattle.syntax.specs.Table.{account-limit}
 use Rattle.semantics.specs.Accounts.{litres, total, totals-to, totals}
-use Rattle.semantics.specs.AccountLaws.{letters, litres-small, total-small, getD-totals, totals-length}
-use Rattle.semantics.specs.VisitLaws.{All}
-use Rattle.entries.specs.Entries.{Entries, accounts-in}
-use Rattle.entries.specs.WholeLaws.{length-accounts}
+use Rattle.semantics.specs.AccountLaws.{litres-small, total-small, getD-totals, totals-length}
+use Rattle.entries.specs.Entries.{Entries}
+use Rattle.entries.specs.Gather.{pairs}
+use Rattle.entries.specs.Pairs.{pairs-length, pairs-next}
 use Rattle.totals.specs.Totals.{no-litres}
-
--- ── the entries in front of two arrays ──
-abbrev pub pairs : (n : ℕ) → (letters accounts : List ℕ) → Entries
-pairs zero xs ys = []
-pairs (suc n) [] ys = []
-pairs (suc n) (x ∷ xs) [] = []
-pairs (suc n) (x ∷ xs) (y ∷ ys) = (x, y) ∷ pairs n xs ys
-
--- each of them has an account
-pub record Owned (accounts : List ℕ) (n : ℕ) : Type 0 where
-  pub wide : n ≤ length accounts
-  pub own : (i : ℕ) → i < n → getD accounts i 0 ≤ account-limit
-
-pub pairs-entries : (es : Entries) (xs ys : List ℕ) → pairs (length es) (letters es ++ xs) (accounts-in es ++ ys) ≡ es
-pairs-entries [] xs ys = refl
-pairs-entries (e ∷ es) xs ys = ap (λ fs. (e .0, e .1) ∷ fs) (pairs-entries es xs ys)
-
-pub pairs-length : (n : ℕ) (xs ys : List ℕ) → length (pairs n xs ys) ≤ n
-pairs-length zero xs ys = omega arith
-pairs-length (suc n) [] ys = omega arith
-pairs-length (suc n) (x ∷ xs) [] = omega arith
-pairs-length (suc n) (x ∷ xs) (y ∷ ys) = omega (arith, pairs-length n xs ys)
-
-pub pairs-next : (n : ℕ) (xs ys : List ℕ) → n < length xs → n < length ys → pairs (suc n) xs ys ≡ pairs n xs ys ++ ((getD xs n 0, getD ys n 0) ∷ [])
-pairs-next n [] ys h k = absurd (omega arith)
-pairs-next n (x ∷ xs) [] h k = absurd (omega arith)
-pairs-next zero (x ∷ xs) (y ∷ ys) h k = refl
-pairs-next (suc n) (x ∷ xs) (y ∷ ys) h k = ap (λ fs. (x, y) ∷ fs) (pairs-next n xs ys (omega arith) (omega arith))
-
-entries-own : (es : Entries) (ys : List ℕ) → All (λ e. e .1 < account-limit + 1) es → (i : ℕ) → i < length es → getD (accounts-in es ++ ys) i 0 ≤ account-limit
-entries-own [] ys h i k = absurd (omega arith)
-entries-own (e ∷ es) ys h zero k = omega (arith, h .0)
-entries-own (e ∷ es) ys h (suc i) k = entries-own es ys (h .1) i (omega arith)
-
-pub entries-owned : (es : Entries) (ys : List ℕ) → All (λ e. e .1 < account-limit + 1) es → (n : ℕ) → n ≡ length es → Owned (accounts-in es ++ ys) n
-entries-owned es ys h n e =
-    record { wide = omega (arith, length-append (accounts-in es) ys, length-accounts es); own = λ i k. entries-own es ys h i (omega arith) }
 
 -- ── adding ──
 unfoldable pub charge-one : (sums : List ℕ) → (account c : ℕ) → List ℕ

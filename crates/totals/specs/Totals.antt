@@ -1,47 +1,26 @@
 -- Totalling litres: the answer and the totals, for every input. Definitions only.
 use mathlib.Core.Path.{_≡_}
-use mathlib.Core.Bool.{not, cond}
-use mathlib.Core.Option.{Option, none, some}
-use mathlib.Core.List.{List, [], _∷_}
+use mathlib.Core.Bool.{cond}
+use mathlib.Core.List.{List}
 use Prim.Native.Nat.{ℕ, _+_}
-use lib.Dec.{eqb, ltb}
-use lib.ListN.{length, replicate}
+use lib.Dec.{eqb}
+use lib.ListN.{replicate}
 use Rattle.syntax.specs.declared.Pattern.{Pattern}
 use Rattle.refusals.specs.declared.Refusal.{Refusal}
-use Rattle.refusals.specs.declared.Refusal.the-variants.{Tree as Tree-fault, TapeTooLong, NotACode}
-use Rattle.syntax.specs.Letter.{letter-limit}
-use Rattle.syntax.specs.Tree.{Tree}
 use Rattle.syntax.specs.Trees.{root}
-use Rattle.syntax.specs.Table.{obeys, account-limit}
+use Rattle.syntax.specs.Table.{account-limit}
 use Rattle.refusals.specs.Refusals.{Answer, answer, refused}
-use Rattle.refusals.specs.Checks.{Check, first-cause}
-use Rattle.bits.specs.Bits.{held}
-use Rattle.semantics.specs.Value.{Value}
-use Rattle.semantics.specs.Accounts.{accounts, totals}
-use Rattle.semantics.specs.Decode.{value-of}
+use Rattle.refusals.specs.Checks.{first-cause}
+use Rattle.semantics.specs.Accounts.{totals}
+use Rattle.entries.specs.CodeOrder.{code-order}
+use Rattle.entries.specs.Gather.{entries-of}
 use Rattle.totals.specs.declared.TotalsOutcome.{TotalsOutcome}
 use Rattle.totals.specs.declared.TotalsOutcome.the-variants.{Added, Refused}
 use Rattle.totals.specs.declared.Totalled.{Totalled}
-use Rattle.walks.specs.Whole.{whole-code, letters-of}
-
--- each letter with its account; the totals are a fold over this list, and other folds over it may follow
-abbrev pub entries-by : (t : Tree) → Option (Value t) → List (ℕ × ℕ)
-entries-by t none = []
-entries-by t (some v) = accounts t v
-
-unfoldable pub entries-of : (t : Tree) → (code : List ℕ) → (count : ℕ) → List (ℕ × ℕ)
-entries-of t code count = entries-by t (value-of t (held 8 code count))
 
 -- 01: "Totalling litres: 2, 8, 3."
-abbrev pub totals-order : Pattern → (code : List ℕ) → (count : ℕ) → List Check
-totals-order p code count =
-    (not (obeys p), Tree-fault 0)
-    ∷ (not (whole-code (root p) code count), NotACode)
-    ∷ (ltb letter-limit (length (letters-of (root p) code count)), TapeTooLong)
-    ∷ []
-
 unfoldable pub totals-answer : Pattern → (code : List ℕ) → (count : ℕ) → Answer
-totals-answer p code count = first-cause (totals-order p code count) (answer 0 0)
+totals-answer p code count = first-cause (code-order p code count) (answer 0 0)
 
 abbrev pub no-litres : List ℕ
 no-litres = replicate (account-limit + 1) 0

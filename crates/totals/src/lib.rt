@@ -1,19 +1,52 @@
-// Litres by account. A code is walked once, into cells of its own, and nothing is added before the whole code is tested. The walk is a function
-// of its own, `gather`, since totals within a term begin with it too.
+// Litres by account. The entries of the code are gathered into arrays of the service's own, and nothing is added before the whole code is tested.
 ghost use mathlib.Core.Path.{_≡_};
-ghost use lib.ListN.{length};
+ghost use Prim.Native.Nat.{_+_, _*_, _≤_, _<_};
+ghost use lib.ListN.{length, getD};
 ghost use Rattle.syntax.specs.Letter.{letter-limit};
+ghost use Rattle.semantics.specs.Accounts.{litres, totals};
+ghost use Rattle.entries.specs.Gather.{pairs, Owned};
+ghost use Rattle.totals.specs.Sums.{charge-one};
 ghost use Rattle.totals.specs.Totals.{Totals, refused-totals};
-ghost use Rattle.totals.specs.Gather.{Gathers};
-
-pub mod sums; // sums.rt: adding up entries
-
-use entries::enter;
+use entries::Gathered;
+use entries::gather;
 use refusals::Refusal;
-use sums::add_up;
 use syntax::Pattern;
-use syntax::obeys_rules;
-use table::table_of;
+
+fn litres_of(c: u8) -> u32
+    ensures { λ r. ⌜ r ≡ litres c ⌝ }
+{
+    if c < b'0' {
+        return 0;
+    }
+    if b'9' < c {
+        return 0;
+    }
+    (c - b'0') as u32
+}
+
+// Adds a letter's litres to the sum of its account. No sum passes nine litres a letter.
+pub fn charge_letter(sums: &mut [u32], account: u8, c: u8)
+    requires { ⌜ (account < length (now sums)) × (getD (now sums) account 0 + litres c ≤ 9 * letter-limit) ⌝ }
+    ensures { λ _. ⌜ now (sums .exit) ≡ charge-one (now (sums .entry)) account c ⌝ }
+{
+    let a = account as usize;
+    let litres = litres_of(c);
+    sums[a] = sums[a] + litres;
+}
+
+// The totals of the first n entries.
+fn add_up(letters: &[u8], accounts: &[u8], n: usize) -> [u32; Pattern::ACCOUNTS]
+    requires { ⌜ (n ≤ length (now letters)) × (n ≤ letter-limit) × Owned (now accounts) n ⌝ }
+    ensures { λ r. ⌜ r ≡ totals (pairs n (now (letters .entry)) (now (accounts .entry))) ⌝ }
+{
+    let mut sums: [u32; Pattern::ACCOUNTS] = [0; Pattern::ACCOUNTS];
+    let mut i = 0;
+    while i < n {
+        charge_letter(&mut sums, accounts[i], letters[i]);
+        i += 1;
+    }
+    sums
+}
 
 // What totalling answers: that the litres are added up, or why not.
 pub enum TotalsOutcome {
@@ -34,40 +67,6 @@ fn no_totals(why: Refusal) -> Totalled
         outcome: TotalsOutcome::Refused(why),
         litres: [0; Pattern::ACCOUNTS],
     }
-}
-
-// What gathering a code's entries answers: how many there are, or why there are none.
-pub enum Gathered {
-    Entries(usize),
-    Refused(Refusal),
-}
-
-// Tests the table and the code, and lays the code's letters in front of one buffer and their accounts in front of another. Refused, the
-// buffers hold anything. It is no service: services lend it arrays of their own, which are long enough for any tape.
-pub fn gather(
-    p: Pattern,
-    code: &[u8],
-    count: u32,
-    letters: &mut [u8],
-    accounts: &mut [u8],
-) -> Gathered
-    requires { ⌜ (length (now letters) ≡ letter-limit) × (length (now accounts) ≡ letter-limit) ⌝ }
-    ensures { λ r. ⌜ Gathers p (now (code .entry)) count (now (letters .exit)) (now (accounts .exit)) r ⌝ }
-{
-    if !obeys_rules(p) {
-        return Gathered::Refused(Refusal::Tree(0));
-    }
-    let table = table_of(p);
-    let root = p.count - 1;
-    let measured = enter(&table, root, code, count, letters, accounts);
-    if !measured.whole {
-        return Gathered::Refused(Refusal::NotACode);
-    }
-    let n = measured.letters as usize;
-    if Pattern::MAX_LETTERS < n {
-        return Gathered::Refused(Refusal::TapeTooLong);
-    }
-    Gathered::Entries(n)
 }
 
 // Litres by account. The whole code is walked before anything is added.

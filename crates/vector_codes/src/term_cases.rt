@@ -8,6 +8,7 @@ ghost use Rattle.vector_codes.specs.Answers.{answer-text, date-read, beh
 use crate::code_cases::put_totals;
 use calendar::Date;
 use syntax::Pattern;
+use terms::Term;
 use terms::TermOutcome;
 use terms::TermRefusal;
 use terms::TermTotalled;
@@ -73,13 +74,17 @@ fn after_date(line: &[u8]) -> &[u8]
 
 // Behind the bit count: the start, the first date and the last.
 fn run_dates(p: Pattern, code: &[u8], count: u32, line: &[u8]) {
-    let term = after_date(line);
-    let last = after_date(term);
+    let first = after_date(line);
+    let last = after_date(first);
     if rest(rest(last)).len() == 0 {
         say_bad();
         return;
     }
-    print_totalled(term_totals(p, code, count, date_at(line), date_at(term), date_at(last)));
+    let term = Term {
+        first: date_at(first),
+        last: date_at(last),
+    };
+    print_totalled(term_totals(p, code, count, date_at(line), term));
 }
 
 pub fn run_term(p: Pattern, line: &[u8]) {

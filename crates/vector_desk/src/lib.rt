@@ -6,11 +6,14 @@
 //   h count lengths bytes at    is no call: writes a desk, and bytes into the letters from a cell on
 //   t text                      is no call: the pattern's text for the calls behind it
 // Each call prints a line. The calls are those from C, so that what they make of texts and of the desk's bytes is run too.
+// Totals in lent cells have a module of their own, since only these calls have cells that can be too few.
 mod calls; // calls.rt: the steps
+mod litres; // litres.rt: totals in lent cells
 mod shown; // shown.rt: the line of a call
 
 use calls::Next;
 use calls::run_step;
+pub use litres::run_litres;
 use text::least;
 use vector_text::ALL_WORDS;
 use vector_text::BYTE_BEFORE;

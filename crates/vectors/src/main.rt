@@ -1,17 +1,19 @@
 // For tests alone: runs each case of standard input, one a line, and prints what the services answer and leave in the lent
 // buffers. The first field of a line is one letter, the case's kind: `l` loads a text, `p` reads a tape, `c` spells, totals
-// and settles a code, `s` shows a visit's piece, `t` totals within a billing term, `a` does one of these on a table with another
-// account, `d` runs calls of a page desk. The pattern's text in hexadecimal comes next; the fields behind it stand in the kind's
-// module, here or in crates vector_codes and vector_desk. Fields are parted by spaces. Byte 10 ends each line of the input; what
-// stands after the last one is left out.
+// and settles a code, `s` shows a visit's piece, `t` totals within a billing term, `b` tells where a tape breaks, `a` does one of
+// these on a table with another account, `d` runs calls of a page desk, `f` totals by the calls from C. The pattern's text in
+// hexadecimal comes next; the fields behind it stand in the kind's module, here or in crates vector_codes and vector_desk. Fields
+// are parted by spaces. Byte 10 ends each line of the input; what stands after the last one is left out.
 // Asked for more cells than its arrays have, the program lends all of them; no such case is stored.
 mod load_cases; // load_cases.rt: loading a text
+mod locate_cases; // locate_cases.rt: where a tape breaks
 mod parse_cases; // parse_cases.rt: reading a tape
 mod table_cases; // table_cases.rt: tables that no text gives
 
 use load_cases::print_loaded;
 use loading::Loaded;
 use loading::load;
+use locate_cases::run_locate;
 use parse_cases::run_parse;
 use syntax::Pattern;
 use table_cases::with_account;
@@ -19,6 +21,7 @@ use vector_codes::run_code;
 use vector_codes::run_span;
 use vector_codes::run_term;
 use vector_desk::run_desk;
+use vector_desk::run_litres;
 use vector_text::Input;
 use vector_text::MAX_TEXT;
 use vector_text::advance;
@@ -42,6 +45,7 @@ fn run_service(kind: u8, p: Pattern, line: &[u8]) {
         b'c' => run_code(p, line),
         b's' => run_span(p, line),
         b't' => run_term(p, line),
+        b'b' => run_locate(p, line),
         _ => say_bad(),
     }
 }
@@ -88,6 +92,10 @@ fn run_case(line: &[u8]) {
     let kind = line[0];
     if kind == b'd' {
         run_desk(digits, rest(fields));
+        return;
+    }
+    if kind == b'f' {
+        run_litres(&text[..size], rest(fields));
         return;
     }
     run_kind(kind, load(&text[..size]), rest(fields));

@@ -3,7 +3,5 @@ pub mod Whole
 -- What a walk over a code gives at each node, and its laws.
 pub mod Handed
 pub mod Looks
-pub mod Words
 pub mod Lines
-pub mod Walks
 pub mod WholeLaws

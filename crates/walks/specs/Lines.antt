@@ -1,26 +1,19 @@
--- What is spelled at a line of the columns, in terms of its parts' lines: one equation for each way of a walk.
-use mathlib.Core.Path.{_≡_, refl, sym, ap, subst, _∙_}
+-- What a walk takes from a line of the table: its parts stand below it, and its tree is made of theirs.
+use mathlib.Core.Path.{_≡_, ap, subst, _∙_}
 use mathlib.Core.Bool.{Bool, true, false, cond}
-use mathlib.Core.Option.{none}
 use mathlib.Core.List.{List}
-use Prim.Native.Nat.{ℕ, _+_, _*_, _≤_, _<_}
-use lib.ListN.{length}
+use Prim.Native.Nat.{ℕ, _<_}
 use Rattle.syntax.specs.declared.Leaf.{Leaf}
 use Rattle.syntax.specs.declared.Leaf.the-variants.{Range}
 use Rattle.syntax.specs.declared.Node.{Node}
-use Rattle.syntax.specs.declared.Node.the-variants.{Leaf as Leaf-node, Sequence, Alternative, Star}
-use Rattle.syntax.specs.Tree.{Label, Tree, star}
+use Rattle.syntax.specs.declared.Node.the-variants.{Sequence, Alternative, Star}
+use Rattle.syntax.specs.Tree.{Label, star}
 use Rattle.syntax.specs.Trees.{made}
 use Rattle.syntax.specs.TreeLaws.{Below}
-use Rattle.bits.specs.Bits.{bit-at}
 use Rattle.table.specs.Cells.{node-in, account-in, tree-in, Good}
 use Rattle.table.specs.CellLaws.{line-tree, line-lower}
-use Rattle.walks.specs.Words.{word-at, word-then, word-seq, word-alt-none, word-side}
 
--- names for the clauses of the source, where `Leaf` and `Range` cannot be imported beside the types
-abbrev pub leaf-node : Leaf → Node
-leaf-node x = Leaf-node x
-
+-- a name for the clauses of the source, where `Range` cannot be imported beside the type
 abbrev pub range-node : (low high : ℕ) → Leaf
 range-node a b = Range a b
 
@@ -56,31 +49,3 @@ module _ {table : List ℕ} (good : Good table) (l : ℕ) (s : l < 64) (n : Node
   -- a star's bit for another round is that of the line
   pub star-as : (again : Bool) (p : ℕ) → n ≡ Star again p → tree-in table l ≡ star label-at again (tree-in table p)
   star-as again p e = line-as (Star again p) e
-
--- ── what is spelled at a line ──
-module _ {table : List ℕ} (good : Good table) (code : List ℕ) (count : ℕ) (fit : count ≤ length code * 8)
-    (l : ℕ) (s : l < 64) (n : Node) (en : n ≡ node-in table l) (at : ℕ) where
-  abbrev T : ℕ → Tree
-  T = tree-in table
-
-  abbrev m : Label
-  m = record { index = l; account = account-in table l }
-
-  word-as : (k : Node) → n ≡ k → word-at code count (T l) at ≡ word-at code count (made m T k) at
-  word-as k e = ap (λ t. word-at code count t at) (line-as good l s n en k e)
-
-  pub seq-is : (p q : ℕ) → n ≡ Sequence p q → at ≤ count → word-at code count (T l) at ≡ word-then (word-at code count (T p) at) (word-at code count (T q))
-  seq-is p q e le = word-as (Sequence p q) e ∙ word-seq code count fit m (T p) (T q) at le
-
-  pub alt-none-is : (p q : ℕ) → n ≡ Alternative p q → count ≤ at → word-at code count (T l) at ≡ none
-  alt-none-is p q e h = word-as (Alternative p q) e ∙ word-alt-none code count fit m (T p) (T q) at h
-
-  pub side-is : (p q r : ℕ) → n ≡ Alternative p q → at < count → r ≡ cond (bit-at 8 code at) q p
-      → word-at code count (T l) at ≡ word-at code count (T r) (at + 1)
-  side-is p q r e h er =
-      word-as (Alternative p q) e ∙ word-side code count fit m (T p) (T q) at h
-      ∙ ap (λ t. word-at code count t (at + 1)) (pick (bit-at 8 code at) ∙ ap T (sym er))
-    where
-      pick : (b : Bool) → cond b (tree-in table q) (tree-in table p) ≡ tree-in table (cond b q p)
-      pick true = refl
-      pick false = refl

@@ -3,7 +3,7 @@
 use mathlib.Core.Path.{_≡_, refl, sym, ap, subst, _∙_}
 use mathlib.Core.Bool.{Bool, true, false, not, Bool-set}
 use mathlib.Core.Logic.{inl, inr}
-use mathlib.Core.Option.{none, some}
+use mathlib.Core.Option.{none, some, Option·none-ne-some, Option·some-injective}
 use mathlib.Core.List.{List, [], _∷_}
 use Prim.Native.Nat.{ℕ, _+_, _*_, _≤_, _<_}
 use native.Mathlib.Omega.{arith}
@@ -13,7 +13,7 @@ use Rattle.syntax.specs.Tree.{Label, Tree, nothing, letter, range, seq, alt, st
 use Rattle.bits.specs.Bits.{bit-at, number-at, held}
 use Rattle.bits.specs.Reading.{held-length, held-bit}
 use Rattle.semantics.specs.Value.{Value}
-use Rattle.semantics.specs.Positions.{Seen, see, and-then}
+use Rattle.semantics.specs.Positions.{Seen, see, joined, and-then}
 use Rattle.semantics.specs.PositionLaws.{see-stays, see-nothing, see-letter, see-short, see-range, see-outside, see-seq, see-alt-none, see-left, see-right}
 use Rattle.semantics.specs.PositionLaws.{see-star-none, see-stop, see-round}
 use Rattle.walks.specs.Handed.{held-number}
@@ -30,6 +30,20 @@ module _ {again b c : Bool} where
 
   pub stops-lazy : again ≡ true → c ≡ b → not c ≡ stops again b
   stops-lazy h e = rw h (ap not e)
+
+-- two walks that see the same, and what a walk followed by another tells of both
+pub same-seen : {X : Type 0} {x y : X} {i j : ℕ} → _≡_ {A = Seen X} (some (x, i)) (some (y, j)) → (x ≡ y) × (i ≡ j)
+same-seen {X} {x} {y} {i} {j} e = let f = Option·some-injective (x, i) (y, j) e in (ap (λ z. z .0) f, ap (λ z. z .1) f)
+
+pub then-some : {X Y Z : Type 0} (op : X → Y → Z) (a : Seen X) (f : ℕ → Seen Y) (z : Z) (j : ℕ) → and-then op a f ≡ some (z, j)
+    → (x : X) × (i : ℕ) × (y : Y) × (a ≡ some (x, i)) × (f i ≡ some (y, j)) × (op x y ≡ z)
+then-some op none f z j e = absurd (Option·none-ne-some (z, j) e)
+then-some {X} {Y} {Z} op (some p) f z j e = go (f (p .1)) refl e
+  where
+    go : (q : Seen Y) → f (p .1) ≡ q → joined op (p .0) q ≡ some (z, j)
+        → (x : X) × (i : ℕ) × (y : Y) × (_≡_ {A = Seen X} (some p) (some (x, i))) × (f i ≡ some (y, j)) × (op x y ≡ z)
+    go none g h = absurd (Option·none-ne-some (z, j) h)
+    go (some q) g h = let (u, k) = same-seen h in (p .0, p .1, q .0, refl, g ∙ ap (λ n. some (q .0, n)) k, u)
 
 stop-bit : (again b : Bool) → stops again b ≡ true → b ≡ not again
 stop-bit false b e = e

@@ -166,7 +166,7 @@ module _ (text tape : List ℕ) (a : Answer) (bytes : List ℕ) (loads : load-an
       same s in
       let reads : readable u tape ≡ true = rw same at (letters-readable (load-table text) code count whole) in
       let fits : cell-count 8 (length (greedy u tape)) ≤ length xs = rw (← length-pack 8 (greedy u tape), eb) fit in
-      let m = w .2 .fits (greedy u tape) (greedy-canonical u tape reads) fits in
+      let m = w .2 .1 .fits (greedy u tape) (greedy-canonical u tape reads) fits in
       (m .0 ∙ ea, w .0, m .1 ∙ ap (λ c. in-front c xs) eb)
 
   says : (q : Asked) → So q

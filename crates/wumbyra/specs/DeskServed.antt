@@ -28,7 +28,7 @@ use Rattle.wumbyra.specs.DeskLaws.{open-right}
 
 -- ── the desk that stands in bytes ──
 module _ (desk : List ℕ) (whole : length desk ≡ desk-bytes) where
-  lengths-all : length (desk-of-bytes desk .lengths) ≡ page-limit
+  pub lengths-all : length (desk-of-bytes desk .lengths) ≡ page-limit
   lengths-all = omega (arith, ap length (bytes-back desk whole), whole)
 
   -- what a call wrote is the desk that it left

@@ -7,4 +7,5 @@ pub mod DeskServed
 pub mod DeskRuns
 pub mod Unloaded
 pub mod SpanParts
+pub mod LocateParts
 pub mod Unique

@@ -11,27 +11,30 @@ use Rattle.refusals.specs.Refusals.{Answer, answer}
 use Rattle.refusals.specs.Checks.{first-of}
 use Rattle.bits.specs.Bits.{in-front}
 use Rattle.loading.specs.Load.{load-table}
-use Rattle.packing.specs.Packing.{unpacked, in-cells}
+use Rattle.packing.specs.Packing.{unpacked}
+use Rattle.packing.specs.Cells.{Gives}
 use Rattle.packing.specs.DeskBytes.{desk-bytes, desk-of-bytes, bytes-of-desk}
 use Rattle.semantics.specs.Visits.{Visit}
 use Rattle.codes.specs.Flatten.{flatten-answer, flatten-tape}
 use Rattle.totals.specs.Totals.{totals-answer, totals-litres}
 use Rattle.spans.specs.Spans.{span-answer, span-shown}
 use Rattle.calendar.specs.Dates.{date-of}
-use Rattle.terms.specs.Terms.{terms-answer, terms-litres}
+use Rattle.terms.specs.Terms.{term-of, terms-answer, terms-litres}
 use Rattle.parser.specs.declared.Parsed.{Parsed}
 use Rattle.parser.specs.Parse.{parsed-answer, Parses}
 use Rattle.canonical.specs.declared.Canonicalized.{Canonicalized}
 use Rattle.canonical.specs.Canonicalize.{canonicalized-answer, Canonicalizes}
+use Rattle.reach.specs.declared.Located.{Located}
+use Rattle.reach.specs.Locate.{located-answer, Locates}
 use Rattle.first_sweep.specs.Tail.{tail-words}
 use Rattle.desk.specs.declared.Desk.{Desk}
 use Rattle.desk.specs.declared.DeskRefusal.the-variants.{DeskLimits}
 use Rattle.desk.specs.declared.Desked.{Desked}
 use Rattle.desk.specs.Desks.{empty-desk, desk-refused, desk-answer, open-order, if-accepted, Puts, Withdraws}
 
--- the version 1.6.0 as one number: major × 10000 + minor × 100 + patch
+-- the version 1.7.0 as one number: major × 10000 + minor × 100 + patch
 abbrev pub version-number : ℕ
-version-number = 1 * 10000 + 6 * 100 + 0
+version-number = 1 * 10000 + 7 * 100 + 0
 
 -- THE PROMISE of reading a tape from C: answer and buffers are those that the service promises on the table of the text
 pub record Parses-text (text tape words words-now code code-now : List ℕ) (r : ℕ) : Type 0 where
@@ -58,20 +61,28 @@ shown-answer a (some x) = answer (a .number) (x .start * 65536 + x .size)
 unfoldable pub span-text : (text tape code : List ℕ) → (count node visit : ℕ) → Answer
 span-text text tape code count l k = shown-answer (span-answer (load-table text) tape code count l k) (span-shown (load-table text) tape code count l k)
 
+-- THE PROMISE of locating from C: what the service promises on the table of the text
+pub record Locates-text (text tape : List ℕ) (r : ℕ) : Type 0 where
+  pub located : Located
+  pub answers : unpacked r ≡ located-answer located
+  pub locates : Locates (load-table text) tape located
+
 -- the litres of one account; 0 for an account above 200 (law `total-above`), and 0 if refused, since the totals are then
 unfoldable pub total-text : (text code : List ℕ) → (count account : ℕ) → Answer
 total-text text code count a = answer (totals-answer (load-table text) code count .number) (getD (totals-litres (load-table text) code count) a 0)
 
--- THE PROMISE of all totals from C: the answer of totalling, whose value is 0, and its totals in the lent cells; these are 0 if it is refused
-pub record Totals-text (text code : List ℕ) (count : ℕ) (cells cells-now : List ℕ) (r : ℕ) : Type 0 where
-  pub answers : unpacked r ≡ totals-answer (load-table text) code count
-  pub leaves : cells-now ≡ in-cells (totals-litres (load-table text) code count) cells
+-- THE PROMISE of all totals from C: the answer of totalling, whose value is 0, and its totals in the lent cells; or 20, if an account without a
+-- cell has litres. The cells are 0 if it is refused.
+abbrev pub Totals-text : (text code : List ℕ) → (count : ℕ) → (cells cells-now : List ℕ) → (r : ℕ) → Type 0
+Totals-text text code count cells cells-now r =
+    Gives (totals-answer (load-table text) code count) (totals-litres (load-table text) code count) cells cells-now r
 
 -- THE PROMISE of totals within a term from C: as for all totals. Each date is a number, year × 10000 + month × 100 + day, and every number is one
 -- date or none.
-pub record Term-totals-text (text code : List ℕ) (count start first last : ℕ) (cells cells-now : List ℕ) (r : ℕ) : Type 0 where
-  pub answers : unpacked r ≡ terms-answer (load-table text) code count (date-of start) (date-of first) (date-of last)
-  pub leaves : cells-now ≡ in-cells (terms-litres (load-table text) code count (date-of start) (date-of first) (date-of last)) cells
+abbrev pub Term-totals-text : (text code : List ℕ) → (count start first last : ℕ) → (cells cells-now : List ℕ) → (r : ℕ) → Type 0
+Term-totals-text text code count start first last cells cells-now r =
+    Gives (terms-answer (load-table text) code count (date-of start) (term-of first last))
+    (terms-litres (load-table text) code count (date-of start) (term-of first last)) cells cells-now r
 
 -- ── the page desk: 31 bytes, the count and behind it the 30 lengths. A desk of another length is refused with 13 at 13's place ──
 -- 02: "opening an empty desk writes the two of the end (refusing 2, then 6)"; behind them 13, for a desk of another length

@@ -35,9 +35,13 @@ use Rattle.parser.specs.declared.Parsed.{Parsed}
 use Rattle.parser.specs.Parse.{parsed-answer, Parses}
 use Rattle.canonical.specs.declared.Canonicalized.{Canonicalized}
 use Rattle.canonical.specs.Canonicalize.{canonicalized-answer, Canonicalizes}
-use Rattle.packing.specs.Packing.{unpacked, in-cells}
+use Rattle.reach.specs.declared.Located.{Located}
+use Rattle.reach.specs.Locate.{located-answer, Locates}
+use Rattle.packing.specs.Packing.{unpacked}
+use Rattle.packing.specs.Cells.{Gives}
+use Rattle.packing.specs.CellsLaws.{given-same}
 use Rattle.wumbyra.specs.Packed.{Parses-text, Flattens-text, Canonicalizes-text, shown-answer, span-text, total-text, Totals-text}
-use Rattle.wumbyra.specs.Packed.{Term-totals-text}
+use Rattle.wumbyra.specs.Packed.{Term-totals-text, Locates-text}
 
 -- ── a service's promise on the loaded table ──
 module _ (text : List ℕ) (l : Loaded) (h : Loads text l) where
@@ -67,6 +71,9 @@ module _ (text : List ℕ) (l : Loaded) (h : Loads text l) where
     canonicalizes = subst (λ t. Canonicalizes t code count ts us ws vs xs ys a) (h .gives) p;
   }
 
+  pub locate-packed : (tape : List ℕ) (a : Located) → Locates (l .pattern) tape a → (r : ℕ) → unpacked r ≡ located-answer a → Locates-text text tape r
+  locate-packed tape a p r e = record { located = a; answers = e; locates = subst (λ t. Locates t tape a) (h .gives) p }
+
   pub total-packed :
       (code : List ℕ) (count account : ℕ) (a : Totalled) → Totals (l .pattern) code count a
       → (r : ℕ) → unpacked r ≡ answer (totals-outcome (a .outcome) .number) (getD (a .litres) account 0) → unpacked r ≡ total-text text code count account
@@ -76,22 +83,23 @@ module _ (text : List ℕ) (l : Loaded) (h : Loads text l) where
       e ∙ ap₂ (λ x y. answer (x .number) (getD y account 0)) (q .answers) (q .gives)
 
   pub totals-packed :
-      (code : List ℕ) (count : ℕ) (a : Totalled) → Totals (l .pattern) code count a → (cells cells-now : List ℕ) → cells-now ≡ in-cells (a .litres) cells
-      → (r : ℕ) → unpacked r ≡ totals-outcome (a .outcome) → Totals-text text code count cells cells-now r
-  totals-packed code count a p cells cells-now e r f =
+      (code : List ℕ) (count : ℕ) (a : Totalled) → Totals (l .pattern) code count a → (s : ℕ) → unpacked s ≡ totals-outcome (a .outcome)
+      → (cells cells-now : List ℕ) (r : ℕ) → Gives (unpacked s) (a .litres) cells cells-now r → Totals-text text code count cells cells-now r
+  totals-packed code count a p s e cells cells-now r g =
       let q = subst (λ t. Totals t code count a) (h .gives) p in
-      record { answers = f ∙ q .answers; leaves = e ∙ ap (λ ls. in-cells ls cells) (q .gives) }
+      given-same (e ∙ q .answers) (q .gives) g
 
   module _ (code : List ℕ) (count start first last : ℕ) (s f t : Date) (es : s ≡ date-of start) (ef : f ≡ date-of first) (et : t ≡ date-of last) where
     pub term-totals-packed :
-        (a : TermTotalled) → Term-totals (l .pattern) code count s f t a → (cells cells-now : List ℕ) → cells-now ≡ in-cells (a .litres) cells
-        → (r : ℕ) → unpacked r ≡ term-outcome (a .outcome) → Term-totals-text text code count start first last cells cells-now r
-    term-totals-packed a p cells cells-now e r g =
-        let table = subst (λ u. Term-totals u code count s f t a) (h .gives) p in
-        let from = subst (λ d. Term-totals (load-table text) code count d f t a) es table in
-        let within = subst (λ d. Term-totals (load-table text) code count (date-of start) d t a) ef from in
-        let q = subst (λ d. Term-totals (load-table text) code count (date-of start) (date-of first) d a) et within in
-        record { answers = g ∙ q .answers; leaves = e ∙ ap (λ ls. in-cells ls cells) (q .gives) }
+        (a : TermTotalled) → Term-totals (l .pattern) code count s (record { first = f; last = t }) a → (x : ℕ) → unpacked x ≡ term-outcome (a .outcome)
+        → (cells cells-now : List ℕ) (r : ℕ) → Gives (unpacked x) (a .litres) cells cells-now r
+        → Term-totals-text text code count start first last cells cells-now r
+    term-totals-packed a p x e cells cells-now r g =
+        let table = subst (λ u. Term-totals u code count s (record { first = f; last = t }) a) (h .gives) p in
+        let from = subst (λ d. Term-totals (load-table text) code count d (record { first = f; last = t }) a) es table in
+        let within = subst (λ d. Term-totals (load-table text) code count (date-of start) (record { first = d; last = t }) a) ef from in
+        let q = subst (λ d. Term-totals (load-table text) code count (date-of start) (record { first = date-of first; last = d }) a) et within in
+        given-same (e ∙ q .answers) (q .gives) g
 
 -- ── spans ──
 module _ (p : Pattern) (tape code : List ℕ) (count l k : ℕ) (s : Spanned) (h : Spans p tape code count l k s) where

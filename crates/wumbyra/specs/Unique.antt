@@ -10,9 +10,11 @@ use Rattle.canonical.specs.Canonicalize.{canonicalized-answer}
 use Rattle.canonical.specs.Unique.{canonicalizes-one}
 use Rattle.desk.specs.Desks.{desk-answer, if-accepted}
 use Rattle.desk.specs.Unique.{puts-one, withdraws-one}
+use Rattle.reach.specs.Locate.{located-answer}
+use Rattle.reach.specs.Unique.{locates-one}
 use Rattle.packing.specs.Packing.{unpacked}
 use Rattle.packing.specs.DeskBytes.{desk-of-bytes, bytes-of-desk}
-use Rattle.wumbyra.specs.Packed.{Desk-opens-text, Desk-puts-text, Desk-withdraws-text}
+use Rattle.wumbyra.specs.Packed.{Locates-text, Desk-opens-text, Desk-puts-text, Desk-withdraws-text}
 use Rattle.wumbyra.specs.Packed.{Parses-text, Flattens-text, Totals-text, Term-totals-text, Canonicalizes-text, span-text, total-text}
 
 pub unpacked-same : (r s : ℕ) → unpacked r ≡ unpacked s → r ≡ s
@@ -57,6 +59,11 @@ module _ (text : List ℕ) where
       (f .canonicalizes) (g .canonicalizes) in
       (unpacked-same r s (f .answers ∙ ap canonicalized-answer (e .0) ∙ sym (g .answers)), e .1, e .2, e .3)
 
+  pub locates-text-one : (tape : List ℕ) (r s : ℕ) → Locates-text text tape r → Locates-text text tape s → r ≡ s
+  locates-text-one tape r s f g =
+      let e = locates-one (load-table text) tape (f .located) (g .located) (f .locates) (g .locates) in
+      unpacked-same r s (f .answers ∙ ap located-answer e ∙ sym (g .answers))
+
   pub desk-opens-text-one : (desk a b marks ms ns : List ℕ) (r s : ℕ) → Desk-opens-text text desk a marks ms r → Desk-opens-text text desk b marks ns s
       → (r ≡ s) × (a ≡ b) × (ms ≡ ns)
   desk-opens-text-one desk a b marks ms ns r s f g =
@@ -65,7 +72,8 @@ module _ (text : List ℕ) where
   pub desk-puts-text-one : (desk a b page letters ks ls marks ms ns : List ℕ) (r s : ℕ) → Desk-puts-text text desk a page letters ks marks ms r
       → Desk-puts-text text desk b page letters ls marks ns s → (r ≡ s) × (a ≡ b) × (ks ≡ ls) × (ms ≡ ns)
   desk-puts-text-one desk a b page letters ks ls marks ms ns r s f g =
-      let e = puts-one (load-table text) (desk-of-bytes desk) page (f .after) (g .after) letters ks ls marks ms ns (f .desked) (g .desked) (f .puts) (g .puts) in (
+      let e = puts-one (load-table text) (desk-of-bytes desk) page (f .after) (g .after) letters ks ls marks ms ns (f .desked) (g .desked)
+      (f .puts) (g .puts) in (
         unpacked-same r s (f .answers ∙ ap desk-answer (e .0) ∙ sym (g .answers)),
         f .leaves ∙ ap₂ (λ x d. if-accepted (desk-answer x) (bytes-of-desk d) desk) (e .0) (e .1) ∙ sym (g .leaves),
         e .2,

@@ -14,9 +14,11 @@ use Rattle.totals.specs.Totals.{no-litres, totals-answer, totals-litres}
 use Rattle.spans.specs.Spans.{span-answer, span-shown}
 use Rattle.parser.specs.Parse.{early}
 use Rattle.packing.specs.Packing.{unpacked, in-cells}
+use Rattle.packing.specs.CellsLaws.{refused-given}
 use Rattle.terms.specs.Terms.{terms-answer, terms-litres}
 use Rattle.desk.specs.Desks.{put-answer, withdraw-answer}
-use Rattle.wumbyra.specs.Packed.{span-text, total-text, Totals-text, Term-totals-text}
+use Rattle.reach.specs.Locate.{locate-refusal}
+use Rattle.wumbyra.specs.Packed.{span-text, total-text, Totals-text, Term-totals-text, Locates-text}
 use Rattle.wumbyra.specs.Packed.{desk-open-answer, Desk-opens-text, Desk-puts-text, Desk-withdraws-text}
 use Rattle.wumbyra.specs.DeskRefused.{opens-refused, puts-refused, withdraws-refused}
 
@@ -48,6 +50,12 @@ module _ (text : List ℕ) (h : 1 ≤ load-answer text .number) where
   unfolding span-text span-answer span-shown
   span-unloaded tape code count l k = rw not-obeyed
 
+  pub locate-unloaded : (tape : List ℕ) (r : ℕ) → Locates-text text tape r → unpacked r ≡ answer 2 0
+  unfolding locate-refusal
+  locate-unloaded tape r t =
+      let said : locate-refusal (load-table text) tape ≡ answer 2 0 = rw not-obeyed refl in
+      t .answers ∙ t .locates .refuses (refused-2 (locate-refusal (load-table text) tape) said) ∙ said
+
   pub total-unloaded : (code : List ℕ) (count a : ℕ) → total-text text code count a ≡ answer 2 0
   unfolding total-text totals-answer totals-litres
   total-unloaded code count a = rw (not-obeyed, zeros (account-limit + 1) a)
@@ -56,13 +64,12 @@ module _ (text : List ℕ) (h : 1 ≤ load-answer text .number) where
   pub totals-unloaded : (code : List ℕ) (count : ℕ) (cells cells-now : List ℕ) (r : ℕ) → Totals-text text code count cells cells-now r
       → (unpacked r ≡ answer 2 0) × (cells-now ≡ in-cells no-litres cells)
   unfolding totals-answer totals-litres
-  totals-unloaded code count cells cells-now r t = (t .answers ∙ rw not-obeyed refl, t .leaves ∙ ap (λ ls. in-cells ls cells) (rw not-obeyed refl))
+  totals-unloaded code count cells cells-now r t = refused-given t (rw not-obeyed refl) (rw not-obeyed refl)
 
   pub term-totals-unloaded : (code : List ℕ) (count start first last : ℕ) (cells cells-now : List ℕ) (r : ℕ)
       → Term-totals-text text code count start first last cells cells-now r → (unpacked r ≡ answer 2 0) × (cells-now ≡ in-cells no-litres cells)
   unfolding terms-answer terms-litres
-  term-totals-unloaded code count start first last cells cells-now r t =
-      (t .answers ∙ rw not-obeyed refl, t .leaves ∙ ap (λ ls. in-cells ls cells) (rw not-obeyed refl))
+  term-totals-unloaded code count start first last cells cells-now r t = refused-given t (rw not-obeyed refl) (rw not-obeyed refl)
 
   -- desk, letters and marks are as they were
   pub desk-opens-unloaded : (desk desk-now marks marks-now : List ℕ) (r : ℕ) → Desk-opens-text text desk desk-now marks marks-now r

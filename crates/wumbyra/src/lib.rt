@@ -1,11 +1,11 @@
 // The services for callers from C, each on a pattern's text. An answer is one number: the cause's number (0: none) in its
 // upper 32 bits, the value beside it in the lower 32. A slice is passed as a pointer and a length. include/wumbyra.h declares the calls.
 // Contracts unpack an answer, as a caller does: quotient and remainder need no condition. Load, flatten, span, totals and opening a desk are
-// equations; parse, canonicalize, and putting and withdrawing a page hand on the promise of their service, so that nothing is said twice.
+// equations; parse, canonicalize, locate, and putting and withdrawing a page hand on the promise of their service, so that nothing is said twice.
 ghost use mathlib.Core.Path.{_≡_};
 ghost use Rattle.loading.specs.Load.{load-answer};
 ghost use Rattle.packing.specs.Packing.{unpacked};
-ghost use Rattle.wumbyra.specs.Packed.{version-number, Parses-text, Flattens-text, Canonicalizes-text};
+ghost use Rattle.wumbyra.specs.Packed.{version-number, Parses-text, Flattens-text, Canonicalizes-text, Locates-text};
 ghost use Rattle.wumbyra.specs.Packed.{span-text, total-text, Totals-text, Term-totals-text};
 ghost use Rattle.wumbyra.specs.Packed.{Desk-opens-text, Desk-puts-text, Desk-withdraws-text};
 use calendar::date_of;
@@ -17,10 +17,12 @@ use desk::withdraw_page;
 use loading::load;
 use packing::DESK_BYTES;
 use packing::desk_of;
+use packing::give_totals;
 use packing::litres_of;
 use packing::of_canonicalized;
 use packing::of_desked;
 use packing::of_flattened;
+use packing::of_located;
 use packing::of_other_length;
 use packing::of_outcome;
 use packing::of_parsed;
@@ -29,18 +31,19 @@ use packing::of_term_totals;
 use packing::of_totals;
 use packing::packed;
 use packing::put_desk;
-use packing::put_totals;
 use packing::totals_number;
 use parser::parse;
+use reach::locate;
 use spans::SpanOutcome;
 use spans::span;
+use terms::Term;
 use terms::term_totals;
 use totals::totals;
 
 // The version of the interface. A change that a caller may notice raises one of these numbers, and the header's with it.
 const VERSION_MAJOR: u32 = 1;
 
-const VERSION_MINOR: u32 = 6;
+const VERSION_MINOR: u32 = 7;
 
 const VERSION_PATCH: u32 = 0;
 
@@ -121,6 +124,16 @@ pub extern "C" fn wumbyra_span(
     }
 }
 
+// Where a tape breaks: the reach in the upper 16 bits of the value, the position at which the tape resumes in the lower 16.
+#[no_mangle]
+pub extern "C" fn wumbyra_locate(text: &[u8], tape: &[u8]) -> u64
+    ensures { λ r. ⌜ Locates-text (now (text .entry)) (now (tape .entry)) r ⌝ }
+{
+    let loaded = load(text);
+    let located = locate(loaded.pattern, tape);
+    of_located(located)
+}
+
 #[no_mangle]
 pub extern "C" fn wumbyra_total(text: &[u8], code: &[u8], count: u32, account: u32) -> u64
     ensures { λ r. ⌜ unpacked r ≡ total-text (now (text .entry)) (now (code .entry)) count account ⌝ }
@@ -140,8 +153,7 @@ pub extern "C" fn wumbyra_totals(text: &[u8], code: &[u8], count: u32, litres: &
     let all = totals(loaded.pattern, code, count);
     let outcome = all.outcome;
     let added = all.litres;
-    put_totals(&added, litres);
-    of_totals(outcome)
+    give_totals(of_totals(outcome), &added, litres)
 }
 
 // Dates are numbers: year × 10000 + month × 100 + day.
@@ -162,11 +174,14 @@ pub extern "C" fn wumbyra_term_totals(
     let loaded = load(text);
     let from = date_of(first);
     let upto = date_of(last);
-    let all = term_totals(loaded.pattern, code, count, date_of(start), from, upto);
+    let term = Term {
+        first: from,
+        last: upto,
+    };
+    let all = term_totals(loaded.pattern, code, count, date_of(start), term);
     let outcome = all.outcome;
     let added = all.litres;
-    put_totals(&added, litres);
-    of_term_totals(outcome)
+    give_totals(of_term_totals(outcome), &added, litres)
 }
 
 // A page desk is 31 bytes: the count, and behind it the 30 lengths. One of another length is 13, at opening after 6.

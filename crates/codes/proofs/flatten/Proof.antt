@@ -1,5 +1,6 @@
 -- `codes::flatten` meets its contract.
-use Rattle.codes.specs.FlattenLaws.{reads-root, flatten-bad, flatten-not, flatten-long, flatten-short, flatten-done}
+use Rattle.entries.specs.GatherLaws.{reads-root}
+use Rattle.codes.specs.FlattenLaws.{flatten-bad, flatten-not, flatten-long, flatten-short, flatten-done}
 use Rattle.table.specs.CellLaws.{holds-good}
 use Rattle.syntax.specs.TreeLaws.{obeys-iff}
 use borrow.Author.Tests.{not-true, not-false}

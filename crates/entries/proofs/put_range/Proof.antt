@@ -1,9 +1,10 @@
 -- `entries::put_range` meets its contract.
-use mathlib.Core.Path.{refl, sym, _∙_}
+use mathlib.Core.Path.{_≡_, refl, sym, _∙_}
 use native.Mathlib.Omega.{arith}
 use borrow.Author.Tests.{not-true, not-false}
 use Rattle.entries.specs.Entries.{entries-short, entries-range, entries-outside}
 use Rattle.entries.specs.Entering.{not-entered, one-entered}
+use Rattle.syntax.specs.Letter.{in-range}
 use borrow.Author.Needs.{needs}
 use Rattle.entries.proofs.put_range.Statement.{statement}
 use Rattle.entries.proofs.put_range.Tie as tie
@@ -30,6 +31,11 @@ byte-at-requires c κs = omega (arith, c .if1 .left, c .before .bits-in .ensures
 in-range-requires : tie.Need-in-range-requires
 in-range-requires c κs = search needs
 
+-- what was asked of the byte
+asked : (c : tie.After-in-range) → let s = c .before .before .before .before .before .before .before in
+    c .in-range .result ≡ in-range (s .args .low) (s .args .high) (c .before .byte-at .result)
+asked c = c .in-range .ensures
+
 failed-requires-2 : tie.Need-failed-requires-2
 failed-requires-2 c κs = search needs
 
@@ -40,7 +46,7 @@ returns-2 c =
     let at-byte-at = at-in-range .before in
     let at-else1 = at-byte-at .before in
     let at-bits-in = at-else1 .before in
-    let out = sym (at-in-range .in-range .ensures) ∙ not-true _ (at-then2 .if2 .taken) in
+    let out = sym (asked at-in-range) ∙ not-true _ (at-then2 .if2 .taken) in
     not-entered refl refl (c .failed2 .ensures)
     (entries-outside _ _ _ _ _ _ (omega (arith, at-else1 .if1 .left, at-bits-in .bits-in .ensures)) (at-byte-at .byte-at .ensures) out)
 
@@ -68,7 +74,7 @@ returns-3 c =
     let at-byte-at = at-in-range .before in
     let at-else1 = at-byte-at .before in
     let at-bits-in = at-else1 .before in
-    let inside = sym (at-in-range .in-range .ensures) ∙ not-false _ (at-else2 .if2 .left) in
+    let inside = sym (asked at-in-range) ∙ not-false _ (at-else2 .if2 .left) in
     one-entered (entries-range _ _ _ _ _ _ (omega (arith, at-else1 .if1 .left, at-bits-in .bits-in .ensures)) (at-byte-at .byte-at .ensures) inside)
     (at-put-entry .put-entry .ensures .0) (at-put-entry .put-entry .ensures .1) (at-put-entry .put-entry .ensures .2)
 

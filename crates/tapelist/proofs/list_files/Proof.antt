@@ -47,6 +47,24 @@ slice-aggregate-print-listing-2 c = simp length-take (omega arith)
 print-listing-requires : tie.Need-print-listing-requires
 print-listing-requires c κs = search needs
 
+arg-count-requires : tie.Need-arg-count-requires
+arg-count-requires c κs = search needs
+
+slice-reshare-prefix-print-break : tie.Need-slice-reshare-prefix-print-break
+slice-reshare-prefix-print-break c = search needs
+
+slice-aggregate-print-break : tie.Need-slice-aggregate-print-break
+slice-aggregate-print-break c = simp length-take (omega arith)
+
+slice-reshare-prefix-print-break-2 : tie.Need-slice-reshare-prefix-print-break-2
+slice-reshare-prefix-print-break-2 c = search needs
+
+slice-aggregate-print-break-2 : tie.Need-slice-aggregate-print-break-2
+slice-aggregate-print-break-2 c = simp length-take (omega arith)
+
+print-break-requires : tie.Need-print-break-requires
+print-break-requires c κs = search needs
+
 same-length-4 : tie.Need-same-length-4
 same-length-4 c = search needs
 
@@ -55,6 +73,15 @@ same-length-5 c = search needs
 
 returns-3 : tie.Need-returns-3
 returns-3 c = search needs
+
+same-length-6 : tie.Need-same-length-6
+same-length-6 c = search needs
+
+same-length-7 : tie.Need-same-length-7
+same-length-7 c = search needs
+
+returns-4 : tie.Need-returns-4
+returns-4 c = search needs
 
 pub list-files-spec : {M : Type 1} → statement M
 list-files-spec =
@@ -74,6 +101,15 @@ list-files-spec =
     slice-reshare-prefix-print-listing-2
     slice-aggregate-print-listing-2
     print-listing-requires
+    arg-count-requires
+    slice-reshare-prefix-print-break
+    slice-aggregate-print-break
+    slice-reshare-prefix-print-break-2
+    slice-aggregate-print-break-2
+    print-break-requires
     same-length-4
     same-length-5
-    returns-3)
+    returns-3
+    same-length-6
+    same-length-7
+    returns-4)

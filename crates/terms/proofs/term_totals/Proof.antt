@@ -37,13 +37,13 @@ returns : tie.Need-returns
 returns c =
     let told = c .before .before in
     let gathers = told .before .before .before .before .gather .ensures in
-    rw (c .no-term-totals .ensures) (term-totals-refused _ _ _ _ _ _ _ (gathers .refuses _ (told .gathered .given .1)))
+    rw (c .no-term-totals .ensures) (term-totals-refused _ _ _ _ _ _ (gathers .refuses _ (told .gathered .given .1)))
 
 returns-2 : tie.Need-returns-2
 returns-2 c =
     let told = c .before .before .before .before in
     let held = told .before .before .before .before .gather .ensures .holds _ (told .gathered2 .given .1) in
-    term-totals-dated _ _ _ _ _ _ (held .clear) _ (held .entries) _ (c .total-dates .ensures)
+    term-totals-dated _ _ _ _ _ (held .clear) _ (held .entries) _ (c .total-dates .ensures)
 
 pub term-totals-spec : {M : Type 1} → statement M
 term-totals-spec =

@@ -26,7 +26,7 @@ returns c =
     let start = dated .before .before .before .before in
     let tested = dates-tested _ _ _ (start .args .accounts .now) (start .pre .0) (start .pre .2 .wide) _ (dated .before .last-date .ensures) _
     (dated .is-date .ensures) in
-    rw (c .no-term-totals .ensures) (dates-undated _ _ _ _ (tested ∙ not-true _ (c .before .if1 .taken)))
+    rw (c .no-term-totals .ensures) (dates-undated _ _ _ (tested ∙ not-true _ (c .before .if1 .taken)))
 
 no-term-totals-requires-2 : tie.Need-no-term-totals-requires-2
 no-term-totals-requires-2 c κs = search needs
@@ -41,7 +41,7 @@ returns-2 c =
     let tested = dates-tested _ _ _ (start .args .accounts .now) (start .pre .0) (start .pre .2 .wide) _ (dated .before .last-date .ensures) _
     (dated .is-date .ensures) in
     let no-term = sym (asked .is-term .ensures) ∙ not-true _ (at-then2 .if2 .taken) in
-    rw (c .no-term-totals2 .ensures) (dates-no-term _ _ _ _ (tested ∙ not-false _ (at-else1 .if1 .left)) no-term)
+    rw (c .no-term-totals2 .ensures) (dates-no-term _ _ _ (tested ∙ not-false _ (at-else1 .if1 .left)) no-term)
 
 add-term-requires : tie.Need-add-term-requires
 add-term-requires c κs = search needs
@@ -56,7 +56,7 @@ returns-3 c =
     let tested = dates-tested _ _ _ (start .args .accounts .now) (start .pre .0) (start .pre .2 .wide) _ (dated .before .last-date .ensures) _
     (dated .is-date .ensures) in
     let term = sym (asked .is-term .ensures) ∙ not-false _ (at-else2 .if2 .left) in
-    dates-added _ _ _ _ (tested ∙ not-false _ (at-else1 .if1 .left)) term _ (c .add-term .ensures)
+    dates-added _ _ _ (tested ∙ not-false _ (at-else1 .if1 .left)) term _ (c .add-term .ensures)
 
 pub total-dates-spec : {M : Type 1} → statement M
 total-dates-spec =

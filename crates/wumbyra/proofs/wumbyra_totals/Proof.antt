@@ -10,25 +10,27 @@ load-requires c κs = search needs
 totals-requires : tie.Need-totals-requires
 totals-requires c κs = search needs
 
-slice-aggregate-put-totals : tie.Need-slice-aggregate-put-totals
-slice-aggregate-put-totals c = search needs
-
-put-totals-requires : tie.Need-put-totals-requires
-put-totals-requires c κs = search needs
-
 of-totals-requires : tie.Need-of-totals-requires
 of-totals-requires c κs = search needs
+
+slice-aggregate-give-totals : tie.Need-slice-aggregate-give-totals
+slice-aggregate-give-totals c = search needs
+
+give-totals-requires : tie.Need-give-totals-requires
+give-totals-requires c κs = search needs
 
 same-length : tie.Need-same-length
 same-length c = search needs
 
 returns : tie.Need-returns
 returns c =
-    let put = c .before .before .before in
-    let totalled = put .before .before .before .before in
-    let start = totalled .before .before .before .before .before in
-    totals-packed _ _ (totalled .before .load .ensures) (start .args .code .now) _ _ (totalled .totals .ensures) _ _
-    (put .put-totals .ensures) _ (c .of-totals .ensures)
+    let given = c .before .before in
+    let answered = given .before .before .before in
+    let totalled = answered .before .before in
+    let loaded = totalled .before in
+    let args = loaded .before .before .before .before .args in
+    totals-packed _ _ (loaded .load .ensures) (args .code .now) _ _ (totalled .totals .ensures) _ (answered .of-totals .ensures) _ _ _
+    (given .give-totals .ensures)
 
 pub wumbyra-totals-spec : {M : Type 1} → statement M
 wumbyra-totals-spec =
@@ -36,8 +38,8 @@ wumbyra-totals-spec =
     (tie.spec
     load-requires
     totals-requires
-    slice-aggregate-put-totals
-    put-totals-requires
     of-totals-requires
+    slice-aggregate-give-totals
+    give-totals-requires
     same-length
     returns)

@@ -8,7 +8,7 @@ in-term-requires : tie.Need-in-term-requires
 in-term-requires c κs = search needs
 
 returns : tie.Need-returns
-returns c = day-made _ _ _ _ (c .in-term .ensures)
+returns c = day-made _ _ _ (c .in-term .ensures)
 
 pub day-of-spec : {M : Type 1} → statement M
 day-of-spec = tie.close (tie.spec in-term-requires returns)

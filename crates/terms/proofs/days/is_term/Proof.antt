@@ -10,7 +10,7 @@ is-date-requires : tie.Need-is-date-requires
 is-date-requires c κs = search needs
 
 returns : tie.Need-returns
-returns c = no-first _ _ (sym (c .before .is-date .ensures) ∙ not-true _ (c .if1 .taken))
+returns c = no-first _ (sym (c .before .is-date .ensures) ∙ not-true _ (c .if1 .taken))
 
 is-date-requires-2 : tie.Need-is-date-requires-2
 is-date-requires-2 c κs = search needs
@@ -19,7 +19,7 @@ returns-2 : tie.Need-returns-2
 returns-2 c =
     let at-else1 = c .before .before in
     let is-first = sym (at-else1 .before .is-date .ensures) ∙ not-false _ (at-else1 .if1 .left) in
-    no-last _ _ is-first (sym (c .before .is-date2 .ensures) ∙ not-true _ (c .if2 .taken))
+    no-last _ is-first (sym (c .before .is-date2 .ensures) ∙ not-true _ (c .if2 .taken))
 
 is-after-requires : tie.Need-is-after-requires
 is-after-requires c κs = search needs
@@ -30,7 +30,7 @@ returns-3 c =
     let at-else1 = at-else2 .before .before in
     let is-first = sym (at-else1 .before .is-date .ensures) ∙ not-false _ (at-else1 .if1 .left) in
     let is-last = sym (at-else2 .before .is-date2 .ensures) ∙ not-false _ (at-else2 .if2 .left) in
-    term-by-order _ _ is-first is-last _ (c .is-after .ensures)
+    term-by-order _ is-first is-last _ (c .is-after .ensures)
 
 pub is-term-spec : {M : Type 1} → statement M
 is-term-spec =

@@ -8,16 +8,16 @@ use Rattle.terms.proofs.sums.add_term.Statement.{statement}
 use Rattle.terms.proofs.sums.add_term.Tie as tie
 
 abbrev Inv-loop : tie.InvT-loop
-Inv-loop letters accounts n first last sums₀ day₀ i₀ sums day i = Term-summed (day₀ .date) first last letters accounts sums day n i
+Inv-loop letters accounts n term sums₀ day₀ i₀ sums day i = Term-summed (day₀ .date) term letters accounts sums day n i
 
 abbrev μ-loop : tie.MeasureT-loop
-μ-loop letters accounts n first last sums₀ day₀ i₀ sums day i = n - i
+μ-loop letters accounts n term sums₀ day₀ i₀ sums day i = n - i
 
 day-of-requires : tie.Need-day-of-requires Inv-loop μ-loop
 day-of-requires c κs = search needs
 
 loop-holds : tie.Need-loop-holds Inv-loop μ-loop
-loop-holds c = term-start _ _ _ _ _ _ _ (c .day-of .ensures)
+loop-holds c = term-start _ _ _ _ _ _ (c .day-of .ensures)
 
 shared-slice-read-c : tie.Need-shared-slice-read-c Inv-loop μ-loop
 shared-slice-read-c c = omega (arith, c .before .before .before .before .before .before .pre .0)

@@ -1,0 +1,51 @@
+-- `packing::of_located` meets its contract.
+use mathlib.Core.Path.{sym, ap, _∙_}
+use Rattle.reach.specs.Locate.{located-answer}
+use borrow.Author.Needs.{needs}
+use Rattle.packing.proofs.of_located.Statement.{statement}
+use Rattle.packing.proofs.of_located.Tie as tie
+
+enum-known-located : tie.Need-enum-known-located
+enum-known-located c = search needs
+
+cast-packed : tie.Need-cast-packed
+cast-packed c = search needs
+
+mul-packed : tie.Need-mul-packed
+mul-packed c = search needs
+
+cast-packed-2 : tie.Need-cast-packed-2
+cast-packed-2 c = search needs
+
+add-packed : tie.Need-add-packed
+add-packed c = search needs
+
+packed-requires : tie.Need-packed-requires
+packed-requires c κs = search needs
+
+enum-known-located-2 : tie.Need-enum-known-located-2
+enum-known-located-2 c = search needs
+
+of-refusal-requires : tie.Need-of-refusal-requires
+of-refusal-requires c κs = search needs
+
+returns : tie.Need-returns
+returns c = c .packed .ensures ∙ sym (ap located-answer (c .before .before .located .given .1))
+
+returns-2 : tie.Need-returns-2
+returns-2 c = c .of-refusal .ensures ∙ sym (ap located-answer (c .before .before .located2 .given .1))
+
+pub of-located-spec : {M : Type 1} → statement M
+of-located-spec =
+    tie.close
+    (tie.spec
+    enum-known-located
+    cast-packed
+    mul-packed
+    cast-packed-2
+    add-packed
+    packed-requires
+    enum-known-located-2
+    of-refusal-requires
+    returns
+    returns-2)
