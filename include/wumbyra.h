@@ -13,36 +13,41 @@
  *  - Whatever bytes the arguments hold, the call returns an answer. It keeps no pointer and has no state: calls on different
  *    buffers may run at the same time.
  *  - Buffer cells past the written ones never change.
- *  - The answer is looked at: a refusal leaves buffers as they were, so whoever goes on without looking bills from old cells.
- *    gcc and clang warn where an answer is dropped (WUMBYRA_CHECK_ANSWER).
+ *  - Check every answer. A refusal leaves most buffers as they were, so a caller that ignores it bills from old cells. gcc and clang
+ *    warn if an answer is dropped (WUMBYRA_CHECK_ANSWER).
  *
  * Answers
  *  An answer is number << 32 | value. Number 0 is success; any other is the cause of a refusal:
  *
  *   number                        cause                                                        value
- *   WUMBYRA_LINE_FORM        1    a line of the pattern text has not the form of a line        line, from 0
+ *   WUMBYRA_LINE_FORM        1    a line of the pattern text is malformed                      line, from 0
  *   WUMBYRA_TREE             2    the lines are no tree; in all calls but wumbyra_load:        line; else 0
  *                                 the text does not load, for whatever reason
  *   WUMBYRA_TAPE_TOO_LONG    3    a tape of over 3,600 letters                                 0
  *   WUMBYRA_TAPE_BYTE        4    a byte of the tape is outside 33 to 126 and 161 to 254;      first such position
  *                                 of a page: a byte of the page                                in the page
- *   WUMBYRA_UNREADABLE       5    no parse of the pattern spells the tape                      0
+ *   WUMBYRA_UNREADABLE       5    no parse of the pattern spells the tape;                     0
+ *                                 wumbyra_locate tells where it breaks
  *   WUMBYRA_WORDS_TOO_SHORT  6    fewer than 2 * (n + 1) words for n letters                   words needed
  *   WUMBYRA_CODE_TOO_SHORT   7    the code buffer is shorter than this code                    bytes needed
  *   WUMBYRA_NOT_A_CODE       8    not a whole code of the pattern: bits, range, count or       0
- *                                 padding; in wumbyra_span also a code of another tape
+ *                                 padding; in wumbyra_span also a code of another tape.
+ *                                 A changed code may be another whole code: see Codes
  *   WUMBYRA_TAPE_TOO_SHORT   9    the tape buffer is shorter than what the code spells;        letters needed
  *                                 the letters of a desk have fewer than 3,600 cells            3,600
  *   WUMBYRA_NO_SUCH_VISIT   10    no such node, or it is visited at most `visit` times         0
  *   WUMBYRA_TAPE_UNDATED    11    the start is no date, or a letter of the tape is dated       0
  *                                 past 31 December 2099
- *   WUMBYRA_NOT_A_TERM      12    the first or the last date of the term is none, or the       0
+ *   WUMBYRA_NOT_A_TERM      12    the first or the last date of the term is no date, or the    0
  *                                 last is before the first
  *   WUMBYRA_DESK_LIMITS     13    a page of no letter or of over 120; a desk that is not of    0
  *                                 31 bytes, holds over 30 pages or a page of such a length,
  *                                 or holds a byte that is no letter
  *   WUMBYRA_DESK_FULL       14    a 31st page                                                  0
  *   WUMBYRA_DESK_EMPTY      15    no page to withdraw                                          0
+ *   WUMBYRA_CELLS_TOO_FEW   20    an account that has no cell in `litres` has litres           0
+ *
+ *  Causes 1 to 19 are the services'. 20 is a cause of these calls alone, from 1.7.0 on.
  *
  *  Where several causes hold, the first in the order that is given with the call is answered. A number that is not in that
  *  order is never answered by the call.
@@ -58,8 +63,8 @@
  * Letters
  *  A letter is one byte, 33 to 126 or, from 1.2.0 on, 161 to 254: combined meters write hot water events as these. No other byte
  *  is a letter; 127 to 160 are the gap. Pattern texts, tapes and codes have the same letters. Both ends of a range are letters. A
- *  range may run across the gap, and it takes its letters only: where the 8 bits of a range say a byte of the gap, the code is
- *  none (8), though that byte lies between the ends. Litres are bytes 48 to 57, the digits of ASCII, and no others.
+ *  range may run across the gap, and it takes its letters only: if the 8 bits of a range hold a byte of the gap, the code is refused
+ *  with 8, though that byte lies between the ends. Litres are bytes 48 to 57, the digits of ASCII, and no others.
  *
  * Accounts
  *  A line of a pattern has an account, 1 to 200, or none; before 1.5.0 it was 1 to 9. It is written in one to three digits, without
@@ -71,6 +76,9 @@
  * Codes
  *  A code is bytes and a bit count. Bits fill bytes from the highest; the bytes are exactly enough for the count, unused bits
  *  are 0, and there are at most 65,536 bytes.
+ *  Store a checksum or the tape with each code, and test it before you use the code. Cause 8 finds some changes of a stored code, not
+ *  all: with one bit changed in a letter of a range it may be another whole code, and then its other litres are given with answer 0. Store
+ *  the pattern text, the bit count, the date of the first letter and wumbyra_version() with it, too; examples/billing does.
  *
  * Dates
  *  A date is one number, year * 10000 + month * 100 + day: 20240229 is 29 February 2024. There are the days of the Gregorian
@@ -82,12 +90,14 @@
  *  From 1.6.0 on a tape can be gathered in pages of 1 to 120 letters that arrive newest first, as a concentrator fetches them. A page is
  *  put before the letters held, and the last page put can be withdrawn, as a page with a bad radio check is. The caller keeps three
  *  buffers between the calls, and the library keeps nothing:
- *   - the desk, WUMBYRA_DESK_BYTES bytes: how many pages are held, then the letters of each in the order of their putting. Bytes of pages
- *     that are not held mean nothing;
+ *   - the desk, WUMBYRA_DESK_BYTES bytes: how many pages are held, then how many letters each has, from the first page put on. Bytes of
+ *     pages that are not held mean nothing;
  *   - the letters, at least WUMBYRA_MAX_LETTERS cells, of which the first WUMBYRA_MAX_LETTERS are used: with n letters held, they stand
  *     from letters[WUMBYRA_MAX_LETTERS - n] on, the last page put first, and are a tape for wumbyra_parse;
  *   - the words, WUMBYRA_WORDS(n) of them for n letters, WUMBYRA_MAX_WORDS for any. They are those of wumbyra_parse, counted from the
  *     tape's end: words[2 * j + b] is for the last j letters, that is words[2 * (n - j) + b] of a parse of n letters.
+ *  After each put, with n letters held, look at words[2 * n + 1]. If it is 0, no tape of the pattern ends with these letters: withdraw the
+ *  page and fetch it again. wumbyra_desk_put says more.
  *  From an opening on, while nothing but these calls writes desk and letters, a desk answers as a plain stack of pages does. A desk and
  *  letters that a caller wrote are taken all the same, if they keep the limits. Each call has a pattern text of its own. If the words are
  *  right for the letters held under that text before a call, they are so after it; otherwise answers, desk and letters are the same, and
@@ -97,8 +107,8 @@
  *  No call takes memory from the heap. Calls inside a call go as deep as the pattern's tree, at most 64, and never with the
  *  tape or the code, so the stack is bounded: WUMBYRA_STACK_BYTES suffice on the deepest patterns, by measurement.
  *  wumbyra_parse takes at most letters * lines steps, and twice that where the code buffer has fewer than WUMBYRA_CODE_BYTES(n)
- *  bytes: below 3 milliseconds on the worst that was measured. A put looks at each letter held once and takes at most page * lines
- *  steps. The calls that take a code take at most (bits + 1) * lines steps:
+ *  bytes: below 3 milliseconds on the worst that was measured. wumbyra_locate takes at most 2 * letters * lines steps. A put looks at
+ *  each letter held once and takes at most page * lines steps. The calls that take a code take at most (bits + 1) * lines steps:
  *  bits may stand for empty rounds, or for more letters than a tape may have, and all of them are walked before the code is
  *  accepted or refused. The worst is a code of 65,536 bytes, each bit a round of 63 lines: a quarter of a second, and in
  *  wumbyra_span twice that. Whoever takes codes from others bounds the time by the bytes that it accepts: a code that this library
@@ -115,10 +125,10 @@ extern "C" {
 #endif
 
 /* The version of this header. wumbyra_version() tells that of the library that is linked: the two differ only where a program
- * was compiled with another header than its library's. What is added, a call, a kind of line, letters or accounts, raises the minor
- * number, and so does a rule that gives litres to other accounts; a call that is changed or dropped raises the major number. */
+ * was compiled with another header than its library's. What is added, a call, a cause, a kind of line, letters or accounts, raises the
+ * minor number, and so does a rule that gives litres to other accounts; a call that is changed or dropped raises the major number. */
 #define WUMBYRA_VERSION_MAJOR 1
-#define WUMBYRA_VERSION_MINOR 6
+#define WUMBYRA_VERSION_MINOR 7
 #define WUMBYRA_VERSION_PATCH 0
 #define WUMBYRA_VERSION_NUMBER (WUMBYRA_VERSION_MAJOR * 10000 + WUMBYRA_VERSION_MINOR * 100 + WUMBYRA_VERSION_PATCH)
 
@@ -138,7 +148,8 @@ enum {
     WUMBYRA_NOT_A_TERM = 12,
     WUMBYRA_DESK_LIMITS = 13,
     WUMBYRA_DESK_FULL = 14,
-    WUMBYRA_DESK_EMPTY = 15
+    WUMBYRA_DESK_EMPTY = 15,
+    WUMBYRA_CELLS_TOO_FEW = 20
 };
 
 /* ---- limits */
@@ -167,8 +178,9 @@ enum {
 #define WUMBYRA_MAX_CODE_BYTES 65536
 #define WUMBYRA_MAX_CODE_BITS 524288
 
-/* Accounts, 0 to 200, and the litres of all of them together at most: nine for each letter. A program that was compiled with the 10
- * of an older header lends ten cells for totals, and gets those of accounts 0 to 9. */
+/* Accounts, 0 to 200, and the litres of all of them together at most: nine for each letter. Lend WUMBYRA_ACCOUNTS cells for totals. A
+ * program that was compiled with the 10 of an older header lends ten and gets accounts 0 to 9. If an account from 10 on has litres, it
+ * is refused with 20 from 1.7.0 on, so it never bills a part of a tape as the whole. */
 #define WUMBYRA_ACCOUNTS 201
 #define WUMBYRA_MAX_LITRES 32400
 
@@ -199,7 +211,7 @@ enum {
 /* ---- dates */
 
 /* The number of a date. A month or a day above 99, or a year above 9999, would make the number of another date; for these it is 0,
- * which is none, and for a negative number as well. It is a constant where its arguments are, and it takes each of them twice. */
+ * which is no date, and for a negative number as well. It is a constant where its arguments are, and it takes each of them twice. */
 #define WUMBYRA_DATE(year, month, day) \
     ((uint64_t)(year) > 9999 || (uint64_t)(month) > 99 || (uint64_t)(day) > 99 \
          ? (uint32_t)0 \
@@ -236,6 +248,17 @@ static inline uint32_t wumbyra_span_length(uint64_t answer)
     return wumbyra_value(answer) & 0xffffu;
 }
 
+/* The parts of the value of wumbyra_locate. */
+static inline uint32_t wumbyra_locate_reach(uint64_t answer)
+{
+    return wumbyra_value(answer) >> 16;
+}
+
+static inline uint32_t wumbyra_locate_resume(uint64_t answer)
+{
+    return wumbyra_value(answer) & 0xffffu;
+}
+
 /* ---- calls */
 
 /* The version of the library: major * 10000 + minor * 100 + patch, as WUMBYRA_VERSION_NUMBER is of the header's. */
@@ -259,10 +282,29 @@ uint64_t wumbyra_load(const uint8_t *text, size_t text_len);
  * node l on with flag b; and the code's bytes, WUMBYRA_BYTES_OF_BITS(value) of them.
  *
  *   2, 3, 4, 6  words and code are left as they were
- *   5, 7        code is left as it was; words are filled */
+ *   5, 7        code is left as it was; words are filled
+ *
+ * After 5, ask wumbyra_locate where the tape breaks. */
 WUMBYRA_CHECK_ANSWER
 uint64_t wumbyra_parse(const uint8_t *text, size_t text_len, const uint8_t *tape, size_t tape_len, uint64_t *words,
                        size_t words_len, uint8_t *code, size_t code_len);
+
+/* Where a tape of n letters breaks, from 1.7.0 on. Ask for it when wumbyra_parse refuses the tape with 5.
+ *
+ * Order: 2, 3, 4. Value: reach << 16 | resume, which wumbyra_locate_reach and wumbyra_locate_resume take apart.
+ * No buffer is written.
+ *
+ *   reach   the greatest k such that the first k letters begin some tape of the pattern. If it is below n, tape[reach] is the first
+ *           letter that cannot follow: no tape of the pattern begins with the letters up to it and with it. If it is n, all letters begin
+ *           a tape, and one that is refused with 5 stops too early
+ *   resume  the least i such that the letters from i on end some tape of the pattern. If it is n, not even the last letter ends one. If
+ *           it is 0, all letters end one: of a tape that is refused with 5, letters before them may be missing
+ *
+ * Both are given for every tape, readable or not. A readable tape has reach n and resume 0, but a tape that is refused with 5 may have
+ * the same two: `a` by a pattern that reads `aba` and nothing else. Only wumbyra_parse tells whether a tape is readable. resume may be
+ * below reach. */
+WUMBYRA_CHECK_ANSWER
+uint64_t wumbyra_locate(const uint8_t *text, size_t text_len, const uint8_t *tape, size_t tape_len);
 
 /* What a code spells.
  *
@@ -312,12 +354,14 @@ uint64_t wumbyra_total(const uint8_t *text, size_t text_len, const uint8_t *code
 
 /* The litres of all accounts, by one pass over the code.
  *
- * Order: 2, 8, 3. Value: 0.
- * Written: litres[a] is the total of account a, for as many accounts from 0 on as cells are lent, and at most
- * WUMBYRA_ACCOUNTS; fewer cells are no refusal, and litres of accounts without a cell are then in none. Cells behind the last
- * account are left as they were.
+ * Order: 2, 8, 3, 20. Value: 0.
+ * Written: litres[a] is the total of account a, for as many accounts from 0 on as cells are lent, and at most WUMBYRA_ACCOUNTS. Cells
+ * after that of the last account are left as they were.
  *
- *   2, 8, 3  the same cells are written, and all with 0 */
+ *   20           an account without a cell has litres above 0. Fewer than WUMBYRA_ACCOUNTS cells are refused in this case only:
+ *                otherwise the cells that are lent have all litres of the tape. With WUMBYRA_ACCOUNTS cells 20 does not occur. Before
+ *                1.7.0 such litres were left out
+ *   2, 8, 3, 20  the same cells are written, and all with 0 */
 WUMBYRA_CHECK_ANSWER
 uint64_t wumbyra_totals(const uint8_t *text, size_t text_len, const uint8_t *code, size_t code_len, uint32_t count,
                         uint32_t *litres, size_t litres_len);
@@ -325,12 +369,13 @@ uint64_t wumbyra_totals(const uint8_t *text, size_t text_len, const uint8_t *cod
 /* The litres of all accounts within a billing term, from 1.3.0 on: those of the letters that are dated from `first` to `last`, both
  * included. `start` is the date of the first letter. Where terms part the days of the tape, their totals add up to wumbyra_totals.
  *
- * Order: 2, 8, 3, 11, 12. Value: 0.
+ * Order: 2, 8, 3, 11, 12, 20. Value: 0.
  * Written: the cells that wumbyra_totals writes. They are 0 where no letter is dated within the term.
  *
- *   11               the `D` that ends 31 December 2099 has this date, and any letter behind it has none, whatever the term; where
- *                    the tape has no letters the start is looked at all the same
- *   2, 8, 3, 11, 12  the same cells are written, and all with 0 */
+ *   11                   the `D` that ends 31 December 2099 has this date, and any letter after it has none, whatever the term. If the
+ *                        tape has no letters, the start is looked at all the same
+ *   20                   an account without a cell has litres above 0 within the term; litres outside it do not count
+ *   2, 8, 3, 11, 12, 20  the same cells are written, and all with 0 */
 WUMBYRA_CHECK_ANSWER
 uint64_t wumbyra_term_totals(const uint8_t *text, size_t text_len, const uint8_t *code, size_t code_len, uint32_t count,
                              uint32_t start, uint32_t first, uint32_t last, uint32_t *litres, size_t litres_len);
@@ -349,14 +394,21 @@ uint64_t wumbyra_desk_open(const uint8_t *text, size_t text_len, uint8_t *desk, 
 /* Puts a page before the letters held.
  *
  * Order: 2, 9, 13, 14, 4, 6. Value: the letters held then.
- * Written, where n letters were held and m are held then: the desk; the page, to letters[WUMBYRA_MAX_LETTERS - m] and behind it; its
+ * Written, where n letters were held and m are held then: the desk; the page, from letters[WUMBYRA_MAX_LETTERS - m] on; its
  * words, to words[2 * (n + 1)] up to words[2 * m + 1].
  *
- *   9                     value: 3,600. Cells behind these are neither read nor written
+ *   9                     value: 3,600. Cells after these are neither read nor written
  *   13                    before 14: a page of a wrong length is told so on a full desk too
  *   4                     value: the position in the page
  *   6                     value: WUMBYRA_WORDS(m), the words needed with the page
- *   2, 9, 13, 14, 4, 6    desk, letters and words are left as they were */
+ *   2, 9, 13, 14, 4, 6    desk, letters and words are left as they were
+ *
+ * After a put, look at words[2 * m + 1]. If it is 0, no tape of the pattern ends with the m letters held, whatever letters still come:
+ * withdraw the page and fetch it again. If the same page comes again, an earlier page or the pattern may be wrong: open the desk and fetch
+ * all pages anew, then check the pattern. If the word is not 0, the page may be wrong all the same. Bit l of the word, where l is the place
+ * of the last line, is 1 exactly if the letters held are a tape by themselves, which wumbyra_parse reads. All this holds while the words
+ * are right for the letters held: from an opening on, under the same text. Ask only with letters held: words[1] may be 0, and tapes end
+ * there all the same. */
 WUMBYRA_CHECK_ANSWER
 uint64_t wumbyra_desk_put(const uint8_t *text, size_t text_len, uint8_t *desk, size_t desk_len, const uint8_t *page, size_t page_len,
                           uint8_t *letters, size_t letters_len, uint64_t *words, size_t words_len);

@@ -7,6 +7,7 @@ void drop(const uint8_t *in, uint8_t *out, uint64_t *words, uint32_t *litres)
 {
     wumbyra_load(in, 1);
     wumbyra_parse(in, 1, in, 1, words, 4, out, 25);
+    wumbyra_locate(in, 1, in, 1);
     wumbyra_flatten(in, 1, in, 1, 8, out, 1);
     wumbyra_canonicalize(in, 1, in, 1, 8, out, 1, words, 4, out + 1, 25);
     wumbyra_span(in, 1, in, 1, in, 1, 8, 0, 0);

@@ -91,6 +91,33 @@ static void try_stale(void)
         failed = 1;
 }
 
+/* A code with litres of account 200, in fewer cells. A program that knows ten accounts lends ten, and is told that these are too few; so is one
+ * that lends none for account 200. */
+static void try_few_cells(const uint8_t *text, size_t len, const uint8_t *code, uint32_t bits)
+{
+    enum { old_accounts = 10 };
+    const uint32_t day = WUMBYRA_DATE(2024, 2, 29), next = WUMBYRA_DATE(2024, 3, 1);
+    const size_t size = WUMBYRA_BYTES_OF_BITS(bits);
+    uint32_t litres[WUMBYRA_ACCOUNTS], i;
+    memset(litres, 7, sizeof litres);
+    expect("ten cells", wumbyra_totals(text, len, code, size, bits, litres, old_accounts), WUMBYRA_CELLS_TOO_FEW, 0);
+    for (i = 0; i < WUMBYRA_ACCOUNTS; i++)
+        if (litres[i] != (i < old_accounts ? 0 : 0x07070707))
+            failed = 1;
+    expect("no cell for account 200", wumbyra_totals(text, len, code, size, bits, litres, 200), WUMBYRA_CELLS_TOO_FEW, 0);
+    expect("no cell at all", wumbyra_totals(text, len, code, size, bits, litres, 0), WUMBYRA_CELLS_TOO_FEW, 0);
+    memset(litres, 7, sizeof litres);
+    expect("a term, ten cells", wumbyra_term_totals(text, len, code, size, bits, day, day, day, litres, old_accounts),
+           WUMBYRA_CELLS_TOO_FEW, 0);
+    if (litres[0] != 0 || litres[old_accounts - 1] != 0 || litres[old_accounts] != 0x07070707)
+        failed = 1;
+    /* It is the last cause, and litres outside the term do not count. */
+    expect("few cells for no code", wumbyra_totals(text, len, code, size, bits - 1, litres, 1), WUMBYRA_NOT_A_CODE, 0);
+    expect("few cells for no start", wumbyra_term_totals(text, len, code, size, bits, 0, day, day, litres, 1), WUMBYRA_TAPE_UNDATED, 0);
+    expect("few cells for no term", wumbyra_term_totals(text, len, code, size, bits, day, day, 0, litres, 1), WUMBYRA_NOT_A_TERM, 0);
+    expect("a day later, one cell", wumbyra_term_totals(text, len, code, size, bits, day, next, next, litres, 1), WUMBYRA_OK, 0);
+}
+
 /* A block's meters: a digit behind `w` is for account 20, behind `g` for account 100, behind `b` for account 200; one without such a letter
  * has the star's account, 99, which is not 9 and takes nothing from the others. */
 static void try_many_accounts(void)
@@ -99,7 +126,7 @@ static void try_many_accounts(void)
                                 "6\tL\t-\tb\n7\tR\t200\t0\t9\n8\tS\t-\t6\t7\n9\tR\t-\t0\t9\n"
                                 "10\tA\t-\t2\t5\n11\tA\t-\t10\t8\n12\tA\t-\t11\t9\n13\tK\t99\t12\n";
     static const char read[] = "3w4g5b67";
-    enum { letters = 8, old_accounts = 10 };
+    enum { letters = 8 };
     const uint32_t day = WUMBYRA_DATE(2024, 2, 29);
     const uint8_t *text = (const uint8_t *)block;
     const size_t len = sizeof block - 1;
@@ -123,12 +150,7 @@ static void try_many_accounts(void)
     expect("total of account 200", wumbyra_total(text, len, code, size, bits, 200), WUMBYRA_OK, 6);
     expect("total of account 201", wumbyra_total(text, len, code, size, bits, 201), WUMBYRA_OK, 0);
     expect("total of account 456", wumbyra_total(text, len, code, size, bits, 256 + 200), WUMBYRA_OK, 0);
-    /* A program that knows ten accounts lends ten cells, and gets these. */
-    memset(litres, 7, sizeof litres);
-    expect("ten cells", wumbyra_totals(text, len, code, size, bits, litres, old_accounts), WUMBYRA_OK, 0);
-    for (i = 0; i < WUMBYRA_ACCOUNTS; i++)
-        if (litres[i] != (i < old_accounts ? 0 : 0x07070707))
-            failed = 1;
+    try_few_cells(text, len, code, bits);
     expect("totals refused", wumbyra_totals(text, len, code, size, bits - 1, litres, WUMBYRA_ACCOUNTS), WUMBYRA_NOT_A_CODE, 0);
     for (i = 0; i < WUMBYRA_ACCOUNTS; i++)
         if (litres[i] != 0)
@@ -224,6 +246,44 @@ static void try_desk(void)
     expect("desk: a full one", wumbyra_desk_put(text, len, desk, size, bad, 2, cells, sizeof cells, words, 8), WUMBYRA_DESK_FULL, 0);
 }
 
+/* Where tapes break: at a letter that cannot follow, at the end, or not at all. The pattern is the example's. */
+static void try_locate(void)
+{
+    static const struct {
+        const char *tape;
+        uint32_t reach, resume;
+    } rows[] = {
+        {"", 0, 0},           /* no letter: it is readable */
+        {"3W2", 3, 0},        /* readable */
+        {"3WW2", 2, 2},       /* the second W cannot follow, and W2 can be read */
+        {"3Wx2", 2, 3},       /* nor can x */
+        {"3W", 2, 2},         /* it stops too early */
+        {"3xx", 1, 3},        /* no letter at its end can be read */
+    };
+    static const char abc[] = "0\tL\t-\ta\n1\tL\t-\tb\n2\tS\t-\t0\t1\n3\tL\t-\tc\n4\tS\t-\t2\t3\n";
+    static const uint8_t bad[] = {'3', 'W', ' ', 127};
+    static uint8_t many[WUMBYRA_MAX_LETTERS + 1];
+    const uint8_t *text = (const uint8_t *)pattern;
+    const size_t len = sizeof pattern - 1;
+    uint64_t answer;
+    size_t i;
+    for (i = 0; i < sizeof rows / sizeof *rows; i++) {
+        answer = wumbyra_locate(text, len, (const uint8_t *)rows[i].tape, strlen(rows[i].tape));
+        expect(rows[i].tape, answer, WUMBYRA_OK, rows[i].reach << 16 | rows[i].resume);
+        if (wumbyra_locate_reach(answer) != rows[i].reach || wumbyra_locate_resume(answer) != rows[i].resume)
+            failed = 1;
+    }
+    /* No tape of this pattern begins with b, and "bc" ends one. */
+    expect("locate: no first letter", wumbyra_locate((const uint8_t *)abc, sizeof abc - 1, (const uint8_t *)"bc", 2), WUMBYRA_OK, 0);
+    expect("locate: no text", wumbyra_locate(text, 0, many, sizeof many), WUMBYRA_TREE, 0);
+    expect("locate: 3,601 letters", wumbyra_locate(text, len, many, sizeof many), WUMBYRA_TAPE_TOO_LONG, 0);
+    expect("locate: a byte that is no letter", wumbyra_locate(text, len, bad, sizeof bad), WUMBYRA_TAPE_BYTE, 2);
+    memset(many, '9', sizeof many);
+    expect("locate: the longest tape", wumbyra_locate(text, len, many, WUMBYRA_MAX_LETTERS), WUMBYRA_OK, WUMBYRA_MAX_LETTERS << 16);
+    answer = wumbyra_locate(text, len, (const uint8_t *)"3Wx2", 4);
+    printf("locate\t%u\t%u\n", wumbyra_locate_reach(answer), wumbyra_locate_resume(answer));
+}
+
 int main(void)
 {
     enum { letters = 3 };
@@ -256,8 +316,12 @@ int main(void)
     if (litres[WUMBYRA_ACCOUNTS] != 7)
         failed = 1;
     litres[1] = 7;
-    expect("totals of one account", wumbyra_totals(text, len, code, 3, bits, litres, 1), WUMBYRA_OK, 0);
+    expect("totals in one cell", wumbyra_totals(text, len, code, 3, bits, litres, 1), WUMBYRA_CELLS_TOO_FEW, 0);
     if (litres[0] != 0 || litres[1] != 7)
+        failed = 1;
+    litres[10] = 7;
+    expect("totals in ten cells", wumbyra_totals(text, len, code, 3, bits, litres, 10), WUMBYRA_OK, 0);
+    if (litres[1] != 3 || litres[9] != 2 || litres[10] != 7)
         failed = 1;
     expect("totals refused", wumbyra_totals(text, len, code, 3, 25, litres, 2), WUMBYRA_NOT_A_CODE, 0);
     if (litres[0] != 0 || litres[1] != 0 || litres[9] != 2)
@@ -282,6 +346,7 @@ int main(void)
     try_many_accounts();
     try_terms();
     try_desk();
+    try_locate();
     expect("count past the bytes", wumbyra_total(text, len, code, 3, 25, 1), WUMBYRA_NOT_A_CODE, 0);
     return failed;
 }

@@ -2,6 +2,7 @@
 
 import os
 import pathlib
+import shutil
 import subprocess
 import sys
 import tempfile
@@ -13,6 +14,23 @@ import wumbyra
 
 HERE = pathlib.Path(__file__).resolve().parent
 TELL = "import wumbyra._library as found; print(found.LIBRARY._name)"
+CALLER = """
+from typing import List, Optional
+from wumbyra import Code, Located, Pattern, Refused
+pattern = Pattern(b"")
+parsed = pattern.parse(b"")
+one: List[int] = pattern.totals(parsed)
+two: List[int] = pattern.totals(parsed.code, parsed.bits)
+three: Code = pattern.canonicalize(pattern.canonicalize(parsed))
+four: int = pattern.total(parsed, 9) + pattern.total(b"", 0, account=9)
+five: bytes = pattern.flatten(three) + pattern.piece(b"", three, 0, 0) + pattern.piece(b"", b"", 0, 0, 0)
+six: List[int] = pattern.term_totals(parsed, "2024-02-27", (2024, 2, 28), [2024, 2, 29])
+seven: Located = pattern.locate(b"")
+eight: int = seven.reach + pattern.locate(b"").resume
+nine: Optional[int] = Refused(5, 0).reach or Refused(5, 0).resume
+pattern.totals("")  # type: ignore[call-overload]
+pattern.total(parsed, parsed.bits, 9)  # type: ignore[call-overload]
+"""
 
 
 def python(*arguments, **changed):
@@ -44,7 +62,7 @@ class Wheel(unittest.TestCase):
     def test_what_it_holds(self):
         self.assertEqual(self.name, f"wumbyra-{wumbyra.__version__}-py3-none-linux_x86_64.whl")
         about = [f"wumbyra-{wumbyra.__version__}.dist-info/{name}" for name in ("METADATA", "RECORD", "WHEEL")]
-        sources = "__init__.py", "_library.py", "_refused.py", "_subpattern.py"
+        sources = "__init__.py", "_arguments.py", "_breaks.py", "_faults.py", "_library.py", "_refused.py", "_subpattern.py"
         package = [f"wumbyra/{name}" for name in (*sources, "libwumbyra.so", "py.typed")]
         self.assertEqual(sorted(self.files), sorted(about + package))
 
@@ -79,12 +97,57 @@ class Wheel(unittest.TestCase):
     def test_a_library_of_another_version_is_refused(self):
         with tempfile.TemporaryDirectory() as room:
             source, other = pathlib.Path(room, "other.c"), pathlib.Path(room, "other.so")
-            for number in [10500, 20600]:
+            for number in [10600, 20700]:
                 source.write_text(f"unsigned wumbyra_version(void) {{ return {number}; }}\n")
                 subprocess.run(["gcc", "-shared", "-fPIC", "-o", str(other), str(source)], check=True)
                 refused = python("-c", TELL, PYTHONPATH=self.site, WUMBYRA_LIBRARY=other)
-                words = f"ImportError: this package is for version 1 of the library from 1.6 on, and the one found says {number}"
+                words = f"ImportError: this package is for version 1 of the library from 1.7 on, and the one found says {number}"
                 self.assertIn(words, refused.stderr)
+
+    def test_a_library_that_is_none_of_wumbyra_is_one_sentence(self):
+        with tempfile.TemporaryDirectory() as room:
+            source, other = pathlib.Path(room, "other.c"), pathlib.Path(room, "other.so")
+            for content, name in [("", "wumbyra_version"), ("unsigned wumbyra_version(void) { return 10700; }\n", "wumbyra_load")]:
+                source.write_text(content)
+                subprocess.run(["gcc", "-shared", "-fPIC", "-o", str(other), str(source)], check=True)
+                refused = python("-c", TELL, PYTHONPATH=self.site, WUMBYRA_LIBRARY=other)
+                self.assertNotIn("AttributeError", refused.stderr)
+                words = f"ImportError: {other} is no library of Wumbyra, or not all of it: it has no {name}"
+                self.assertEqual(refused.stderr.splitlines()[-1], words)
+
+    def test_a_file_that_is_no_library_is_one_sentence(self):
+        with tempfile.TemporaryDirectory() as room:
+            site, system = pathlib.Path(room, "site"), pathlib.Path(room, "system")
+            shutil.copytree(self.bare, site)
+            system.mkdir()
+            inside, installed = site / "wumbyra/libwumbyra.so", system / "libwumbyra.so.1"
+            for file in (inside, installed):
+                file.write_text("no library")
+            for variables, words in [
+                ({"PYTHONPATH": self.bare, "WUMBYRA_LIBRARY": inside}, f"WUMBYRA_LIBRARY names a library that cannot be loaded: {inside}: "),
+                ({"PYTHONPATH": site}, f"the library that was installed with this package cannot be loaded: {inside}: "),
+                ({"PYTHONPATH": self.bare, "LD_LIBRARY_PATH": system}, f"; the system's loader says: {installed}: "),
+            ]:
+                refused = python("-c", TELL, **variables)
+                last = refused.stderr.splitlines()[-1]
+                self.assertTrue(last.startswith("ImportError: ") and words in last, last)
+
+    def test_its_types_are_checked(self):
+        if python("-m", "mypy", "--version").returncode == 0:
+            checked = [sys.executable, "-m", "mypy"]
+        elif shutil.which("mypy"):
+            checked = ["mypy"]
+        else:
+            self.skipTest("there is no mypy")
+        with tempfile.TemporaryDirectory() as room:
+            # What a caller may write, both ways of handing over a code, and what it may not.
+            caller = pathlib.Path(room, "caller.py")
+            caller.write_text(CALLER)
+            done = subprocess.run(
+                [*checked, "--strict", "--cache-dir", room, str(HERE / "wumbyra"), str(caller)],
+                env={**os.environ, "MYPYPATH": str(HERE)}, capture_output=True, text=True, cwd=room,
+            )  # fmt: skip
+            self.assertEqual(done.returncode, 0, done.stdout + done.stderr)
 
     def test_a_missing_archive_is_one_sentence(self):
         with tempfile.TemporaryDirectory() as empty:

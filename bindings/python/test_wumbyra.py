@@ -1,5 +1,5 @@
-"""The worked examples of the scope, terms, page desks, pieces that stand by themselves, refusals, numbers of any size, totals in any number
-of cells, and the version."""
+"""The worked examples of the scope, what calls take, terms, page desks, pieces that stand by themselves, where tapes break, refusals and
+their words, numbers of any size, totals in any number of cells, and the version."""
 
 import concurrent.futures
 import copy
@@ -15,8 +15,9 @@ import unittest
 from array import array
 
 import wumbyra
-from wumbyra import ACCOUNTS, CAUSES, MAX_LETTERS, MAX_PAGE_LETTERS, MAX_PAGES, Desk, Pattern, Refused, version
+from wumbyra import ACCOUNTS, CAUSES, MAX_LETTERS, MAX_PAGE_LETTERS, MAX_PAGES, Desk, Located, Pattern, Refused, version
 from wumbyra._library import LIBRARY
+from wumbyra._refused import PAGE_BYTE
 
 LISTING = b"0\tR\t-\t0\t9\n1\tL\t-\tW\n2\tS\t9\t1\t0\n3\tR\t1\t0\t9\n4\tA\t-\t2\t3\n5\tK\t-\t4\n"
 P1 = b"0\tL\t-\ta\n1\tE\t-\n2\tA\t-\t0\t1\n3\tK\t-\t2\n"
@@ -165,12 +166,73 @@ class Services(Case):
         self.assertRaises(TypeError, pattern.parse, "3W2")
         self.assertRaises(TypeError, pattern.parse, 3)
 
+    def test_what_is_wider_than_a_byte_is_not_taken(self):
+        pattern = Pattern(LISTING)
+        found, bits, _ = pattern.parse(b"3W2")
+        for kind in "HILQfd":
+            wide = array(kind, list(b"3W2"))
+            for call, given in [
+                (Pattern, [array(kind, list(LISTING))]),
+                (pattern.parse, [wide]),
+                (pattern.parse, [memoryview(wide)]),
+                (pattern.totals, [array(kind, list(found)), bits]),
+                (pattern.span, [wide, found, bits, 0, 0]),
+                (pattern.piece, [b"3W2", array(kind, list(found)), bits, 0, 0]),
+                (Desk(pattern).put, [wide]),
+            ]:
+                with self.assertRaisesRegex(TypeError, f"^bytes are due, and the items of this .* have {wide.itemsize} bytes each$"):
+                    call(*given)
+        self.assertEqual(pattern.parse(array("b", b"3W2")).bits, bits)
+        self.assertEqual(pattern.parse((ctypes.c_uint8 * 3)(*b"3W2")).bits, bits)
+
+    def test_what_parse_gives_is_a_code(self):
+        pattern, tape = Pattern(DAYS), b"1D2W3"
+        parsed = pattern.parse(tape)
+        canonical = pattern.canonicalize(parsed)
+        self.assertEqual(canonical, parsed[:2])
+        self.assertEqual([type(parsed), type(canonical)], [wumbyra.Parsed, wumbyra.Code])
+        days = FIRST_DAY, FIRST_DAY, FIRST_DAY
+        for one in [parsed, canonical]:
+            both = one[:2]
+            self.assertEqual(pattern.canonicalize(one), canonical)
+            self.assertEqual(pattern.flatten(one), tape)
+            self.assertEqual(pattern.totals(one), pattern.totals(*both))
+            self.assertEqual(pattern.total(one, 9), 3)
+            self.assertEqual(pattern.term_totals(one, *days), pattern.term_totals(*both, *days))
+            self.assertEqual(pattern.span(tape, one, 2, 0), (3, 2))
+            self.assertEqual(pattern.piece(tape, one, 2, 0), b"W3")
+            # By name, too, alone and with the others.
+            self.assertEqual(pattern.totals(code=one), pattern.totals(code=both[0], bits=both[1]))
+            self.assertEqual(pattern.total(one, account=9), pattern.total(*both, account=9))
+            self.assertEqual(pattern.span(tape, code=one, node=2, visit=0), (3, 2))
+            self.assertEqual(pattern.term_totals(one, start=days[0], first=days[1], last=days[2]), litres({1: 1}))
+            for call, given, named in [
+                (pattern.totals, [one, one.bits], {}),
+                (pattern.totals, [one], {"bits": one.bits}),
+                (pattern.totals, [], {"code": one, "bits": one.bits}),
+                (pattern.total, [one], {}),
+                (pattern.totals, [tuple(both)], {}),
+                (pattern.totals, [both[0]], {}),
+                (pattern.parse, [one], {}),
+            ]:
+                self.assertRaises(TypeError, call, *given, **named)
+        self.refused(8, 0, Pattern(P1).totals, parsed)
+
+    def test_patterns_are_equal_by_their_text(self):
+        one, same, other = Pattern(LISTING), Pattern(bytearray(LISTING)), Pattern(P1)
+        self.assertTrue(one == same and not one != same and one != other and not one == other)
+        self.assertEqual((hash(one), len({one, same, other}), {one: 1}[same]), (hash(same), 2, 1))
+        self.assertEqual(pickle.loads(pickle.dumps(one)), one)
+        self.assertEqual([one == given for given in (LISTING, None, 6)], 3 * [False])
+        self.assertEqual(Desk(one).pattern, same)
+
     def test_totals_in_any_number_of_cells(self):
         found, bits, _ = Pattern(LISTING).parse(b"3W2")
         for cells in [*range(13), *range(ACCOUNTS - 2, ACCOUNTS + 4)]:
             written = min(cells, ACCOUNTS)
-            # The library sees the first cells only, those behind them are canaries.
-            for count, number, totals in [(bits, 0, litres({1: 3, 9: 2})), (bits + 1, 8, litres({}))]:
+            # The library sees the first cells only, those after them are canaries. Account 9 has litres: without its cell it is 20.
+            given = (bits, 0, litres({1: 3, 9: 2})) if cells > 9 else (bits, 20, litres({}))
+            for count, number, totals in [given, (bits + 1, 8, litres({}))]:
                 lent = (ctypes.c_uint32 * ROOM)(*(ROOM * [77]))
                 answer = LIBRARY.wumbyra_totals(LISTING, len(LISTING), found, len(found), count, lent, cells)
                 self.assertEqual(answer, number << 32)
@@ -259,21 +321,46 @@ class Terms(Case):
             for first, last in [(LAST_DAY, LAST_DAY), (FIRST_DAY, FIRST_DAY), (LAST_DAY, FIRST_DAY), (none, none)]:
                 self.refused(11, 0, pattern.term_totals, *pattern.parse(tape)[:2], LAST_DAY, first, last)
 
+    def test_dates_in_letters(self):
+        pattern = Pattern(DAYS)
+        parsed = pattern.parse(b"1D2W3DD4")
+        self.assertEqual(pattern.term_totals(parsed, "2024-02-27", "2024-02-28", "2024-03-01"), litres({1: 6, 9: 3}))
+        self.assertEqual(pattern.term_totals(parsed, "2024-02-27", (2024, 2, 28), datetime.date(2024, 3, 1)), litres({1: 6, 9: 3}))
+        for given in ["2023-02-29", "2024-00-01", "2024-13-01", "2024-01-32", "1999-12-31", "2100-01-01", "0000-00-00"]:
+            self.refused(11, 0, pattern.term_totals, parsed, given, FIRST_DAY, LAST_DAY)
+            self.refused(12, 0, pattern.term_totals, parsed, "2024-02-27", given, LAST_DAY)
+        for given in ["", "day", "20240227", "2024-2-27", "2024-02-27 ", "2024-02-27\n", "2024/02/27", "-2024-02-27", "\u0662024-02-27"]:
+            with self.assertRaises(ValueError) as caught:
+                pattern.term_totals(parsed, given, FIRST_DAY, LAST_DAY)
+            self.assertEqual(str(caught.exception), f"a date in letters is written as 2024-02-27, and not as {given!r}")
+
     def test_what_is_not_three_numbers(self):
         pattern = Pattern(DAYS)
         for given in [(2024, -1, 1), (-1, 1, 1), (2024, 1, -(2**32)), (2024, 1), (2024, 1, 1, 1)]:
             for dates in [(given, FIRST_DAY, LAST_DAY), (FIRST_DAY, given, LAST_DAY), (FIRST_DAY, LAST_DAY, given)]:
                 self.assertRaises(ValueError, pattern.term_totals, b"", 0, *dates)
-        for given in [20240101, "day", (2024, 1, 1.0), (2024, "1", 1), None]:
+        for given in [(2024, 1, 1.0), (2024, "1", 1), [2024, None, 1]]:
             self.assertRaises(TypeError, pattern.term_totals, b"", 0, given, FIRST_DAY, LAST_DAY)
+        self.refused(8, 0, pattern.term_totals, b"", 0, [2024, 1, 1], FIRST_DAY, LAST_DAY)
+
+    def test_what_is_no_kind_of_date(self):
+        pattern = Pattern(DAYS)
+        # Three bytes and three numbers of a set or dict can be gone through, and are no date all the same.
+        for given in [20240101, 2024.5, None, b"2024-01-01", b"\1\2\3", {2024, 1, 2}, {2024: 0, 1: 0, 2: 0}, iter((2024, 1, 1))]:
+            words = f"a date is a datetime.date, a text as '2024-02-27' or three numbers, and not of type {type(given).__name__}"
+            for dates in [(given, FIRST_DAY, LAST_DAY), (FIRST_DAY, given, LAST_DAY), (FIRST_DAY, LAST_DAY, given)]:
+                with self.assertRaises(TypeError) as caught:
+                    pattern.term_totals(b"", 0, *dates)
+                self.assertEqual(str(caught.exception), words)
 
     def test_terms_in_any_number_of_cells(self):
         found, bits, _ = Pattern(DAYS).parse(b"1D2W3")
         due, none = litres({1: 2, 9: 3}), litres({})
         for cells in [*range(13), *range(ACCOUNTS - 2, ACCOUNTS + 4)]:
             written = min(cells, ACCOUNTS)
-            # The library sees the first cells only, those behind them are canaries.
-            for last, number, totals in [(20250101, 0, due), (20241231, 12, none), (20250100, 12, none)]:
+            # The library sees the first cells only, those after them are canaries. Account 9 has litres: without its cell it is 20.
+            given = (20250101, 0, due) if cells > 9 else (20250101, 20, none)
+            for last, number, totals in [given, (20241231, 12, none), (20250100, 12, none)]:
                 lent = (ctypes.c_uint32 * ROOM)(*(ROOM * [77]))
                 dates = 20241231, 20250101, last
                 answer = LIBRARY.wumbyra_term_totals(DAYS, len(DAYS), found, len(found), bits, *dates, lent, cells)
@@ -304,6 +391,9 @@ class Desks(Case):
         for page in [b"", (MAX_PAGE_LETTERS + 1) * b"3"]:
             self.refused(13, 0, desk.put, page)
         self.refused(4, 1, desk.put, b"3 ")
+        with self.assertRaises(Refused) as caught:
+            desk.put(b"3 ")
+        self.assertEqual(str(caught.exception), "the byte at position 1 of the page is no letter")
         self.assertRaises(TypeError, desk.put, "3")
         self.assertEqual((desk.letters, desk.pages, desk.words), held)
         again = pickle.loads(pickle.dumps(desk.letters))
@@ -322,6 +412,12 @@ class Desks(Case):
         for page in reversed(range(MAX_PAGES)):
             self.assertEqual(desk.withdraw(), page * MAX_PAGE_LETTERS)
         self.refused(15, 0, desk.withdraw)
+
+    def test_a_desk_has_a_pattern(self):
+        for given in [LISTING, LISTING.decode(), None, Desk(Pattern(LISTING))]:
+            with self.assertRaises(TypeError) as caught:
+                Desk(given)
+            self.assertEqual(str(caught.exception), f"a desk is opened with a Pattern, and this is of type {type(given).__name__}")
 
     def test_a_desk_is_copied(self):
         desk = Desk(Pattern(LISTING))
@@ -565,10 +661,12 @@ class Refusals(Case):
         self.assertRaises(TypeError, pattern.flatten, found, 3.0)
 
     def test_a_refusal_is_copied_and_pickled(self):
-        for refused in [Refused(4, 17), Refused(15, 0), Refused(99, 0)]:
+        words = Refused(1, 2, "pattern, line 2: it is empty")
+        for refused in [Refused(4, 17), Refused(15, 0), Refused(99, 0), words, Refused(5, 0, "", 3, 4), Refused(5, 0, "here", 0, 0)]:
             for again in [copy.copy(refused), copy.deepcopy(refused), pickle.loads(pickle.dumps(refused))]:
                 self.assertEqual((type(again), again.number, again.value), (Refused, refused.number, refused.value))
                 self.assertEqual(str(again), str(refused))
+                self.assertEqual((again.words, again.reach, again.resume), (refused.words, refused.reach, refused.resume))
 
     def test_a_refusal_comes_back_from_a_process(self):
         fresh = multiprocessing.get_context("spawn")
@@ -576,15 +674,74 @@ class Refusals(Case):
             good, bad = pool.submit(read, b"3W2"), pool.submit(read, b"3W")
             self.assertEqual(good.result(60), read(b"3W2"))
             self.refused(5, 0, bad.result, 60)
+            self.assertEqual((bad.exception().reach, bad.exception().resume), (2, 2))
+            self.assertIn("the tape stops too early, after 3W", str(bad.exception()))
 
     def test_each_cause_has_words(self):
-        self.assertEqual(list(CAUSES), list(range(1, 16)))
+        self.assertEqual(list(CAUSES), [*range(1, 16), 20])
         self.assertEqual(str(Refused(4, 17)), "the byte at position 17 of the tape is no letter")
         self.assertIn("number 99 with value 0", str(Refused(99, 0)))
         # The same words as those of the Rust wrapper, which has {line}, {position} or {needed} where this one has {value}.
         rust = (REPOSITORY / "bindings/rust/src/refusal.rs").read_text()
-        there = {re.sub(r"\{\w+\}", "{value}", words) for words in re.findall(r'write!\(\s*f,\s+"([^"]*)"', rust)}
-        self.assertLessEqual(set(CAUSES.values()), there)
+        found = re.findall(r'(?:write!\(\s*f,|: &str =)\s+"([^"]*)"', rust)
+        there = {re.sub(r"\{\w+\}", "{value}", words) for words in found}
+        self.assertLessEqual({*CAUSES.values(), PAGE_BYTE}, there)
+
+    def test_what_is_wrong_with_a_line(self):
+        """Each fault of a table that tapelist and Rust are tested by, too."""
+        rows = (REPOSITORY / "tests/tapelist/faults.tsv").read_text().splitlines()
+        self.assertGreater(len(rows), 100)
+        for name, number, value, words, text in (row.split("\t") for row in rows):
+            with self.subTest(name), self.assertRaises(Refused) as caught:
+                Pattern(text.encode().decode("unicode_escape").encode("latin-1"))
+            why = caught.exception
+            self.assertEqual((why.number, why.value, str(why)), (int(number), int(value), f"pattern, {words}"), name)
+            self.assertEqual(why.cause, str(Refused(int(number), int(value))))
+        # Whatever the text, there are words.
+        for text in [b"0\tE\t-\n" + 10**6 * b"\t", 10**6 * b"\n", 10**6 * b"9", bytes(range(256)), b"\0", b"\xff"]:
+            with self.assertRaises(Refused) as caught:
+                Pattern(text)
+            self.assertRegex(str(caught.exception), r"\Apattern, line [01]: .{5,120}\Z")
+
+
+class Breaks(Case):
+    def test_where_a_tape_breaks(self):
+        """Each row of a table that tapelist and Rust are tested by, too."""
+        rows = (REPOSITORY / "tests/tapelist/breaks.tsv").read_text().splitlines()
+        self.assertGreater(len(rows), 20)
+        for row in rows:
+            name, reach, resume, words, text, tape = row.split("\t")
+            tape, text = (field.encode().decode("unicode_escape").encode("latin-1") for field in (tape, text))
+            pattern, due = Pattern(text), Located(int(reach), int(resume))
+            for given in [tape, bytearray(tape), memoryview(tape)]:
+                self.assertEqual(pattern.locate(given), due, name)
+                with self.subTest(name), self.assertRaises(Refused) as caught:
+                    pattern.parse(given)
+            why = caught.exception
+            self.assertEqual((why.number, why.value, why.reach, why.resume), (5, 0, *due), name)
+            self.assertEqual(str(why), f"no parse of the pattern spells the tape: {words}")
+            self.assertEqual(why.cause, "no parse of the pattern spells the tape")
+
+    def test_tapes_that_can_be_read(self):
+        pattern = Pattern(LISTING)
+        for tape in [b"", b"3", b"3W2", MAX_LETTERS * b"7"]:
+            self.assertEqual(pattern.locate(tape), (len(tape), 0))
+        self.assertEqual(repr(pattern.locate(b"3W2")), "Located(reach=3, resume=0)")
+
+    def test_the_order_of_checks(self):
+        pattern = Pattern(LISTING)
+        self.refused(3, 0, pattern.locate, 3601 * b" ")
+        self.refused(4, 2, pattern.locate, b"xx  ")
+        self.assertRaises(TypeError, pattern.locate, "3W2")
+        pattern.text = b""
+        self.refused(2, 0, pattern.locate, 3601 * b" ")
+
+    def test_other_refusals_have_no_position(self):
+        for call, given in [(Pattern, b""), (Pattern(P1).parse, b"a b"), (Desk(Pattern(P1)).put, b"")]:
+            with self.assertRaises(Refused) as caught:
+                call(given)
+            self.assertEqual((caught.exception.reach, caught.exception.resume), (None, None))
+        self.assertEqual((Refused(5, 0).reach, str(Refused(5, 0))), (None, CAUSES[5]))
 
 
 class Package(unittest.TestCase):

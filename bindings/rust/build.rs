@@ -5,6 +5,8 @@ use std::path::{Path, PathBuf};
 use std::process::{exit, Command};
 
 const ARCHIVE: &str = "libwumbyra.a";
+/// The call that came last: an archive without it is that of another library, or of an older version.
+const NEWEST: &str = "wumbyra_locate";
 
 /// The folder that pkg-config tells, if the archive is in it.
 fn installed() -> Option<PathBuf> {
@@ -21,6 +23,28 @@ fn in_repository() -> PathBuf {
     Path::new(&here).join("../../target/staticlib")
 }
 
+/// Why the archive cannot be linked, if it cannot. The linker would say it in a line for each call.
+fn fault(archive: &Path) -> Option<String> {
+    let shown = archive.display();
+    if !archive.is_file() {
+        return Some(format!(
+            "{shown} is missing: run `rt staticlib wumbyra` in the repository of Wumbyra, which writes it, or let WUMBYRA_LIB_DIR name the \
+             folder that has it."
+        ));
+    }
+    let bytes = match std::fs::read(archive) {
+        Ok(bytes) => bytes,
+        Err(error) => return Some(format!("{shown} cannot be read: {error}")),
+    };
+    let mut names = bytes.windows(NEWEST.len());
+    if names.any(|name| name == NEWEST.as_bytes()) {
+        return None;
+    }
+    Some(format!(
+        "{shown} is no library of Wumbyra, or not all of it: it has no {NEWEST}"
+    ))
+}
+
 fn main() {
     for variable in ["WUMBYRA_LIB_DIR", "PKG_CONFIG_PATH"] {
         println!("cargo:rerun-if-env-changed={variable}");
@@ -34,12 +58,8 @@ fn main() {
     };
     let archive = folder.join(ARCHIVE);
     println!("cargo:rerun-if-changed={}", archive.display());
-    if !archive.is_file() {
-        eprintln!(
-            "{} is missing: run `rt staticlib wumbyra` in the repository of Wumbyra, which writes it, or let WUMBYRA_LIB_DIR name the \
-             folder that has it.",
-            archive.display()
-        );
+    if let Some(words) = fault(&archive) {
+        eprintln!("{words}");
         exit(1);
     }
     println!("cargo:rustc-link-search=native={}", folder.display());

@@ -2,6 +2,8 @@
 
 from __future__ import annotations
 
+from typing import Optional
+
 # The causes by number, in words; `value` is what the library returns beside the number.
 CAUSES = {
     1: "line {value} of the pattern has not the form of a line",
@@ -19,21 +21,45 @@ CAUSES = {
     13: "a page of no letter or over 120, or a desk that breaks its limits",
     14: "the desk holds 30 pages already",
     15: "the desk holds no page",
+    20: "an account that has no cell has litres",
 }
+# Number 4 of a put: its position is one of the page.
+PAGE_BYTE = "the byte at position {value} of the page is no letter"
 
 
 class Refused(Exception):
-    """A refusal: the cause's number and the value beside it. As text it is the cause in words."""
+    """A refusal: the cause's number and the value beside it. As text it is `words`, or else `cause`.
+
+    `words` are those of this one refusal, if there are better ones than those of its cause: what is wrong with a line of a pattern,
+    as the command tapelist says it, where a page has a byte that is no letter, and where a tape breaks.
+
+    `reach` and `resume` say where a tape breaks that `parse` refused with 5, and are None for any other cause: the numbers that
+    `Pattern.locate` gives.
+    """
 
     number: int
     value: int
+    words: str
+    reach: Optional[int]
+    resume: Optional[int]
 
-    def __init__(self, number: int, value: int) -> None:
+    def __init__(
+        self, number: int, value: int, words: str = "", reach: Optional[int] = None, resume: Optional[int] = None
+    ) -> None:
         # An exception is pickled as its arguments, and made again from them: they have to be those of this function.
-        super().__init__(number, value)
+        located = [] if reach is None else [reach, resume]
+        super().__init__(number, value, *([words] if words or located else []), *located)
         self.number = number
         self.value = value
+        self.words = words
+        self.reach = reach
+        self.resume = resume
 
     def __str__(self) -> str:
+        return self.words or self.cause
+
+    @property
+    def cause(self) -> str:
+        """The cause in words, which are those of the Rust wrapper."""
         words = CAUSES.get(self.number, f"a cause that this package does not know, number {self.number} with value {{value}}")
         return words.format(value=self.value)

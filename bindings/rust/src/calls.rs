@@ -14,6 +14,12 @@ mod c {
             code: *mut u8,
             code_len: usize,
         ) -> u64;
+        pub fn wumbyra_locate(
+            text: *const u8,
+            text_len: usize,
+            tape: *const u8,
+            tape_len: usize,
+        ) -> u64;
         pub fn wumbyra_flatten(
             text: *const u8,
             text_len: usize,
@@ -134,6 +140,10 @@ pub fn parse(text: &[u8], tape: &[u8], words: &mut [u64], code: &mut [u8]) -> An
             code.len(),
         )
     })
+}
+
+pub fn locate(text: &[u8], tape: &[u8]) -> Answer {
+    Answer(unsafe { c::wumbyra_locate(text.as_ptr(), text.len(), tape.as_ptr(), tape.len()) })
 }
 
 pub fn flatten(text: &[u8], code: &[u8], count: u32, tape: &mut [u8]) -> Answer {

@@ -27,7 +27,11 @@ pub struct Desk {
 }
 
 impl Desk {
-    /// A desk that holds no page. With a pattern that loads and buffers that suffice nothing is refused.
+    /// A desk that holds no page.
+    ///
+    /// # Errors
+    ///
+    /// Nothing is refused: the pattern loads and the buffers suffice.
     pub fn open(pattern: &Pattern) -> Result<Desk, Refusal> {
         let mut desk = Desk {
             pattern: pattern.clone(),
@@ -41,6 +45,10 @@ impl Desk {
     }
 
     /// Opens it again: it holds no page then.
+    ///
+    /// # Errors
+    ///
+    /// Nothing is refused, as in [`open`](Desk::open).
     pub fn reopen(&mut self) -> Result<(), Refusal> {
         self.pattern
             .desk_open_into(&mut self.desk, &mut self.words)?;
@@ -48,19 +56,24 @@ impl Desk {
         Ok(())
     }
 
-    /// Puts a page before the letters held: how many letters are held then. Refused with 13, 14 or 4, and then nothing changes.
+    /// Puts a page before the letters held: how many letters are held then.
+    ///
+    /// # Errors
+    ///
+    /// Refused with 13, 14 or 4, and then nothing changes. 4 is [`Refusal::TapeByte`], with a position in the page.
     pub fn put(&mut self, page: &[u8]) -> Result<usize, Refusal> {
-        let held = self.pattern.desk_put_into(
-            &mut self.desk,
-            page,
-            &mut self.letters,
-            &mut self.words,
-        )?;
+        let held =
+            self.pattern
+                .desk_put_into(&mut self.desk, page, &mut self.letters, &mut self.words)?;
         self.held = held as usize;
         Ok(self.held)
     }
 
-    /// Withdraws the last page put: how many letters are held then. Refused with 15, and then nothing changes.
+    /// Withdraws the last page put: how many letters are held then.
+    ///
+    /// # Errors
+    ///
+    /// Refused with 15, and then nothing changes.
     pub fn withdraw(&mut self) -> Result<usize, Refusal> {
         let held = self
             .pattern

@@ -1,6 +1,10 @@
 //! Why a call is refused, with the number and value of the scope's table of causes.
 
+use crate::{breaks, faults, Located};
 use std::fmt;
+
+/// Cause 5 in words, without where the tape breaks.
+const UNREADABLE: &str = "no parse of the pattern spells the tape";
 
 /// Why a call is refused. As text it is the cause in words.
 ///
@@ -20,13 +24,25 @@ pub enum Refusal {
     },
     /// 3: the tape, or what a code spells, has over 3,600 letters.
     TapeTooLong,
-    /// 4: a byte of the tape is no letter, which is 33 to 126 or 161 to 254.
+    /// 4: a byte of the tape, or of the page that is put on a desk, is no letter, which is 33 to 126 or 161 to 254.
+    ///
+    /// Before 1.7.0 it had `position` alone: write `Refusal::TapeByte { position, .. }`.
     TapeByte {
         /// The first such position, from 0.
         position: u32,
+        /// Whether it is a position in the page that was put, and not in a tape.
+        in_page: bool,
     },
-    /// 5: no parse of the pattern spells the tape.
-    Unreadable,
+    /// 5: no parse of the pattern spells the tape. Both numbers are those of [`Pattern::locate`](crate::Pattern::locate).
+    ///
+    /// Before 1.7.0 it had no fields: write `Refusal::Unreadable { .. }` where a program has `Refusal::Unreadable`.
+    Unreadable {
+        /// So many letters begin some tape of the pattern, and no more: the position of the first letter that cannot follow, or the
+        /// tape's length if it stops too early.
+        reach: usize,
+        /// The first position from which on the letters end some tape of the pattern.
+        resume: usize,
+    },
     /// 6: fewer words are lent than the tape takes.
     WordsTooShort {
         /// Words needed.
@@ -56,6 +72,8 @@ pub enum Refusal {
     DeskFull,
     /// 15: the desk holds no page to withdraw.
     DeskEmpty,
+    /// 20: an account that has no cell has litres.
+    CellsTooFew,
     /// A cause that this wrapper does not know: the library is a later one.
     Unknown {
         /// The cause's number.
@@ -73,8 +91,15 @@ impl Refusal {
             1 => Refusal::LineForm { line: value },
             2 => Refusal::Tree { line: value },
             3 => Refusal::TapeTooLong,
-            4 => Refusal::TapeByte { position: value },
-            5 => Refusal::Unreadable,
+            4 => Refusal::TapeByte {
+                position: value,
+                in_page: false,
+            },
+            // Only a parse answers it, and puts in where the tape breaks.
+            5 => Refusal::Unreadable {
+                reach: 0,
+                resume: 0,
+            },
             6 => Refusal::WordsTooShort { needed: value },
             7 => Refusal::CodeTooShort { needed: value },
             8 => Refusal::NotACode,
@@ -85,18 +110,83 @@ impl Refusal {
             13 => Refusal::DeskLimits,
             14 => Refusal::DeskFull,
             15 => Refusal::DeskEmpty,
+            20 => Refusal::CellsTooFew,
             _ => Refusal::Unknown { number, value },
         })
     }
 
-    /// The cause's number, 1 to 15.
+    /// The same refusal, of a page that is put: its position is one of the page.
+    pub(crate) fn of_page(self) -> Refusal {
+        match self {
+            Refusal::TapeByte { position, .. } => Refusal::TapeByte {
+                position,
+                in_page: true,
+            },
+            other => other,
+        }
+    }
+
+    /// The same refusal, of a parse: if it is 5, it has where the tape breaks.
+    pub(crate) fn located(self, locate: impl FnOnce() -> Result<Located, Refusal>) -> Refusal {
+        match self {
+            Refusal::Unreadable { .. } => match locate() {
+                Ok(Located { reach, resume }) => Refusal::Unreadable { reach, resume },
+                Err(_) => self, // does not occur: a parse looks at 3 and 4 first
+            },
+            other => other,
+        }
+    }
+
+    /// The refusal in words, with what is wrong with the line if `Pattern::load` refused this text, as the command tapelist says it.
+    /// Of any other cause it is what `to_string` gives. The words are for people and may change.
+    ///
+    /// ```
+    /// let text = b"0\tX\t-\n";
+    /// let refusal = wumbyra::Pattern::load(text).unwrap_err();
+    /// assert_eq!(
+    ///     refusal.explain(text),
+    ///     "pattern, line 0: the kind \"X\" is none of E, L, R, S, A, K and Z"
+    /// );
+    /// ```
+    #[must_use]
+    pub fn explain(self, text: &[u8]) -> String {
+        match self {
+            Refusal::LineForm { line } => format!("pattern, {}", faults::form(text, line)),
+            Refusal::Tree { line } => format!("pattern, {}", faults::tree(text, line)),
+            other => other.to_string(),
+        }
+    }
+
+    /// The refusal in words, with where the tape breaks if a parse refused this tape with 5, as the command tapelist says it. Of any other
+    /// cause it is what `to_string` gives. The words are for people and may change.
+    ///
+    /// ```
+    /// let pattern = wumbyra::Pattern::load(b"0\tR\t1\t0\t9\n1\tK\t-\t0\n").unwrap();
+    /// let refusal = pattern.parse(b"35x2").unwrap_err();
+    /// assert_eq!(
+    ///     refusal.explain_tape(b"35x2"),
+    ///     "no parse of the pattern spells the tape: the letter x at position 2 cannot follow, in 35[x]2; \
+    ///      from position 3 on the rest can be read"
+    /// );
+    /// ```
+    #[must_use]
+    pub fn explain_tape(self, tape: &[u8]) -> String {
+        match self {
+            Refusal::Unreadable { reach, resume } => {
+                format!("{UNREADABLE}: {}", breaks::words(tape, reach, resume))
+            }
+            other => other.to_string(),
+        }
+    }
+
+    /// The cause's number, 1 to 15, or 20.
     pub fn number(self) -> u32 {
         match self {
             Refusal::LineForm { .. } => 1,
             Refusal::Tree { .. } => 2,
             Refusal::TapeTooLong => 3,
             Refusal::TapeByte { .. } => 4,
-            Refusal::Unreadable => 5,
+            Refusal::Unreadable { .. } => 5,
             Refusal::WordsTooShort { .. } => 6,
             Refusal::CodeTooShort { .. } => 7,
             Refusal::NotACode => 8,
@@ -107,6 +197,7 @@ impl Refusal {
             Refusal::DeskLimits => 13,
             Refusal::DeskFull => 14,
             Refusal::DeskEmpty => 15,
+            Refusal::CellsTooFew => 20,
             Refusal::Unknown { number, .. } => number,
         }
     }
@@ -115,19 +206,20 @@ impl Refusal {
     pub fn value(self) -> u32 {
         match self {
             Refusal::LineForm { line } | Refusal::Tree { line } => line,
-            Refusal::TapeByte { position } => position,
+            Refusal::TapeByte { position, .. } => position,
             Refusal::WordsTooShort { needed }
             | Refusal::CodeTooShort { needed }
             | Refusal::TapeTooShort { needed } => needed,
             Refusal::TapeTooLong
-            | Refusal::Unreadable
+            | Refusal::Unreadable { .. }
             | Refusal::NotACode
             | Refusal::NoSuchVisit
             | Refusal::TapeUndated
             | Refusal::NotATerm
             | Refusal::DeskLimits
             | Refusal::DeskFull
-            | Refusal::DeskEmpty => 0,
+            | Refusal::DeskEmpty
+            | Refusal::CellsTooFew => 0,
             Refusal::Unknown { value, .. } => value,
         }
     }
@@ -143,13 +235,21 @@ impl fmt::Display for Refusal {
                 write!(f, "the lines of the pattern are no tree (line {line})")
             }
             Refusal::TapeTooLong => write!(f, "the tape has over 3,600 letters"),
-            Refusal::TapeByte { position } => {
-                write!(
-                    f,
-                    "the byte at position {position} of the tape is no letter"
-                )
-            }
-            Refusal::Unreadable => write!(f, "no parse of the pattern spells the tape"),
+            Refusal::TapeByte {
+                position,
+                in_page: false,
+            } => write!(
+                f,
+                "the byte at position {position} of the tape is no letter"
+            ),
+            Refusal::TapeByte {
+                position,
+                in_page: true,
+            } => write!(
+                f,
+                "the byte at position {position} of the page is no letter"
+            ),
+            Refusal::Unreadable { .. } => f.write_str(UNREADABLE),
             Refusal::WordsTooShort { needed } => write!(f, "{needed} words are needed"),
             Refusal::CodeTooShort { needed } => write!(f, "{needed} code bytes are needed"),
             Refusal::NotACode => {
@@ -177,6 +277,7 @@ impl fmt::Display for Refusal {
             }
             Refusal::DeskFull => write!(f, "the desk holds 30 pages already"),
             Refusal::DeskEmpty => write!(f, "the desk holds no page"),
+            Refusal::CellsTooFew => write!(f, "an account that has no cell has litres"),
             Refusal::Unknown { number, value } => {
                 write!(
                     f,

@@ -1,11 +1,15 @@
-//! The worked examples of the scope, each refusal with what is left in the buffers, terms, page desks, and the version.
+//! The worked examples of the scope, each refusal with what is left in the buffers, what is wrong with a line, where a tape breaks, terms,
+//! page desks, and the version.
 
+use std::collections::HashSet;
 use wumbyra::{
-    code_bytes_for, version, words_for, Code, Date, Desk, Pattern, Refusal, ACCOUNTS, DESK_BYTES,
-    MAX_LETTERS, MAX_PAGES, MAX_PAGE_LETTERS,
+    code_bytes_for, version, words_for, Code, Date, Desk, Located, Pattern, Refusal, ACCOUNTS,
+    DESK_BYTES, MAX_LETTERS, MAX_PAGES, MAX_PAGE_LETTERS,
 };
 
 const HEADER: &str = include_str!("../../../include/wumbyra.h");
+const FAULTS: &str = include_str!("../../../tests/tapelist/faults.tsv");
+const BREAKS: &str = include_str!("../../../tests/tapelist/breaks.tsv");
 
 const LISTING: &[u8] =
     b"0\tR\t-\t0\t9\n1\tL\t-\tW\n2\tS\t9\t1\t0\n3\tR\t1\t0\t9\n4\tA\t-\t2\t3\n5\tK\t-\t4\n";
@@ -52,7 +56,12 @@ fn tapes_to_try() {
             Ok(tape.as_bytes())
         );
     }
-    assert_eq!(pattern(P5).parse(b""), Err(Refusal::Unreadable));
+    let unreadable = Refusal::Unreadable {
+        reach: 0,
+        resume: 0,
+    };
+    assert_eq!(pattern(P5).parse(b""), Err(unreadable));
+    assert_eq!((unreadable.number(), unreadable.value()), (5, 0));
     assert_eq!(pattern(P4).canonicalize(&code("11")), Ok(code("00")));
     assert_eq!(pattern(P1).canonicalize(&code("011")), Ok(code("1")));
     assert_eq!(pattern(P1).canonicalize(&code("01001")), Ok(code("001")));
@@ -90,7 +99,10 @@ fn hot_letters() {
     assert_eq!(hot.piece(tape, &read, 1, 1), Ok(&b"\xb9"[..]));
     assert_eq!(hot.totals(&read), Ok(litres(7, 0)));
     for byte in [32, 127, 128, 160, 255] {
-        let refused = Err(Refusal::TapeByte { position: 1 });
+        let refused = Err(Refusal::TapeByte {
+            position: 1,
+            in_page: false,
+        });
         assert_eq!(hot.parse(&[b'7', byte]), refused);
         let named = code(&format!("01{byte:08b}1"));
         assert_eq!(hot.flatten(&named), Err(Refusal::NotACode));
@@ -134,13 +146,23 @@ fn refusals() {
     );
     let p1 = pattern(P1);
     assert_eq!(p1.parse(&[b'a'; 3_601]), Err(Refusal::TapeTooLong));
-    assert_eq!(p1.parse(b"aa a"), Err(Refusal::TapeByte { position: 2 }));
+    assert_eq!(
+        p1.parse(b"aa a"),
+        Err(Refusal::TapeByte {
+            position: 2,
+            in_page: false
+        })
+    );
     assert_eq!(p1.flatten(&code("0")), Err(Refusal::NotACode));
     assert_eq!(p1.span(b"aa", &code("001"), 0, 0), Err(Refusal::NotACode));
     assert_eq!(p1.span(b"a", &code("001"), 0, 1), Err(Refusal::NoSuchVisit));
     assert_eq!(Refusal::NoSuchVisit.number(), 10);
     assert_eq!((Refusal::CodeTooShort { needed: 3 }).value(), 3);
-    let words = Refusal::TapeByte { position: 17 }.to_string();
+    let words = Refusal::TapeByte {
+        position: 17,
+        in_page: false,
+    }
+    .to_string();
     assert_eq!(words, "the byte at position 17 of the tape is no letter");
     assert!(p1.parse(&[b'a'; 3_600]).is_ok());
 }
@@ -189,11 +211,18 @@ fn totals_in_any_number_of_cells() {
     let expected = litres(3, 2);
     for cells in 0..=ROOM {
         let mut lent = [77; ROOM];
-        assert_eq!(listing.totals_into(&read, &mut lent[..cells]), Ok(()));
+        let (answer, due) = if cells > 9 {
+            (Ok(()), expected)
+        } else {
+            (Err(Refusal::CellsTooFew), [0; ACCOUNTS]) // account 9 has litres, and no cell
+        };
+        assert_eq!(listing.totals_into(&read, &mut lent[..cells]), answer);
         let written = cells.min(ACCOUNTS);
-        assert_eq!(lent[..written], expected[..written]);
+        assert_eq!(lent[..written], due[..written]);
         assert_eq!(lent[written..], [77; ROOM][written..]);
     }
+    assert_eq!(Refusal::CellsTooFew.number(), 20);
+    assert_eq!(Refusal::CellsTooFew.value(), 0);
     for (account, total) in (0..).zip(expected) {
         assert_eq!(listing.total(&read, account), Ok(total));
     }
@@ -414,16 +443,23 @@ fn terms_in_any_number_of_cells() {
     let days = pattern(DAYS);
     let read = days.parse(b"1D2W3").expect("it is read").code;
     let (start, next) = (date(2024, 12, 31), date(2025, 1, 1));
-    let due = litres(2, 3);
     for cells in 0..=ROOM {
         let written = cells.min(ACCOUNTS);
         let mut into = [77; ROOM];
+        let (answer, due) = if cells > 9 {
+            (Ok(()), litres(2, 3))
+        } else {
+            (Err(Refusal::CellsTooFew), litres(0, 0))
+        };
         assert_eq!(
             days.term_totals_into(&read, start, next, next, &mut into[..cells]),
-            Ok(())
+            answer
         );
         assert_eq!(into[..written], due[..written]);
         assert_eq!(into[written..], [77; ROOM][written..]);
+        // The first day has a litre of account 1 alone, so two cells suffice for it.
+        let answer = days.term_totals_into(&read, start, start, start, &mut into[..cells]);
+        assert_eq!(answer.is_ok(), cells > 1);
         into = [77; ROOM];
         assert_eq!(
             days.term_totals_into(&read, start, next, start, &mut into[..cells]),
@@ -459,7 +495,11 @@ fn pages_newest_first() {
     for page in [&b""[..], &[b'3'; MAX_PAGE_LETTERS + 1]] {
         assert_eq!(desk.put(page), Err(Refusal::DeskLimits));
     }
-    assert_eq!(desk.put(b"3 "), Err(Refusal::TapeByte { position: 1 }));
+    let position = Err(Refusal::TapeByte {
+        position: 1,
+        in_page: true,
+    });
+    assert_eq!(desk.put(b"3 "), position);
     assert_eq!(desk, before);
     desk.reopen().expect("it is opened");
     assert_eq!((desk.letters(), desk.words().len()), (&b""[..], 2));
@@ -486,7 +526,10 @@ fn a_full_desk() {
     }
     assert_eq!(desk.withdraw(), Err(Refusal::DeskEmpty));
     assert_eq!(Refusal::DeskEmpty.to_string(), "the desk holds no page");
-    assert_eq!((Refusal::DeskFull.number(), Refusal::DeskFull.value()), (14, 0));
+    assert_eq!(
+        (Refusal::DeskFull.number(), Refusal::DeskFull.value()),
+        (14, 0)
+    );
 }
 
 /// Desks that are lent: each buffer just long enough and one cell short, and desks that are none.
@@ -540,6 +583,201 @@ fn desks_that_are_lent() {
         star.desk_withdraw_into(&mut desk, &letters),
         Err(Refusal::DeskLimits)
     );
+}
+
+/// The position of refusal 4 is one of the page that is put, and the words say so.
+#[test]
+fn a_byte_of_a_page() {
+    let mut desk = Desk::open(&pattern(LISTING)).expect("it is opened");
+    desk.put(b"3W2").expect("it is put");
+    let refusal = desk.put(b"3W ").expect_err("it has a space");
+    assert_eq!(
+        refusal,
+        Refusal::TapeByte {
+            position: 2,
+            in_page: true
+        }
+    );
+    assert_eq!((refusal.number(), refusal.value()), (4, 2));
+    assert_eq!(
+        refusal.to_string(),
+        "the byte at position 2 of the page is no letter"
+    );
+    assert_eq!(
+        Refusal::TapeByte {
+            position: 2,
+            in_page: false
+        }
+        .to_string(),
+        "the byte at position 2 of the tape is no letter"
+    );
+}
+
+/// What `parse` and `canonicalize` give is a code for every call that takes one, by itself or behind a pointer.
+#[test]
+fn what_parse_gives_is_a_code() {
+    let days = pattern(DAYS);
+    let tape = b"1D2W3";
+    let parsed = days.parse(tape).expect("it is read");
+    let code = parsed.code.clone();
+    let day = date(2024, 2, 29);
+    assert_eq!(days.canonicalize(&parsed), Ok(code.clone()));
+    assert_eq!(days.flatten(&parsed).as_deref(), Ok(&tape[..]));
+    assert_eq!(days.totals(&parsed), days.totals(&code));
+    assert_eq!(days.total(&parsed, 9), Ok(3));
+    assert_eq!(
+        days.term_totals(&parsed, day, day, day),
+        days.term_totals(&code, day, day, day)
+    );
+    assert_eq!(days.span(tape, &parsed, 2, 0), Ok(3..5));
+    assert_eq!(days.piece(tape, &parsed, 2, 0), Ok(&b"W3"[..]));
+    let mut litres = [0; ACCOUNTS];
+    assert_eq!(days.totals_into(&parsed, &mut litres), Ok(()));
+    assert_eq!(Ok(litres), days.totals(&Box::new(code.clone())));
+    assert_eq!(Ok(litres), days.totals(&mut code.clone()));
+    assert_eq!(Ok(litres), days.totals(&&code));
+    assert_eq!(pattern(P1).totals(&parsed), Err(Refusal::NotACode));
+}
+
+#[test]
+fn patterns_are_equal_by_their_text() {
+    let (one, same, other) = (pattern(LISTING), pattern(LISTING), pattern(P1));
+    assert!(one == same && one != other);
+    assert_eq!(HashSet::from([one, same, other]).len(), 2);
+}
+
+/// A text with the escapes of printf: \\t, \\n, \\r, and bytes by three octal digits.
+fn unescaped(text: &str) -> Vec<u8> {
+    let mut bytes = Vec::new();
+    let mut rest = text.as_bytes();
+    while let [first, behind @ ..] = rest {
+        rest = match (first, behind) {
+            (b'\\', [b'0'..=b'3', ..]) => {
+                let octal = std::str::from_utf8(&behind[..3]).expect("three digits");
+                bytes.push(u8::from_str_radix(octal, 8).expect("a byte"));
+                &behind[3..]
+            }
+            (b'\\', [letter, behind @ ..]) => {
+                let escapes = [(b't', b'\t'), (b'n', b'\n'), (b'r', b'\r')];
+                let known = escapes.iter().find(|(name, _)| name == letter);
+                bytes.push(known.expect("an escape").1);
+                behind
+            }
+            _ => {
+                bytes.push(*first);
+                behind
+            }
+        };
+    }
+    bytes
+}
+
+/// Each fault of a table that tapelist and Python are tested by, too.
+#[test]
+fn what_is_wrong_with_a_line() {
+    let rows: Vec<Vec<&str>> = FAULTS
+        .lines()
+        .map(|row| row.split('\t').collect())
+        .collect();
+    assert!(rows.len() > 100);
+    for row in rows {
+        let [name, number, value, words, text] = row[..] else {
+            panic!("a row has five fields: {row:?}");
+        };
+        let text = unescaped(text);
+        let refusal = Pattern::load(&text).expect_err(name);
+        assert_eq!(refusal.number().to_string(), number, "{name}");
+        assert_eq!(refusal.value().to_string(), value, "{name}");
+        assert_eq!(refusal.explain(&text), format!("pattern, {words}"));
+    }
+    // Whatever the text, there are words, also if it is not the one that was refused.
+    let every: Vec<u8> = (0..=255).collect();
+    for text in [&every[..], b"", b"\n", b"\0", b"\xff", b"0\t", LISTING] {
+        for line in [0, 1, 63, 64, u32::MAX] {
+            for refusal in [Refusal::LineForm { line }, Refusal::Tree { line }] {
+                assert!(refusal.explain(text).starts_with("pattern, "));
+            }
+        }
+        let unreadable = Refusal::Unreadable {
+            reach: 1,
+            resume: 2,
+        };
+        assert_eq!(unreadable.explain(text), unreadable.to_string());
+    }
+}
+
+/// Each row of a table that tapelist and Python are tested by, too.
+#[test]
+fn where_a_tape_breaks() {
+    let rows: Vec<Vec<&str>> = BREAKS
+        .lines()
+        .map(|row| row.split('\t').collect())
+        .collect();
+    assert!(rows.len() > 20);
+    for row in rows {
+        let [name, reach, resume, words, text, tape] = row[..] else {
+            panic!("a row has six fields: {row:?}");
+        };
+        let (tape, pattern) = (unescaped(tape), pattern(&unescaped(text)));
+        let (reach, resume) = (reach.parse().unwrap(), resume.parse().unwrap());
+        assert_eq!(
+            pattern.locate(&tape),
+            Ok(Located { reach, resume }),
+            "{name}"
+        );
+        let refusal = pattern.parse(&tape).expect_err(name);
+        assert_eq!(refusal, Refusal::Unreadable { reach, resume }, "{name}");
+        assert_eq!((refusal.number(), refusal.value()), (5, 0));
+        assert_eq!(
+            refusal.explain_tape(&tape),
+            format!("no parse of the pattern spells the tape: {words}")
+        );
+        assert_eq!(
+            refusal.to_string(),
+            "no parse of the pattern spells the tape"
+        );
+        let mut lent = (vec![0; words_for(tape.len())], vec![0; 1]);
+        let into = pattern.parse_into(&tape, &mut lent.0, &mut lent.1);
+        assert_eq!(into, Err(refusal), "{name}");
+    }
+}
+
+/// Whatever the tape, there are words, also if it is not the one that was refused.
+#[test]
+fn any_tape_is_explained() {
+    let every: Vec<u8> = (0..=255).collect();
+    for tape in [&every[..], b"", b"3", b"\xef\xbb\xbf"] {
+        for reach in [0, 1, 2, 255, 256, MAX_LETTERS, usize::MAX] {
+            for resume in [0, 1, 256, usize::MAX] {
+                let refusal = Refusal::Unreadable { reach, resume };
+                assert!(refusal.explain_tape(tape).len() < 250);
+            }
+        }
+        let long = Refusal::TapeTooLong;
+        assert_eq!(long.explain_tape(tape), long.to_string());
+    }
+}
+
+#[test]
+fn tapes_that_are_located() {
+    let listing = pattern(LISTING);
+    for (tape, reach, resume) in [(&b""[..], 0, 0), (b"3W2", 3, 0), (&[b'7'; 3_600], 3_600, 0)] {
+        assert!(listing.parse(tape).is_ok());
+        assert_eq!(listing.locate(tape), Ok(Located { reach, resume }));
+    }
+    assert_eq!(listing.locate(&[b' '; 3_601]), Err(Refusal::TapeTooLong));
+    let byte = Err(Refusal::TapeByte {
+        position: 2,
+        in_page: false,
+    });
+    assert_eq!(listing.locate(b"xx  "), byte);
+    // The longest tape that breaks at its last letter, and at its first.
+    let mut tape = [b'7'; 3_600];
+    tape[3_599] = b'x';
+    let located = |reach, resume| Ok(Located { reach, resume });
+    assert_eq!(listing.locate(&tape), located(3_599, 3_600));
+    tape.reverse();
+    assert_eq!(listing.locate(&tape), located(0, 1));
 }
 
 /// The number of a macro of the header.
