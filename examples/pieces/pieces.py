@@ -6,16 +6,21 @@ covers are cut out and read by themselves too.
 
 Prints a line for each piece: `day` or its line, visit, start, length, letters, first bit in the whole code (`-` if it is not a day), bits,
 and code. A line for each account follows: its litres when the piece is read by itself, and when the whole tape is read. The last line says
-that all days together are the whole code. The exit status is 0 if that is so, 1 for a refusal, and 2 for trouble with files or arguments.
+that all days together are the whole code. The exit status is 0 if that is so, 1 for a refusal, and 2 for trouble with files, arguments or
+output.
 """
 
 from __future__ import annotations
 
+import contextlib
+import io
 import itertools
+import os
 import pathlib
 import sys
 from typing import Iterator, List, Tuple
 
+from output import complain, print_all
 from wumbyra import Pattern, Refused, Span
 
 NO_SUCH_VISIT = 10
@@ -110,12 +115,10 @@ def read(name: str) -> bytes:
 
 
 def line_number(pattern: Pattern, argument: str) -> int:
-    try:
-        line = int(argument)
-        pattern.subpattern(line)
-    except (ValueError, IndexError):
-        raise Trouble(f"{argument} is not a line of the pattern: its lines are 0 to {pattern.lines - 1}") from None
-    return line
+    """`int` alone would take signs, spaces and underscores."""
+    if argument not in map(str, range(pattern.lines)):
+        raise Trouble(f"{argument} is not a line of the pattern: its lines are 0 to {pattern.lines - 1}")
+    return int(argument)
 
 
 def run(pattern_file: str, tape_file: str, *arguments: str) -> None:
@@ -134,23 +137,29 @@ def run(pattern_file: str, tape_file: str, *arguments: str) -> None:
     print("whole", len(whole.bits), whole.code.hex(), "all days together are the whole code", sep="\t")
 
 
-def main(arguments: List[str]) -> int:
+def answer(arguments: List[str]) -> Tuple[int, str]:
+    """The exit status, and a sentence for standard error or nothing."""
     if len(arguments) < 3:
-        print("usage: pieces.py PATTERN TAPE [LINE..]", file=sys.stderr)
-        return 2
+        return 2, "usage: pieces.py PATTERN TAPE [LINE..]"
     try:
         run(*arguments[1:])
     except Refused as refused:
         print("refused", refused.number, refused.value, sep="\t")
-        print(f"pieces: {refused}", file=sys.stderr)
-        return 1
+        return 1, f"pieces: {refused}"
     except Differs as differs:
-        print(f"pieces: {differs}", file=sys.stderr)
-        return 1
+        return 1, f"pieces: {differs}"
     except Trouble as trouble:
-        print(f"pieces: {trouble}", file=sys.stderr)
-        return 2
-    return 0
+        return 2, f"pieces: {trouble}"
+    return 0, ""
+
+
+def main(arguments: List[str]) -> int:
+    output = io.StringIO()
+    with contextlib.redirect_stdout(output):
+        status, words = answer(arguments)
+    if words:
+        complain(os.fsencode(words))
+    return print_all(b"pieces", output.getvalue().encode("latin-1"), status)  # letters are printed as the bytes that they are
 
 
 if __name__ == "__main__":

@@ -164,7 +164,7 @@ static void unchanged(struct caller *caller, const struct output *output, uint8_
 /* The parts of an answer, which must be one of these numbers; a number of no value is beside 0. */
 static struct answer taken(struct caller *caller, uint64_t packed, const char *numbers, const char *what)
 {
-    static const char names[] = "0123456789xyzabc";
+    static const char names[] = "0123456789xyzabc....d"; /* no cause has a number from 16 to 19 */
     struct answer answer = {wumbyra_number(packed), wumbyra_value(packed)};
     caller->calls++;
     expect(caller, answer.number <= CAUSES && strchr(numbers, names[answer.number]) != NULL, what);
@@ -246,6 +246,14 @@ struct answer call_span(struct caller *c, uint32_t node, uint32_t visit)
     return answer;
 }
 
+struct answer call_locate(struct caller *c)
+{
+    struct answer answer = taken(c, wumbyra_locate(c->text.at, c->text.size, c->tape.at, c->tape.size), "0234", "locate answers");
+    if (answer.number == WUMBYRA_OK)
+        expect(c, answer.value >> 16 <= c->tape.size && (answer.value & 0xffff) <= c->tape.size, "a tape breaks inside itself or at its end");
+    return answer;
+}
+
 struct answer call_total(struct caller *c, uint32_t account)
 {
     uint64_t packed = wumbyra_total(c->text.at, c->text.size, c->code.at, c->code.size, c->count, account);
@@ -266,7 +274,7 @@ struct answer call_totals(struct caller *c, size_t cells)
 {
     uint32_t *litres = lend(c, &c->litres, cells * sizeof *litres);
     uint64_t packed = wumbyra_totals(c->text.at, c->text.size, c->code.at, c->code.size, c->count, litres, cells);
-    struct answer answer = taken(c, packed, "0283", "totals answers");
+    struct answer answer = taken(c, packed, "0283d", "totals answers");
     expect_litres(c, answer, litres, cells);
     return answer;
 }
@@ -276,7 +284,7 @@ struct answer call_term_totals(struct caller *c, size_t cells)
     uint32_t *litres = lend(c, &c->litres, cells * sizeof *litres);
     uint64_t packed = wumbyra_term_totals(c->text.at, c->text.size, c->code.at, c->code.size, c->count, c->start, c->first, c->last,
                                           litres, cells);
-    struct answer answer = taken(c, packed, "0283yz", "term totals answers");
+    struct answer answer = taken(c, packed, "0283yzd", "term totals answers");
     expect_litres(c, answer, litres, cells);
     return answer;
 }

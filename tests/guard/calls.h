@@ -6,7 +6,8 @@
 
 #include "cases.h"
 
-enum { CAUSES = WUMBYRA_DESK_EMPTY };
+/* The last cause of the services, and the last of all. No cause has a number between them. */
+enum { LAST_OF_SERVICES = WUMBYRA_DESK_EMPTY, CAUSES = WUMBYRA_CELLS_TOO_FEW };
 
 /* Pages between two unreadable ones. `fill` shows the same pages as `lent` does, where these cannot be written. */
 struct pages {
@@ -52,6 +53,7 @@ struct answer call_load(struct caller *caller);
 struct answer call_parse(struct caller *caller, size_t words, size_t bytes);
 struct answer call_flatten(struct caller *caller, size_t cells);
 struct answer call_span(struct caller *caller, uint32_t node, uint32_t visit);
+struct answer call_locate(struct caller *caller);
 struct answer call_total(struct caller *caller, uint32_t account);
 struct answer call_totals(struct caller *caller, size_t cells);
 struct answer call_term_totals(struct caller *caller, size_t cells);

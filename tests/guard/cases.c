@@ -310,6 +310,97 @@ void draw_parse(struct source *source, const struct pattern *pattern, struct par
     visit(&walk, pattern->count - 1, 0);
 }
 
+/* ---- where a tape breaks */
+
+enum { END = WUMBYRA_MAX_LINES };
+
+/* For each line the one that is read next when it is done, or END. Backwards the parts of an `S` change places. */
+static void put_next(const struct pattern *pattern, bool backwards, uint32_t *next)
+{
+    next[pattern->count - 1] = END;
+    for (uint32_t i = pattern->count; i-- > 0;) { /* a line is named by a later one, whose own is known by then */
+        const struct node *node = &pattern->node[i];
+        switch (node->kind) {
+        case 'S':
+            next[backwards ? node->second : node->first] = backwards ? node->first : node->second;
+            next[backwards ? node->first : node->second] = next[i];
+            break;
+        case 'A': next[node->first] = next[node->second] = next[i]; break;
+        case 'K':
+        case 'Z': next[node->first] = i; break;
+        default: break;
+        }
+    }
+}
+
+struct reading {
+    const struct pattern *pattern;
+    bool backwards;
+    uint32_t next[WUMBYRA_MAX_LINES];
+};
+
+/* Marks a line and all that may be read in its place without a letter. A line that is marked is left: so rounds without a letter end. */
+static void enter(const struct reading *reading, uint32_t line, bool *here)
+{
+    const struct node *node = &reading->pattern->node[line == END ? 0 : line];
+    if (here[line])
+        return;
+    here[line] = true;
+    if (line == END)
+        return;
+    switch (node->kind) {
+    case 'E': enter(reading, reading->next[line], here); break;
+    case 'S': enter(reading, reading->backwards ? node->second : node->first, here); break;
+    case 'A':
+        enter(reading, node->first, here);
+        enter(reading, node->second, here);
+        break;
+    case 'K':
+    case 'Z':
+        enter(reading, node->first, here);
+        enter(reading, reading->next[line], here);
+        break;
+    default: break;
+    }
+}
+
+static bool reads(const struct node *node, uint8_t letter)
+{
+    return (node->kind == 'L' && letter == node->low) || (node->kind == 'R' && letter >= node->low && letter <= node->high);
+}
+
+/* How many letters are read, from the first on, or from the last on, until no line is left to read on. Every line can read something, if
+ * only no letter, so what is read begins a tape. */
+static uint32_t letters_read(const struct pattern *pattern, const uint8_t *letters, uint32_t size, bool backwards)
+{
+    struct reading reading = {pattern, backwards, {0}};
+    bool here[END + 1] = {false};
+    put_next(pattern, backwards, reading.next);
+    enter(&reading, pattern->count - 1, here);
+    for (uint32_t i = 0; i < size; i++) {
+        bool behind[END + 1] = {false}, any = false;
+        for (uint32_t line = 0; line < pattern->count; line++)
+            if (here[line] && reads(&pattern->node[line], letters[backwards ? size - 1 - i : i])) {
+                enter(&reading, reading.next[line], behind);
+                any = true;
+            }
+        if (!any)
+            return i;
+        memcpy(here, behind, sizeof here);
+    }
+    return size;
+}
+
+uint32_t reach_of(const struct pattern *pattern, const uint8_t *letters, uint32_t size)
+{
+    return letters_read(pattern, letters, size, false);
+}
+
+uint32_t resume_of(const struct pattern *pattern, const uint8_t *letters, uint32_t size)
+{
+    return size - letters_read(pattern, letters, size, true);
+}
+
 /* ---- dates */
 
 /* Not by a table of months, which the library has. Years begin in March here, so that a leap day is the last of a year, and from there on

@@ -75,6 +75,10 @@ const char *draw_no_account(struct source *source);
 /* A parse, which may have empty rounds. It goes through `rounds` rounds at most, and on while `on` of `on + 1` chances say so. */
 void draw_parse(struct source *source, const struct pattern *pattern, struct parse *parse, uint32_t rounds, uint32_t on);
 
+/* Where a tape of letters breaks: how many of its first letters begin some tape of the pattern, and from where on its letters end one. */
+uint32_t reach_of(const struct pattern *pattern, const uint8_t *letters, uint32_t size);
+uint32_t resume_of(const struct pattern *pattern, const uint8_t *letters, uint32_t size);
+
 /* Adds the last `count` of these bits to the code of a parse. */
 void put_bits(struct parse *parse, uint32_t bits, uint32_t count);
 

@@ -16,6 +16,7 @@ uint64_t __real_wumbyra_canonicalize(const uint8_t *text, size_t text_len, const
                                      size_t canonical_len);
 uint64_t __real_wumbyra_span(const uint8_t *text, size_t text_len, const uint8_t *tape, size_t tape_len, const uint8_t *code,
                              size_t code_len, uint32_t count, uint32_t node, uint32_t visit);
+uint64_t __real_wumbyra_locate(const uint8_t *text, size_t text_len, const uint8_t *tape, size_t tape_len);
 uint64_t __real_wumbyra_total(const uint8_t *text, size_t text_len, const uint8_t *code, size_t code_len, uint32_t count,
                               uint32_t account);
 uint64_t __real_wumbyra_totals(const uint8_t *text, size_t text_len, const uint8_t *code, size_t code_len, uint32_t count,
@@ -37,6 +38,7 @@ uint64_t __wrap_wumbyra_canonicalize(const uint8_t *text, size_t text_len, const
                                      size_t canonical_len);
 uint64_t __wrap_wumbyra_span(const uint8_t *text, size_t text_len, const uint8_t *tape, size_t tape_len, const uint8_t *code,
                              size_t code_len, uint32_t count, uint32_t node, uint32_t visit);
+uint64_t __wrap_wumbyra_locate(const uint8_t *text, size_t text_len, const uint8_t *tape, size_t tape_len);
 uint64_t __wrap_wumbyra_total(const uint8_t *text, size_t text_len, const uint8_t *code, size_t code_len, uint32_t count,
                               uint32_t account);
 uint64_t __wrap_wumbyra_totals(const uint8_t *text, size_t text_len, const uint8_t *code, size_t code_len, uint32_t count,
@@ -319,6 +321,32 @@ uint64_t __wrap_wumbyra_span(const uint8_t *text, size_t text_len, const uint8_t
     return fault() == 16 && wumbyra_number(answer) == 10 ? 0 : answer;
 }
 
+/* ---- where a tape breaks */
+
+uint64_t __wrap_wumbyra_locate(const uint8_t *text, size_t text_len, const uint8_t *tape, size_t tape_len)
+{
+    uint64_t answer;
+    uint32_t number, reach, resume;
+    if (fault() == 76)
+        seen = tape[tape_len];
+    answer = __real_wumbyra_locate(text, text_len, tape, tape_len);
+    number = wumbyra_number(answer);
+    reach = wumbyra_value(answer) >> 16;
+    resume = wumbyra_value(answer) & 0xffff;
+    if (number != 0)
+        return fault() == 77 && number == 4 ? (uint64_t)wumbyra_value(answer) << 16 : answer; /* a byte that is no letter breaks the tape */
+    switch (fault()) {
+    case 78: return reach < tape_len ? answer + 65536 : answer; /* a reach that is one too great */
+    case 79: return reach > 0 && reach < tape_len ? answer - 65536 : answer; /* one too small */
+    case 80: return resume > 0 ? answer - 1 : answer; /* the letter that breaks the tape ends one */
+    case 81: return reach == tape_len ? (uint64_t)reach << 16 : answer; /* a tape that stops too early does not break */
+    case 82: return (uint64_t)resume << 16 | reach; /* exchanged */
+    default: return answer;
+    }
+}
+
+/* ---- litres */
+
 /* Writes a text that loads with an account that it does not have in the place of 9, and answers which. By that text litres go to the
  * nearest account, since no account but 9 outranks others. There are more accounts than lines. */
 static uint32_t put_other_account(uint8_t *other, size_t *size, const uint8_t *text, size_t text_len)
@@ -341,6 +369,20 @@ static void put_nearest(const uint32_t *all, uint32_t spare, uint32_t *litres, s
 {
     for (uint32_t i = 0; i < WUMBYRA_ACCOUNTS && i < litres_len; i++)
         litres[i] = i == spare ? 0 : all[i == STALE ? spare : i];
+}
+
+/* The first of all totals, whatever other accounts have. */
+static uint64_t put_first(uint64_t answer, const uint32_t *all, uint32_t *litres, size_t litres_len)
+{
+    if (wumbyra_number(answer) == 0 && litres_len <= WUMBYRA_ACCOUNTS)
+        memcpy(litres, all, litres_len * sizeof *litres);
+    return answer;
+}
+
+static uint64_t too_few(uint32_t *litres, size_t litres_len)
+{
+    memset(litres, 0, litres_len * sizeof *litres);
+    return (uint64_t)WUMBYRA_CELLS_TOO_FEW << 32;
 }
 
 static const char *const nines[2] = {"99", "9"};
@@ -403,6 +445,15 @@ uint64_t __wrap_wumbyra_totals(const uint8_t *text, size_t text_len, const uint8
         drop_greatest(litres, litres_len);
     if (fault() == 51 || (fault() == 50 && wumbyra_number(answer) != 0)) /* ten are written, or ten zeros */
         put_back(before, litres, litres_len);
+    if (fault() == 83 && wumbyra_number(answer) == WUMBYRA_CELLS_TOO_FEW) { /* litres without a cell are dropped */
+        uint32_t all[WUMBYRA_ACCOUNTS];
+        answer = __real_wumbyra_totals(text, text_len, code, code_len, count, all, WUMBYRA_ACCOUNTS);
+        return put_first(answer, all, litres, litres_len);
+    }
+    if (fault() == 84 && wumbyra_number(answer) == 0 && litres_len < WUMBYRA_ACCOUNTS) /* every account needs a cell */
+        return too_few(litres, litres_len);
+    if (fault() == 85 && wumbyra_number(answer) == 8 && litres_len == 0) /* 20 before 8 */
+        return too_few(litres, litres_len);
     return answer;
 }
 
@@ -478,6 +529,18 @@ uint64_t __wrap_wumbyra_term_totals(const uint8_t *text, size_t text_len, const 
         const size_t size = with_accounts(other, text, text_len, replace, nines);
         (void)__real_wumbyra_term_totals(other, size, code, code_len, count, start, first, last, litres, litres_len);
     }
+    if (fault() == 86 && number == WUMBYRA_CELLS_TOO_FEW) { /* litres without a cell are dropped */
+        uint32_t all[WUMBYRA_ACCOUNTS];
+        answer = __real_wumbyra_term_totals(text, text_len, code, code_len, count, start, first, last, all, WUMBYRA_ACCOUNTS);
+        return put_first(answer, all, litres, litres_len);
+    }
+    if (fault() == 87 && number == 0 && litres_len < WUMBYRA_ACCOUNTS) { /* the litres of all days are asked for */
+        uint32_t some[WUMBYRA_ACCOUNTS];
+        if (wumbyra_number(__real_wumbyra_totals(text, text_len, code, code_len, count, some, litres_len)) == WUMBYRA_CELLS_TOO_FEW)
+            return too_few(litres, litres_len);
+    }
+    if (fault() == 88 && number == 12 && litres_len == 0) /* 20 before 12 */
+        return too_few(litres, litres_len);
     switch (fault()) {
     case 33: return number == 12 && are ? 0 : answer; /* a term backwards is one without days */
     case 34: return number == 11 && (!are || last < first) ? (uint64_t)12 << 32 : answer; /* 12 before 11 */

@@ -148,13 +148,26 @@ static void try_flatten(struct scene *s)
         expect_answer(c, call_flatten(c, smaller(&c->source, s->letters)), WUMBYRA_TAPE_TOO_SHORT, s->letters, "flatten: fewer cells");
 }
 
-/* Cells for totals: a few, as many as a caller has that knows ten accounts, or any number up to one more than there are accounts. */
-static size_t draw_cells(struct source *source)
+/* So many cells that every account with litres has one, and no fewer. */
+static size_t cells_needed(const uint32_t *litres)
 {
-    switch (draw(source, 4)) {
+    size_t cells = WUMBYRA_ACCOUNTS;
+    while (cells > 0 && litres[cells - 1] == 0)
+        cells--;
+    return cells;
+}
+
+/* Cells for totals: a few, as many as a caller has that knows ten accounts, as many as these litres need or one fewer, or any number up
+ * to one more than there are accounts. */
+static size_t draw_cells(struct source *source, const uint32_t *litres)
+{
+    const size_t needed = cells_needed(litres);
+    switch (draw(source, 6)) {
     case 0: return draw(source, 20);
     case 1: return 10;
     case 2: return WUMBYRA_ACCOUNTS - 1 + draw(source, 3);
+    case 3: return needed;
+    case 4: return needed > 0 ? needed - 1 : 0;
     default: return draw(source, WUMBYRA_ACCOUNTS + 2);
     }
 }
@@ -173,10 +186,23 @@ static uint32_t draw_asked(struct scene *s)
     }
 }
 
+/* What totals in so many cells are refused with, if all of them are refused with `refusal`: litres without a cell come last. */
+static uint32_t cells_refusal(uint32_t refusal, const uint32_t *litres, size_t cells)
+{
+    return refusal == WUMBYRA_OK && cells < cells_needed(litres) ? WUMBYRA_CELLS_TOO_FEW : refusal;
+}
+
+/* What the cells hold then: the first of all totals. That they are 0 beside a refusal, call_totals has seen to. */
+static void expect_first(const struct caller *c, uint32_t refusal, const uint32_t *litres, size_t cells, const char *what)
+{
+    if (refusal == WUMBYRA_OK)
+        expect(c, memcmp(litres, c->litres.at, (cells < WUMBYRA_ACCOUNTS ? cells : WUMBYRA_ACCOUNTS) * sizeof *litres) == 0, what);
+}
+
 static void try_totals(struct scene *s)
 {
     struct caller *c = &s->caller;
-    uint32_t litres[WUMBYRA_ACCOUNTS], sum = 0, account;
+    uint32_t litres[WUMBYRA_ACCOUNTS], sum = 0, account, refusal;
     size_t cells;
     expect_answer(c, call_totals(c, WUMBYRA_ACCOUNTS), s->refusal, 0, "totals: refused as flatten is");
     memcpy(litres, c->litres.at, sizeof litres);
@@ -187,11 +213,10 @@ static void try_totals(struct scene *s)
     expect(c, sum == 0, "totals: they add up to the digits");
     if (s->whole_text && s->whole_code && s->refusal == WUMBYRA_OK)
         expect(c, memcmp(litres, s->parse.litres, sizeof litres) == 0, "totals: litres by account");
-    cells = draw_cells(&c->source);
-    expect_answer(c, call_totals(c, cells), s->refusal, 0, "totals: any number of cells");
-    if (cells > WUMBYRA_ACCOUNTS)
-        cells = WUMBYRA_ACCOUNTS;
-    expect(c, memcmp(litres, c->litres.at, cells * sizeof *litres) == 0, "totals: the first of them");
+    cells = draw_cells(&c->source, litres);
+    refusal = cells_refusal(s->refusal, litres, cells);
+    expect_answer(c, call_totals(c, cells), refusal, 0, "totals: any number of cells");
+    expect_first(c, refusal, litres, cells, "totals: the first of them");
     account = draw_asked(s);
     expect_answer(c, call_total(c, account), s->refusal, account < WUMBYRA_ACCOUNTS ? litres[account] : 0, "total: one of the totals");
 }
@@ -305,14 +330,14 @@ static void draw_dates(struct scene *s)
 static void try_terms(struct scene *s)
 {
     struct caller *c = &s->caller;
-    uint32_t litres[WUMBYRA_ACCOUNTS];
-    size_t cells = draw_cells(&c->source);
+    uint32_t litres[WUMBYRA_ACCOUNTS], refusal;
+    size_t cells;
     draw_dates(s);
     expect_term(s, litres);
-    expect_answer(c, call_term_totals(c, cells), term_refusal(s), 0, "term totals: any number of cells");
-    if (cells > WUMBYRA_ACCOUNTS)
-        cells = WUMBYRA_ACCOUNTS;
-    expect(c, memcmp(litres, c->litres.at, cells * sizeof *litres) == 0, "term totals: the first of them");
+    cells = draw_cells(&c->source, litres);
+    refusal = cells_refusal(term_refusal(s), litres, cells);
+    expect_answer(c, call_term_totals(c, cells), refusal, 0, "term totals: any number of cells");
+    expect_first(c, refusal, litres, cells, "term totals: the first of them");
     if (s->refusal == WUMBYRA_OK && day_of(c->start) < DAYS)
         try_parting(s);
 }
@@ -331,6 +356,15 @@ static struct answer tape_fault(const struct scene *s)
         if (!is_letter(tape->at[i]))
             return (struct answer){WUMBYRA_TAPE_BYTE, i};
     return (struct answer){WUMBYRA_OK, 0};
+}
+
+/* Where the tape breaks by the pattern that was drawn. */
+static void expect_located(const struct scene *s, struct answer answer)
+{
+    const struct input *tape = &s->caller.tape;
+    const uint32_t reach = reach_of(&s->pattern, tape->at, (uint32_t)tape->size);
+    const uint32_t resume = resume_of(&s->pattern, tape->at, (uint32_t)tape->size);
+    expect_answer(&s->caller, answer, WUMBYRA_OK, reach << 16 | resume, "locate: where the tape breaks");
 }
 
 /* The tape is what the code spells: reads it, in buffers that suffice and in shorter ones. */
@@ -353,6 +387,7 @@ static void try_parse(struct scene *s)
     if (need > 0)
         expect_answer(c, call_parse(c, words, smaller(&c->source, need)), WUMBYRA_CODE_TOO_SHORT, (uint32_t)need, "parse: fewer bytes");
     expect_answer(c, call_parse(c, smaller(&c->source, words), need), WUMBYRA_WORDS_TOO_SHORT, (uint32_t)words, "parse: fewer words");
+    expect_answer(c, call_locate(c), WUMBYRA_OK, s->letters << 16, "locate: what has a parse does not break");
 }
 
 static void try_spans(struct scene *s)
@@ -367,8 +402,11 @@ static void try_spans(struct scene *s)
         s->tape[at] ^= 1;
         hand(c, &c->tape, s->tape, s->letters);
         (void)call_span(c, draw(&c->source, WUMBYRA_MAX_LINES), 0);
-        if (tape_fault(s).number == WUMBYRA_OK)
+        if (tape_fault(s).number == WUMBYRA_OK) {
             expect_answer(c, call_span(c, 0, 0), WUMBYRA_NOT_A_CODE, 0, "span: a code of another tape");
+            if (s->whole_text)
+                expect_located(s, call_locate(c));
+        }
         s->tape[at] ^= 1;
         hand(c, &c->tape, s->tape, s->letters);
     }
@@ -456,6 +494,11 @@ static void try_damaged_tape(struct scene *s)
         expect_answer(c, answer, WUMBYRA_WORDS_TOO_SHORT, (uint32_t)WUMBYRA_WORDS(size), "parse: too few words");
     else
         expect(c, answer.number == 0 || answer.number == 5 || answer.number == 7, "parse: read or not");
+    answer = call_locate(c);
+    if (fault.number != WUMBYRA_OK)
+        expect_answer(c, answer, fault.number, fault.value, "locate: the first fault of the tape");
+    else if (s->whole_text)
+        expect_located(s, answer);
     answer = call_span(c, draw(&c->source, 70), draw(&c->source, 70));
     if (fault.number != WUMBYRA_OK)
         expect_answer(c, answer, fault.number, fault.value, "span: the first fault of the tape");
@@ -737,6 +780,8 @@ int main(int count, char **arguments)
     printf("seed %s: %" PRIu64 " calls in %" PRIu64 " cases, %d threads: all as due; by number", arguments[2], calls, cases, THREADS);
     for (int number = 0; number <= CAUSES; number++) {
         uint64_t sum = 0;
+        if (number > LAST_OF_SERVICES && number < CAUSES)
+            continue;
         for (int i = 0; i < THREADS; i++)
             sum += work[i].answers[number];
         printf("%s %d: %" PRIu64, number == 0 ? "" : ",", number, sum);

@@ -9,7 +9,7 @@
 #include <sys/mman.h>
 #include <ucontext.h>
 
-enum { PAGE = 4096, DRAWN = 300, CALLS = 11 };
+enum { PAGE = 4096, DRAWN = 300, CALLS = 12 };
 
 static ucontext_t outside, inside;
 static const uint8_t *text;
@@ -22,7 +22,7 @@ static uint8_t desk[WUMBYRA_DESK_BYTES], held[WUMBYRA_MAX_LETTERS];
 static const uint8_t page[] = {'0'};
 static uint64_t answers[CALLS];
 
-/* Eleven calls, of which none may run out of stack. Their buffers are elsewhere. */
+/* Twelve calls, of which none may run out of stack. Their buffers are elsewhere. */
 static void call_all(void)
 {
     const uint8_t *letters = parse.letters, *code = parse.code;
@@ -39,6 +39,7 @@ static void call_all(void)
     answers[8] = wumbyra_desk_open(text, size, desk, sizeof desk, words, WUMBYRA_MAX_WORDS);
     answers[9] = wumbyra_desk_put(text, size, desk, sizeof desk, page, 1, held, sizeof held, words, WUMBYRA_MAX_WORDS);
     answers[10] = wumbyra_desk_withdraw(text, size, desk, sizeof desk, held, sizeof held);
+    answers[11] = wumbyra_locate(text, size, letters, count);
 }
 
 static int on_small_stack(const struct pattern *pattern, uint8_t *stack)
@@ -57,6 +58,10 @@ static int on_small_stack(const struct pattern *pattern, uint8_t *stack)
             fprintf(stderr, "FAILED: call %d is refused with %u\n", i, wumbyra_number(answers[i]));
             return 1;
         }
+    if (wumbyra_value(answers[11]) != parse.count << 16) {
+        fprintf(stderr, "FAILED: a tape that can be read breaks\n");
+        return 1;
+    }
     if (memcmp(dated, litres, sizeof litres) != 0) {
         fprintf(stderr, "FAILED: a term of all days has not the totals of the tape\n");
         return 1;
@@ -152,6 +157,6 @@ int main(void)
     }
     failed = failed || read_longest(&pattern, 'K', around + PAGE) || read_longest(&pattern, 'Z', around + PAGE);
     if (!failed)
-        printf("%zu patterns, eleven calls each, on %d bytes of stack\n", sizeof chains / sizeof *chains + DRAWN, WUMBYRA_STACK_BYTES);
+        printf("%zu patterns, twelve calls each, on %d bytes of stack\n", sizeof chains / sizeof *chains + DRAWN, WUMBYRA_STACK_BYTES);
     return failed;
 }

@@ -1,4 +1,4 @@
-"""The worked example, a term, a page desk, and a refusal that comes back from another process, by a program outside the tree."""
+"""The worked example, a term, a page desk, where a tape breaks, and a refusal that comes back from another process, by a program outside the tree."""
 
 import datetime
 import multiprocessing
@@ -48,6 +48,7 @@ def main():
     for page in b"2", b"W", b"3":
         desk.put(page)
     print("desk", len(desk.pages), desk.letters.decode(), sep="\t")
+    print("locate", *pattern.locate(b"3Wx2"), sep="\t")
     for answers in pools():
         assert answers == (litres, (4, 1)), answers
 

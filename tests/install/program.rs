@@ -1,4 +1,4 @@
-//! The worked example, a term, a page desk, and refusals, by a package outside the tree.
+//! The worked example, a term, a page desk, where a tape breaks, and refusals, by a package outside the tree.
 use wumbyra::{Date, Desk, Pattern, Refusal};
 
 const PATTERN: &[u8] = b"0\tR\t-\t0\t9\n1\tL\t-\tW\n2\tS\t9\t1\t0\n3\tR\t1\t0\t9\n4\tA\t-\t2\t3\n5\tK\t-\t4\n";
@@ -36,5 +36,7 @@ fn main() {
     println!("span\t{}\t{}", piece.start, piece.len());
     print_term();
     print_desk(&pattern);
-    assert_eq!(pattern.parse(b"3 2"), Err(Refusal::TapeByte { position: 1 }));
+    let located = pattern.locate(b"3Wx2").unwrap();
+    println!("locate\t{}\t{}", located.reach, located.resume);
+    assert_eq!(pattern.parse(b"3 2"), Err(Refusal::TapeByte { position: 1, in_page: false }));
 }

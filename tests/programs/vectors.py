@@ -30,7 +30,7 @@ def answers_of(cases, output):
 
 
 def lines_behind(case, first):
-    """How many lines an answer has behind its first: a loaded table's nodes, what a code's three services say, a desk's calls."""
+    """How many lines an answer has behind its first: a loaded table's nodes, what a code's three services say, a desk's calls, a term's litres."""
     kind = case[:1]
     if kind == b"a":
         kind = case.split(b" ")[SERVICE]
@@ -39,7 +39,7 @@ def lines_behind(case, first):
     if kind == b"l":
         number, value = first.split(b"\t")[:2]
         return int(value) if number == b"0" else 0
-    return 2 if kind == b"c" else 0
+    return {b"c": 2, b"f": 1}.get(kind, 0)
 
 
 # The fields behind each letter in a run of a desk; the last two are no calls and answer nothing.
@@ -81,7 +81,7 @@ def faults(program, stored):
         ("half a byte", good[:-2] + b"\n" + good, NO_CASE + right, None),
         ("a digit that is none", good[:-2] + b"g\n" + good, NO_CASE + right, None),
         ("a digit with the highest bit set", good[:-2] + b"\xb1\n" + good, NO_CASE + right, None),
-        *((name, altered + good, NO_CASE + right, None) for name, altered in no_tables(cases)),
+        *((name, altered + good, NO_CASE + right, None) for name, altered in [*no_tables(cases), *no_tapes(cases)]),
     ]
     return [(name, fault(program, given, expected, size)) for name, given, expected, size in told]
 
@@ -93,6 +93,12 @@ def no_tables(cases):
     told += [(f"kind {kind.decode()} in kind a", SERVICE, kind) for kind in (b"a", b"l", b"x")]
     lines = [(name, b" ".join(fields[:at] + [other] + fields[at + 1 :])) for name, at, other in told]
     return [*lines, ("an account and no kind", b" ".join(fields[:SERVICE]) + b"\n")]
+
+
+def no_tapes(cases):
+    """Lines of kind `b` that are no cases: its tape, which stands last, has half a byte or a digit that is none."""
+    line = next(case for case in cases if case[:1] == b"b" and not case.endswith(b" \n"))
+    return [("half a byte of a tape", line[:-2] + b"\n"), ("a digit of a tape that is none", line[:-2] + b"g\n")]
 
 
 def fault(program, given, expected, size):

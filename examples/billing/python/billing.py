@@ -1,92 +1,110 @@
-"""billing FOLDER: the litres of all flats under FOLDER, as one table on standard output. It has a column for each account that some bill
-has litres on.
+"""billing [--store] FOLDER: the litres of all flats under FOLDER, as one table on standard output. It has a column for each account that
+some bill has litres on. billing --flip FILE: what one changed bit does to a stored code.
 
-Each flat is a folder with pattern.tsv and tape.txt. One that is billed for some days only has term.tsv too, with three dates: that of the
-tape's first letter, and the first and the last of the term. A flat whose pattern, tape or term is refused gets no litres at all: it
-stands under the table with the cause. Standard error has a line that counts the flats. The exit status is 0 where all flats are billed,
-1 where some are not, and 2 where FOLDER cannot be read.
+Each flat is a folder with pattern.tsv and tape.txt, or with stored.tsv, which --store writes. read.tsv has the dates of the reading, and
+term.tsv those of a bill for some days only. ../README.md has their forms. A flat with a fault gets no litres at all: it stands under the
+table with the cause, and all others are billed. The exit status is 0 if all flats are billed, 1 if some are not, and 2 for trouble: a
+folder that cannot be read, or output that cannot be written.
 """
+
+from __future__ import annotations
 
 import os
 import sys
-from pathlib import Path
+from typing import Dict, List, NamedTuple
 
-from wumbyra import ACCOUNTS, Pattern, Refused
+from flat import Bill, Flat, Unbilled
+from flips import flips
+from output import complain, print_all
+from stored import Damaged, stored_of
+from wumbyra import ACCOUNTS, Refused
 
-
-class Missing(Exception):
-    """A file of a flat that cannot be read."""
-
-
-def read(flat, name):
-    try:
-        return (flat / name).read_bytes()
-    except OSError:
-        raise Missing(f"{name} cannot be read") from None
+USAGE = b"usage: billing [--store] FOLDER | billing --flip FILE"
 
 
-def date(field):
-    """The year, month and day that a number writes: 20240229 is 29 February 2024."""
-    number = int(field)
-    return number // 10000, number // 100 % 100, number % 100
+class Bills(NamedTuple):
+    """Bills by name, and why the other flats have none: number and value of a refusal, and the cause in words."""
+
+    billed: Dict[bytes, Bill]
+    unbilled: Dict[bytes, bytes]
 
 
-def read_term(flat):
-    """The dates of a flat's term; none where the whole tape is billed."""
-    if not (flat / "term.tsv").exists():
-        return None
-    try:
-        start, first, last = map(date, read(flat, "term.tsv").split()[:3])
-    except ValueError:
-        raise Missing("term.tsv cannot be read") from None
-    return start, first, last
+def is_control(byte: int) -> bool:
+    return byte < 32 or byte == 127
 
 
-def bill(flat):
-    """The litres of all accounts."""
-    text, tape, term = read(flat, "pattern.tsv"), read(flat, "tape.txt"), read_term(flat)
-    if tape.endswith(b"\n"):
-        tape = tape[:-1]  # the file's last line end is no letter of the tape
-    pattern = Pattern(text)
-    code, bits, _ = pattern.parse(tape)
-    return pattern.term_totals(code, bits, *term) if term else pattern.totals(code, bits)
+def shown(name: bytes) -> bytes:
+    """A name with a tab or a line end would make other columns and rows."""
+    return bytes(ord("?") if is_control(byte) else byte for byte in name)
 
 
-def bill_all(folder, names):
-    """The litres of each flat that is billed, and why each of the others is not."""
-    billed, refused = {}, {}
-    for done, name in enumerate(names, 1):
+def bill_flat(folder: bytes, name: bytes, store: bool) -> Bill:
+    if name in (b"flat", b"sum") or any(map(is_control, name)):
+        raise Unbilled("its name cannot stand in the table")
+    return Flat(os.path.join(folder, name)).bill(store)
+
+
+def bill_all(folder: bytes, names: List[bytes], store: bool) -> Bills:
+    bills = Bills({}, {})
+    for name in names:
         try:
-            billed[name] = bill(folder / name)
+            bills.billed[name] = bill_flat(folder, name, store)
         except Refused as why:
-            refused[name] = (why.number, why.value, why)
-        except Missing as why:
-            refused[name] = ("-", "-", why)
-        print(f"\r{done} of {len(names)} flats", end="", file=sys.stderr)
-    print(file=sys.stderr)
-    return billed, refused
+            bills.unbilled[name] = b"%d\t%d\t%s" % (why.number, why.value, why.cause.encode())
+        except Unbilled as why:
+            bills.unbilled[name] = b"-\t-\t%s" % str(why).encode()
+    return bills
 
 
-def main(arguments):
-    if len(arguments) != 2:
-        print("usage: billing FOLDER", file=sys.stderr)
-        return 2
-    try:
-        names = sorted(name for name in os.listdir(arguments[1]) if not name.startswith("."))
-    except OSError:
-        print(f"billing: {arguments[1]} cannot be read", file=sys.stderr)
-        return 2
-    billed, refused = bill_all(Path(arguments[1]), names)
-    sums = [sum(litres[account] for litres in billed.values()) for account in range(ACCOUNTS)]
+def row(*fields: object) -> bytes:
+    return b"\t".join(field if isinstance(field, bytes) else str(field).encode() for field in fields) + b"\n"
+
+
+def table(bills: Bills) -> bytes:
+    sums = [sum(bill.litres[account] for bill in bills.billed.values()) for account in range(ACCOUNTS)]
     columns = [account for account in range(ACCOUNTS) if sums[account] > 0]
-    print("flat", *columns, "all", sep="\t")
-    for name, litres in [*billed.items(), ("sum", sums)]:
-        print(name, *(litres[account] for account in columns), sum(litres), sep="\t")
-    print("\nnot billed")
-    for name, why in refused.items():
-        print(name, *why, sep="\t")
-    return 1 if refused else 0
+    rows = [row("flat", *columns, "all")]
+    for name, litres in [*((name, bill.litres) for name, bill in bills.billed.items()), (b"sum", sums)]:
+        rows.append(row(name, *(litres[account] for account in columns), sum(litres)))
+    rows.append(b"\nnot billed\n")
+    rows += (row(shown(name), why) for name, why in bills.unbilled.items())
+    rows.append(b"\nwarnings\n")
+    rows += (row(name, words) for name, bill in bills.billed.items() for words in bill.warnings)
+    return b"".join(rows)
+
+
+def bill_folder(folder: bytes, store: bool) -> int:
+    try:
+        names = sorted(name for name in os.listdir(folder) if not name.startswith(b"."))
+    except OSError:
+        return complain(b"billing: %s cannot be read" % folder)
+    try:
+        bills = bill_all(folder, names, store)
+    except OSError:
+        return complain(b"billing: a code cannot be stored")
+    return print_all(b"billing", table(bills), 1 if bills.unbilled else 0)
+
+
+def flip_file(path: bytes) -> int:
+    try:
+        with open(path, "rb") as source:
+            counts = flips(stored_of(source.read()))
+    except OSError:
+        return complain(b"billing: %s cannot be read" % path)
+    except (Damaged, ValueError, Refused):
+        return complain(b"billing: %s is not a stored code" % path)
+    return print_all(b"billing", counts, 0)
+
+
+def main(arguments: List[bytes]) -> int:
+    if len(arguments) == 1:
+        return bill_folder(arguments[0], False)
+    if len(arguments) == 2 and arguments[0] == b"--store":
+        return bill_folder(arguments[1], True)
+    if len(arguments) == 2 and arguments[0] == b"--flip":
+        return flip_file(arguments[1])
+    return complain(USAGE)
 
 
 if __name__ == "__main__":
-    sys.exit(main(sys.argv))
+    sys.exit(main([os.fsencode(argument) for argument in sys.argv[1:]]))

@@ -1,9 +1,15 @@
 /* concentrator PATTERN PAGES: gathers a tape from pages that arrive newest first, and prints its litres.
- * The exit status is 0 where the tape is read, 1 where it is refused, 2 for trouble with files. It is C99. */
+ *
+ * After each page it asks whether the letters held can be the end of a tape. If not, the page is fetched again at once, and not when the
+ * whole tape has come and is refused. The exit status is 0 if the tape is read, 1 if it is refused, and 2 for trouble: a file that cannot be
+ * read, a line of pages without a tab, output that cannot be written. It is C99 with POSIX's getline. */
+#define _POSIX_C_SOURCE 200809L
 #include "wumbyra.h"
 
+#include <signal.h>
 #include <stdio.h>
 #include <string.h>
+#include <sys/types.h>
 
 /* What a concentrator keeps of a tape that it is fetching. */
 static uint8_t desk[WUMBYRA_DESK_BYTES], letters[WUMBYRA_MAX_LETTERS];
@@ -20,14 +26,23 @@ static int refused(uint64_t answer)
     return 1;
 }
 
+/* Whether no tape of the pattern ends with the n letters held: from no line, with flag 1, can they be read. Ask with n above 0. */
+static int is_unreadable(size_t n)
+{
+    return words[2 * n + 1] == 0;
+}
+
 /* A page, and whether its radio check is good, which is known only when all of it has come. */
 static void take(const uint8_t *page, size_t length, int good)
 {
     uint64_t answer = wumbyra_desk_put(text, size, desk, sizeof desk, page, length, letters, sizeof letters, words, WUMBYRA_MAX_WORDS);
+    uint32_t held = wumbyra_value(answer);
     if (refused(answer))
         return;
-    printf("put\t%u\n", wumbyra_value(answer));
-    if (good)
+    printf("put\t%u\n", held);
+    if (is_unreadable(held))
+        printf("unreadable\t%u\n", held);
+    else if (good)
         return;
     answer = wumbyra_desk_withdraw(text, size, desk, sizeof desk, letters, sizeof letters);
     if (!refused(answer))
@@ -64,32 +79,55 @@ static int print_litres(void)
     return 0;
 }
 
-/* The pages stand in a file here: `good` or `bad`, a tab, and the letters. */
+/* The pages stand in a file here: `good` or `bad`, a tab, and the letters. 0 if a line has no tab. */
 static int fetch(FILE *pages)
 {
-    char line[512];
-    while (fgets(line, sizeof line, pages)) {
-        char *tab = strchr(line, '\t');
+    char *line = NULL, *tab;
+    size_t room = 0, length;
+    ssize_t got;
+    while ((got = getline(&line, &room, pages)) > 0) {
+        length = (size_t)got - (line[got - 1] == '\n');
+        tab = memchr(line, '\t', length);
         if (!tab)
             return 0;
-        take((const uint8_t *)tab + 1, strcspn(tab + 1, "\n"), !strncmp(line, "good\t", 5));
+        tab++;
+        take((const uint8_t *)tab, length - (size_t)(tab - line), strncmp(line, "good\t", 5) == 0);
     }
     return 1;
 }
 
+static int complain(const char *about, const char *sentence)
+{
+    fprintf(stderr, "concentrator: %s%s\n", about, sentence);
+    return 2;
+}
+
+static int run(const char *pattern_file, const char *pages_file)
+{
+    FILE *pattern = fopen(pattern_file, "rb"), *pages = fopen(pages_file, "rb");
+    size = pattern ? fread(text, 1, sizeof text, pattern) : 0;
+    if (!pattern || ferror(pattern))
+        return complain(pattern_file, " cannot be read");
+    if (!pages)
+        return complain(pages_file, " cannot be read");
+    if (refused(wumbyra_load(text, size)) || refused(wumbyra_desk_open(text, size, desk, sizeof desk, words, WUMBYRA_MAX_WORDS)))
+        return 1;
+    if (!fetch(pages))
+        return complain("", "a line of pages has no tab");
+    if (ferror(pages))
+        return complain(pages_file, " cannot be read");
+    return print_litres();
+}
+
 int main(int count, char **arguments)
 {
-    FILE *pattern = count == 3 ? fopen(arguments[1], "rb") : NULL, *pages = count == 3 ? fopen(arguments[2], "rb") : NULL;
-    if (!pattern || !pages) {
-        fprintf(stderr, "usage: concentrator PATTERN PAGES\n");
+    int status;
+    signal(SIGPIPE, SIG_IGN); /* a pipe that is closed is output that cannot be written, and not the end of the program */
+    if (count != 3) {
+        fputs("usage: concentrator PATTERN PAGES\n", stderr);
         return 2;
     }
-    size = fread(text, 1, sizeof text, pattern);
-    if (refused(wumbyra_desk_open(text, size, desk, sizeof desk, words, WUMBYRA_MAX_WORDS)))
-        return 1;
-    if (!fetch(pages)) {
-        fprintf(stderr, "a line of pages has no tab\n");
-        return 2;
-    }
-    return print_litres();
+    status = run(arguments[1], arguments[2]);
+    /* What is printed stands in a buffer until here, and a full disk is seen when it is written. */
+    return fflush(stdout) != 0 || ferror(stdout) ? complain("", "standard output cannot be written to") : status;
 }

@@ -47,6 +47,12 @@ mod c {
             node: u32,
             visit: u32,
         ) -> u64;
+        pub fn wumbyra_locate(
+            text: *const u8,
+            text_len: usize,
+            tape: *const u8,
+            tape_len: usize,
+        ) -> u64;
         pub fn wumbyra_total(
             text: *const u8,
             text_len: usize,
@@ -186,6 +192,10 @@ pub fn span(text: &[u8], tape: &[u8], code: &[u8], count: u32, node: u32, visit:
             visit,
         )
     }
+}
+
+pub fn locate(text: &[u8], tape: &[u8]) -> u64 {
+    unsafe { c::wumbyra_locate(text.as_ptr(), text.len(), tape.as_ptr(), tape.len()) }
 }
 
 pub fn total(text: &[u8], code: &[u8], count: u32, account: u32) -> u64 {

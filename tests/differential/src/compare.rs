@@ -7,7 +7,7 @@ use wumbyra_reference::calendar::Date;
 use wumbyra_reference::load::load;
 use wumbyra_reference::prng::Prng;
 use wumbyra_reference::services::totals::{Totals, ACCOUNTS};
-use wumbyra_reference::services::{reading, settling, spelling, terms, totals, visits};
+use wumbyra_reference::services::{locate, reading, settling, spelling, terms, totals, visits};
 use wumbyra_reference::table::{Refusal, Table};
 
 /// Cells on each side of a lent buffer that no call may touch.
@@ -15,7 +15,7 @@ pub const CANARIES: usize = 8;
 /// Bytes of a code that is walked for every node.
 const SHORT: usize = 64;
 
-pub const CALLS: [&str; 11] = [
+pub const CALLS: [&str; 12] = [
     "load",
     "parse",
     "flatten",
@@ -27,22 +27,27 @@ pub const CALLS: [&str; 11] = [
     "desk_open",
     "desk_put",
     "desk_withdraw",
+    "locate",
 ];
 
 /// Cells lent for totals, beside the case's own: none, as many as a caller of 1.4.0 lends, one short, all and one more.
 const CELLS: [usize; 5] = [0, 10, ACCOUNTS - 1, ACCOUNTS, ACCOUNTS + 1];
+/// Of so many cases one has its totals in each number of cells, up to two more than there are accounts.
+const ALL_CELLS: u64 = 16;
 
-/// Rows of two of them.
+/// Rows of three of them.
 pub const PARSE: usize = 1;
 pub const SPAN: usize = 4;
+const LOCATE: usize = 11;
 
-/// The greatest number of a cause.
-pub const LAST_CAUSE: usize = 15;
+/// The greatest number of a cause. 16 to 19 are not answered by any call.
+pub const LAST_CAUSE: usize = 20;
+pub const NO_CAUSES: Range<usize> = 16..20;
 
 /// How often each call answered each number, and how many pieces were read by themselves.
 #[derive(Clone, Default)]
 pub struct Counts {
-    pub answers: [[u64; LAST_CAUSE + 1]; 11],
+    pub answers: [[u64; LAST_CAUSE + 1]; 12],
     pub pieces: u64,
 }
 
@@ -132,6 +137,7 @@ pub fn compare(case: &Case, counts: &mut Counts) -> Result<(), String> {
     run.total()?;
     run.totals()?;
     run.term_totals()?;
+    run.locate()?;
     run.pieces()?;
     if before != (case.text.clone(), case.tape.clone(), case.code.clone()) {
         return Err("text, tape or code was changed".into());
@@ -262,18 +268,29 @@ impl Run<'_> {
         Ok(())
     }
 
+    /// The numbers of cells that are lent for totals: the case's own, those above, and such that the last account with litres has no
+    /// cell, or has the last one.
+    fn cells(&self, answer: &Result<Totals, Refusal>) -> Vec<usize> {
+        if self.case.filling % ALL_CELLS == 0 && self.case.code.len() < SHORT {
+            return (0..=ACCOUNTS + 2).collect();
+        }
+        let last = |totals: &Totals| totals.iter().rposition(|&litres| litres > 0);
+        let last = answer.as_ref().ok().and_then(last);
+        let needed = last.into_iter().flat_map(|account| [account, account + 1]);
+        let mut cells: Vec<usize> = needed.chain(CELLS).chain([self.case.accounts]).collect();
+        cells.sort_unstable();
+        cells.dedup();
+        cells
+    }
+
     fn totals(&mut self) -> Result<(), String> {
         let case = self.case;
-        for cells in [case.accounts].into_iter().chain(CELLS) {
+        let expected = totals::totals(&self.table, &case.code, u64::from(case.count));
+        for cells in self.cells(&expected) {
             let mut litres = Lent::new(cells, || self.fill.number() as u32);
             let proved = calls::totals(&case.text, &case.code, case.count, litres.proved());
-            let expected = totals::totals_into(
-                &self.table,
-                &case.code,
-                u64::from(case.count),
-                litres.expected(),
-            );
-            self.answered(6, proved, packed(expected))?;
+            let put = totals::put(expected, litres.expected());
+            self.answered(6, proved, packed(put))?;
             litres.same("totals", "litres")?;
         }
         Ok(())
@@ -281,8 +298,10 @@ impl Run<'_> {
 
     fn term_totals(&mut self) -> Result<(), String> {
         let case = self.case;
-        let dates = case.dates.map(Date::of_number);
-        for cells in [case.accounts].into_iter().chain(CELLS) {
+        let [start, first, last] = case.dates.map(Date::of_number);
+        let bits = u64::from(case.count);
+        let expected = terms::term_totals(&self.table, &case.code, bits, start, first, last);
+        for cells in self.cells(&expected) {
             let mut litres = Lent::new(cells, || self.fill.number() as u32);
             let proved = calls::term_totals(
                 &case.text,
@@ -291,15 +310,32 @@ impl Run<'_> {
                 case.dates,
                 litres.proved(),
             );
-            let expected = terms::term_totals_into(
-                &self.table,
-                &case.code,
-                u64::from(case.count),
-                dates,
-                litres.expected(),
-            );
-            self.answered(7, proved, packed(expected))?;
+            let put = totals::put(expected, litres.expected());
+            self.answered(7, proved, packed(put))?;
             litres.same("term_totals", "litres")?;
+        }
+        Ok(())
+    }
+
+    /// Where the tape breaks. Of a short one also without its last letters, without its first, with one of them twice, and with another
+    /// in the place of one.
+    fn locate(&mut self) -> Result<(), String> {
+        let tape = &self.case.tape;
+        let mut tapes = vec![tape.clone()];
+        if (1..SHORT).contains(&tape.len()) {
+            let at = self.fill.below(tape.len());
+            tapes.push(tape[..at].to_vec());
+            tapes.push(tape[at + 1..].to_vec());
+            tapes.push([&tape[..at], &tape[at..=at], &tape[at..]].concat());
+            let mut other = tape.clone();
+            other[at] = *self.fill.pick(&[b'0', b'W', b'a', b'~', 161, 228, tape[0]]);
+            tapes.push(other);
+        }
+        for tape in tapes {
+            let proved = calls::locate(&self.case.text, &tape);
+            let expected = locate::locate(&self.table, &tape).map(locate::Located::value);
+            self.answered(LOCATE, proved, packed(expected))
+                .map_err(|words| format!("{words} (reach and resume, of {tape:?})"))?;
         }
         Ok(())
     }

@@ -4,7 +4,7 @@
 use crate::calls;
 use wumbyra_reference::accounts::{written, FIELDS, ODD_FIELDS};
 use wumbyra_reference::load::load;
-use wumbyra_reference::services::totals::{totals, Totals, ACCOUNTS};
+use wumbyra_reference::services::totals::{put, totals, Totals, ACCOUNTS};
 use wumbyra_reference::stale::text;
 use wumbyra_reference::table::number_and_value;
 
@@ -64,8 +64,8 @@ fn every_field(asked: &mut u64) -> Result<u64, String> {
     Ok(fields)
 }
 
-/// 5 litres under both accounts and 7 under the outer one alone: all totals, and that of each account that is named, of the first
-/// that is none and of one whose lowest eight bits are an account's.
+/// 5 litres under both accounts and 7 under the outer one alone: all totals, in as many cells as they need, in one fewer (20) and in
+/// more, and that of each account that is named, of the first that is none and of one whose lowest eight bits are an account's.
 fn every_pair(asked: &mut u64) -> Result<u64, String> {
     let mut pairs = 0;
     for outer in 0..ACCOUNTS as u64 {
@@ -76,8 +76,13 @@ fn every_pair(asked: &mut u64) -> Result<u64, String> {
             let text = text(&[&leaf, "L - 7", &root]);
             let table = load(&text).expect("a good pattern");
             let right = totals(&table, &[], 0).expect("a whole code");
-            expect_totals(&text, &right)?;
-            *asked += 1;
+            // All cells, and such that the greater account with litres has none, or has the last one.
+            let last = right.iter().rposition(|&litres| litres > 0);
+            let last = last.expect("12 litres");
+            for cells in [last, last + 1, ACCOUNTS + BEHIND] {
+                expect_totals(&text, &right, cells)?;
+                *asked += 1;
+            }
             for account in [
                 0,
                 9,
@@ -101,22 +106,20 @@ fn every_pair(asked: &mut u64) -> Result<u64, String> {
     Ok(pairs)
 }
 
-fn expect_totals(text: &[u8], right: &Totals) -> Result<(), String> {
+fn expect_totals(text: &[u8], right: &Totals, cells: usize) -> Result<(), String> {
     let mut litres = [BEFORE; ACCOUNTS + BEHIND];
-    let answer = calls::totals(text, &[], 0, &mut litres);
+    let answer = calls::totals(text, &[], 0, &mut litres[..cells]);
     let mut due = [BEFORE; ACCOUNTS + BEHIND];
-    for (cell, &litres) in due.iter_mut().zip(right) {
-        *cell = litres as u32;
-    }
+    let (number, value) = number_and_value(&put(Ok(*right), &mut due[..cells]));
     let differs = (0..due.len()).find(|&cell| litres[cell] != due[cell]);
-    if answer == 0 && differs.is_none() {
+    if answer == number << 32 | value && differs.is_none() {
         return Ok(());
     }
     let cell = differs.map_or(String::new(), |at| {
         format!(", cell {at} holds {} for {}", litres[at], due[at])
     });
     Err(format!(
-        "totals, {:?}: answered {} and {}{cell}",
+        "totals, {:?}, {cells} cells: answered {} and {}, expected {number} and {value}{cell}",
         String::from_utf8_lossy(text),
         answer >> 32,
         answer as u32

@@ -16,7 +16,7 @@ mod shrink;
 mod subpatterns;
 
 use case::{has_full_tape, random_case, Case, FULL_TAPES};
-use compare::{compare, Counts, CALLS, LAST_CAUSE};
+use compare::{compare, Counts, CALLS, LAST_CAUSE, NO_CAUSES};
 use std::path::Path;
 use wumbyra_reference::prng::Prng;
 
@@ -119,12 +119,13 @@ fn next_seed(seeds: &mut Prng, full: usize) -> u64 {
 
 /// How often each call answered each number.
 fn show(counts: &Counts) {
+    let numbers = || (0..=LAST_CAUSE).filter(|number| !NO_CAUSES.contains(number));
     print!("{:13}", "number");
-    (0..=LAST_CAUSE).for_each(|number| print!("{number:>8}"));
+    numbers().for_each(|number| print!("{number:>8}"));
     println!();
     for (name, row) in CALLS.iter().zip(&counts.answers) {
         print!("{name:13}");
-        row.iter().for_each(|count| print!("{count:>8}"));
+        numbers().for_each(|number| print!("{:>8}", row[number]));
         println!();
     }
 }

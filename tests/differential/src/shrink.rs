@@ -302,8 +302,9 @@ mod tests {
     use crate::case::random_case;
     use wumbyra_reference::calendar::Date;
     use wumbyra_reference::prng::Prng;
+    use wumbyra_reference::services::locate::{locate, Located};
     use wumbyra_reference::services::terms::term_totals;
-    use wumbyra_reference::services::totals::totals;
+    use wumbyra_reference::services::totals::{put, totals, CELLS_TOO_FEW};
     use wumbyra_reference::stale::moves_litres;
     use wumbyra_reference::value::{has_empty_round, spell};
 
@@ -508,6 +509,77 @@ mod tests {
                     let found = accounts == [limit] || limit == 1 && accounts == [9];
                     assert!(found, "{limit}: {accounts:?}");
                 }
+            }
+        }
+    }
+
+    /// A fault in totals that lack a cell is shown with no cell and one leaf.
+    #[test]
+    fn a_missing_cell_is_shown_with_one_leaf() {
+        let fails = |case: &Case| {
+            let Ok(table) = load(&case.text) else {
+                return false;
+            };
+            let all = totals(&table, &case.code, u64::from(case.count));
+            let put = put(all, &mut vec![0; case.accounts]);
+            put.is_err_and(|refusal| refusal.number == CELLS_TOO_FEW)
+        };
+        let mut rng = Prng::new(31);
+        let mut seen = 0;
+        while seen < 20 {
+            let case = random_case(&mut rng);
+            if case.code.len() < 100 && fails(&case) {
+                seen += 1;
+                let small = shrink(&case, &fails);
+                let table = load(&small.text).expect("it loads");
+                assert_eq!((table.lines().len(), small.accounts), (1, 0), "{small:?}");
+            }
+        }
+    }
+
+    fn located(case: &Case) -> Option<Located> {
+        let table = load(&case.text).ok()?;
+        locate(&table, &case.tape).ok()
+    }
+
+    /// A fault in tapes with a letter at which they break comes down to that letter.
+    #[test]
+    fn a_broken_tape_is_shown_with_one_letter() {
+        let fails =
+            |case: &Case| located(case).is_some_and(|located| located.reach < located.resume);
+        let mut rng = Prng::new(33);
+        let mut seen = 0;
+        while seen < 20 {
+            let case = random_case(&mut rng);
+            if case.code.len() < 100 && case.tape.len() < 100 && fails(&case) {
+                seen += 1;
+                let small = shrink(&case, &fails);
+                assert_eq!(small.text, b"0\tE\t-\n");
+                assert_eq!(small.tape.len(), 1);
+            }
+        }
+    }
+
+    /// A fault in tapes that stop too early comes down to a short sequence. Not always to two letters and a tape of one: of ~!~ and ~! a
+    /// letter less in the one or in the other is no such tape.
+    #[test]
+    fn a_tape_that_stops_too_early_is_made_small() {
+        let fails = |case: &Case| {
+            let early = |located: Located| {
+                located.reach == case.tape.len() as u64 && located.resume == located.reach
+            };
+            !case.tape.is_empty() && located(case).is_some_and(early)
+        };
+        let mut rng = Prng::new(35);
+        let mut seen = 0;
+        while seen < 20 {
+            let case = random_case(&mut rng);
+            if case.code.len() < 100 && case.tape.len() < 100 && fails(&case) {
+                seen += 1;
+                let small = shrink(&case, &fails);
+                let table = load(&small.text).expect("it loads");
+                assert!(small.tape.len() <= 2, "{small:?}");
+                assert!(table.lines().len() <= 5, "{small:?}");
             }
         }
     }

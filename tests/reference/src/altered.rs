@@ -7,7 +7,7 @@ use crate::calendar::Date;
 use crate::codes::{Code, Lent};
 use crate::table::{Table, MOST_LINES};
 use crate::tapes::table_of;
-use crate::{codes, tapes, terms, visits};
+use crate::{breaks, codes, tapes, terms, visits};
 
 /// ((a[0-9]|e)*)Z: a line of each kind, none with an account.
 const TEXT: &str =
@@ -35,6 +35,7 @@ pub enum Service {
     Code(codes::Case),
     Visit(visits::Case),
     Term(terms::Case),
+    Break(breaks::Case),
 }
 
 pub struct Case {
@@ -54,6 +55,7 @@ pub fn all() -> Vec<Case> {
     each_line(&mut hand);
     no_line(&mut hand);
     before_others(&mut hand);
+    breaks(&mut hand);
     hand.cases
 }
 
@@ -66,6 +68,7 @@ impl Case {
             Service::Code(case) => case.line(),
             Service::Visit(case) => case.line(),
             Service::Term(case) => case.line(),
+            Service::Break(case) => case.line(),
         };
         let fields: Vec<&str> = own.splitn(3, ' ').collect();
         let (kind, text, rest) = (fields[0], fields[1], fields[2]);
@@ -80,6 +83,7 @@ impl Case {
             Service::Code(case) => case.answers_by(&table).to_vec(),
             Service::Visit(case) => vec![case.answer_by(&table)],
             Service::Term(case) => vec![case.answer_by(&table)],
+            Service::Break(case) => vec![case.answer_by(&table)],
         }
     }
 
@@ -98,6 +102,7 @@ impl Case {
             Service::Code(case) => &case.text,
             Service::Visit(case) => &case.text,
             Service::Term(case) => &case.text,
+            Service::Break(case) => &case.text,
         }
     }
 }
@@ -159,6 +164,16 @@ fn services(text: &str) -> [(&'static str, Service); 4] {
         ("visit", visit(text, BITS)),
         ("term", term(text, BITS, 20_240_229)),
     ]
+}
+
+/// Where a tape breaks.
+fn broken(text: &str, letters: &[u8]) -> Service {
+    Service::Break(breaks::Case {
+        name: String::new(),
+        text: text.as_bytes().to_vec(),
+        tape: letters.to_vec(),
+        expected: None,
+    })
 }
 
 /// 2 for an account above 200.
@@ -242,5 +257,26 @@ fn before_others(hand: &mut Hand) {
         refused("visit, no code", visit(TEXT, "11"));
         refused("term, no code", term(TEXT, "11", 20_240_229));
         refused("term, no date", term(TEXT, BITS, 20_240_230));
+    }
+}
+
+/// Where a tape breaks does not depend on accounts, as long as they are good.
+fn breaks(hand: &mut Hand) {
+    for line in 0..LINES {
+        for account in [0, 9, 200, 201, 255] {
+            let number = number_of(account);
+            hand.add("break", line, account, broken(TEXT, b"a5xa7"), number);
+            hand.add("break, read", line, account, broken(TEXT, TAPE), number);
+        }
+    }
+    for line in [LINES, 63, 64] {
+        hand.add("break", line, 201, broken(TEXT, b"a5xa7"), 0);
+    }
+    for (name, tape) in [
+        ("break, no letters", &b""[..]),
+        ("break, byte 127", b"a5\x7f"),
+        ("break, 3,601 letters", &[b'a'; 3_601]),
+    ] {
+        hand.add(name, DIGITS, 201, broken(TEXT, tape), 2);
     }
 }

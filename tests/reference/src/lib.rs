@@ -5,9 +5,11 @@
 pub mod accounts;
 pub mod altered;
 pub mod automaton;
+pub mod breaks;
 pub mod brute;
 pub mod calendar;
 pub mod cases;
+pub mod cells;
 pub mod code;
 pub mod codes;
 pub mod cuts;

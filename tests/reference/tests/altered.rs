@@ -11,6 +11,7 @@ fn answers_by(case: &Case, table: &Table) -> Vec<String> {
         Service::Code(own) => own.answers_by(table).to_vec(),
         Service::Visit(own) => vec![own.answer_by(table)],
         Service::Term(own) => vec![own.answer_by(table)],
+        Service::Break(own) => vec![own.answer_by(table)],
     }
 }
 
@@ -54,7 +55,7 @@ fn only_totals_depend_on_the_account() {
         match &case.service {
             Service::Code(_) => expected[1] = totals,
             Service::Term(_) => expected[0] = totals,
-            Service::Tape(_) | Service::Visit(_) => (),
+            Service::Tape(_) | Service::Visit(_) | Service::Break(_) => (),
         }
         assert_eq!(case.answers(), expected, "{}", case.name);
     }

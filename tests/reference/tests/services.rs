@@ -390,6 +390,8 @@ fn open_counts_of_the_listing() {
     );
 }
 
+/// 20 where a cell is missing for litres, and not where the accounts that have
+/// none have no litres.
 #[test]
 fn totals_go_into_as_many_cells_as_are_lent() {
     let listing = table(LISTING);
@@ -398,11 +400,14 @@ fn totals_go_into_as_many_cells_as_are_lent() {
     for cells in 0..ACCOUNTS + 3 {
         let written = cells.min(ACCOUNTS);
         let mut litres = [77; ACCOUNTS + 3];
-        assert_eq!(
-            totals_into(&listing, &code, 21, &mut litres[..cells]),
-            Ok(0)
-        );
-        assert_eq!(litres[..written], expected[..written]);
+        let answer = totals_into(&listing, &code, 21, &mut litres[..cells]);
+        if cells < 10 {
+            assert_eq!(answer, Err(Refusal::new(20, 0)), "{cells}");
+            assert!(litres[..written].iter().all(|cell| *cell == 0));
+        } else {
+            assert_eq!(answer, Ok(0), "{cells}");
+            assert_eq!(litres[..written], expected[..written]);
+        }
         assert!(litres[written..].iter().all(|cell| *cell == 77));
         assert_eq!(
             totals_into(&listing, &code, 20, &mut litres[..cells]),
@@ -411,4 +416,40 @@ fn totals_go_into_as_many_cells_as_are_lent() {
         assert!(litres[..written].iter().all(|cell| *cell == 0));
         assert!(litres[written..].iter().all(|cell| *cell == 77));
     }
+}
+
+/// Each account by itself, with 7 litres and with none, in its own number of cells
+/// and in one more. 2, 8 and 3 come before 20.
+#[test]
+fn an_account_with_litres_needs_its_cell() {
+    for account in 0..ACCOUNTS as u64 {
+        for (letter, litres) in [(b'7', 7), (b'0', 0), (b'x', 0)] {
+            let leaf = Node::new(Kind::Letter, account, u64::from(letter), 0);
+            let leaf = Table::of_nodes(&[leaf]);
+            let mut cells = vec![77; account as usize + 1];
+            let answer = totals_into(&leaf, &[], 0, &mut cells[..account as usize]);
+            let due = match litres {
+                0 => Ok(0),
+                _ => Err(Refusal::new(20, 0)),
+            };
+            assert_eq!(answer, due, "{account}");
+            assert!(cells[..account as usize].iter().all(|cell| *cell == 0));
+            assert_eq!(cells[account as usize], 77);
+            assert_eq!(totals_into(&leaf, &[], 0, &mut cells), Ok(0));
+            assert_eq!(cells[account as usize], litres);
+            let no_code = totals_into(&leaf, &[0], 1, &mut []);
+            assert_eq!(no_code, Err(Refusal::new(8, 0)));
+        }
+    }
+    let many = table("0\tL\t200\t7\n1\tK\t-\t0\n");
+    let mut bits = vec![false; 3_601];
+    bits.push(true);
+    let too_long = totals_into(&many, &pack(&bits), 3_602, &mut []);
+    assert_eq!(too_long, Err(Refusal::new(3, 0)));
+    let no_table = totals_into(&Table::of_no_lines(), &pack(&bits), 3_602, &mut []);
+    assert_eq!(no_table, Err(Refusal::new(2, 0)));
+    assert_eq!(
+        totals_into(&many, &pack(&bits[1..]), 3_601, &mut [7; 200]),
+        Err(Refusal::new(20, 0))
+    );
 }

@@ -225,27 +225,46 @@ fn a_bad_table_is_refused_first() {
     }
 }
 
+/// 20 asks for the litres of the term alone: on the first day account 1 has
+/// litres, on the second account 9. It comes behind 11 and 12.
 #[test]
 fn litres_go_into_as_many_cells_as_are_lent() {
     let table = load(DAYS.as_bytes()).expect("a good pattern");
     let code = code_of(DAYS.as_bytes(), b"1DW2");
     let day = Date::new(2024, 2, 29);
     let next = Date::new(2024, 3, 1);
+    let far = Date::new(2050, 1, 1);
+    let none = Date::new(2023, 2, 29);
+    let term = |dates, litres: &mut [u32]| {
+        term_totals_into(&table, &code.bytes, code.count, dates, litres)
+    };
     for cells in 0..ACCOUNTS + 2 {
-        let mut litres = [7; ACCOUNTS + 2];
-        let (bytes, count) = (&code.bytes, code.count);
-        let lent = &mut litres[..cells];
-        let answer = term_totals_into(&table, bytes, count, [day, day, next], lent);
-        assert_eq!(answer, Ok(0));
         let written = cells.min(ACCOUNTS);
-        let all = some_litres(&[(1, 1), (9, 2)]).map(|litres| litres as u32);
-        assert_eq!(litres[..written], all[..written]);
-        assert!(litres[written..].iter().all(|&cell| cell == 7));
-        let lent = &mut litres[..cells];
-        let answer = term_totals_into(&table, bytes, count, [day, next, day], lent);
-        assert_eq!(answer, Err(Refusal::new(12, 0)));
-        assert!(litres[..written].iter().all(|&cell| cell == 0));
-        assert!(litres[written..].iter().all(|&cell| cell == 7));
+        for (dates, all) in [
+            ([day, day, next], &[(1, 1), (9, 2)][..]),
+            ([day, day, day], &[(1, 1)]),
+            ([day, next, next], &[(9, 2)]),
+            ([day, far, far], &[]),
+        ] {
+            let needed = all.last().map_or(0, |(account, _)| account + 1);
+            let mut litres = [7; ACCOUNTS + 2];
+            let answer = term(dates, &mut litres[..cells]);
+            let due = match cells < needed {
+                true => (Err(Refusal::new(20, 0)), some_litres(&[])),
+                false => (Ok(0), some_litres(all)),
+            };
+            assert_eq!(answer, due.0, "{cells} cells");
+            let all = due.1.map(|litres| litres as u32);
+            assert_eq!(litres[..written], all[..written]);
+            assert!(litres[written..].iter().all(|&cell| cell == 7));
+        }
+        for (dates, number) in [([day, next, day], 12), ([none, day, next], 11)] {
+            let mut litres = [7; ACCOUNTS + 2];
+            let answer = term(dates, &mut litres[..cells]);
+            assert_eq!(answer, Err(Refusal::new(number, 0)));
+            assert!(litres[..written].iter().all(|&cell| cell == 0));
+            assert!(litres[written..].iter().all(|&cell| cell == 7));
+        }
     }
 }
 

@@ -3,6 +3,7 @@
 //! write keeps them.
 
 pub mod desk;
+pub mod locate;
 pub mod reading;
 pub mod settling;
 pub mod spelling;

@@ -57,7 +57,8 @@ pub fn term_totals(
     Ok(added(&within))
 }
 
-/// The same into lent cells, as totalling does it; the value is 0.
+/// The same into lent cells, as totalling does it: 2, 8, 3, 11, 12, 20, and the
+/// value is 0. 20 asks for the litres of the term alone.
 pub fn term_totals_into(
     table: &Table,
     code: &[u8],

@@ -102,7 +102,7 @@ pub fn totals(table: &Table, code: &[u8], bits: u64) -> Result<Totals, Refusal> 
     Ok(added(&entries))
 }
 
-/// Totalling into lent cells: 2, 8, 3, and the value is 0.
+/// Totalling into lent cells: 2, 8, 3, 20, and the value is 0.
 pub fn totals_into(
     table: &Table,
     code: &[u8],
@@ -112,9 +112,22 @@ pub fn totals_into(
     put(totals(table, code, bits), litres)
 }
 
+/// A cause of the calls from C alone: "if an account without a cell has litres
+/// above 0, the call is refused". Cell i is for account i, so the accounts from
+/// the number of lent cells on have none.
+pub const CELLS_TOO_FEW: u64 = 20;
+
 /// As many totals are written, from account 0 on, as there are accounts and
-/// cells; they are 0 if it is refused. Cells behind them keep what they hold.
+/// cells; they are 0 if it is refused. Cells behind them keep what they hold. 20
+/// comes last, after every cause of the service.
 pub fn put(answer: Result<Totals, Refusal>, litres: &mut [u32]) -> Result<u64, Refusal> {
+    let answer = answer.and_then(|all| {
+        let mut without_a_cell = all.iter().skip(litres.len());
+        match without_a_cell.any(|&total| total > 0) {
+            true => Err(Refusal::new(CELLS_TOO_FEW, 0)),
+            false => Ok(all),
+        }
+    });
     let all = answer.unwrap_or(NO_LITRES);
     for (account, total) in all.into_iter().enumerate() {
         if let Some(cell) = litres.get_mut(account) {
