@@ -72,6 +72,7 @@ static uint64_t load_long(void) { return wumbyra_load(long_text, LONG_TEXT); }
 static uint64_t parse(void) {
   return wumbyra_parse((uint8_t *)text, size, tape, LETTERS, words, WUMBYRA_WORDS(LETTERS), code, BYTES);
 }
+static uint64_t locate(void) { return wumbyra_locate((uint8_t *)text, size, tape, LETTERS); }
 // Into a buffer that is just long enough, so that bits are counted before they are written.
 static uint64_t parse_exact(void) {
   return wumbyra_parse((uint8_t *)text, size, tape, LETTERS, words, WUMBYRA_WORDS(LETTERS), code, code_bytes);
@@ -178,8 +179,9 @@ static void on_tapes(void) {
     tape[i] = '!' + (state >> 16) % 94;
   }
   row_of("R\t1\t!\t~", "R\t1\t!\t~", 1);
-  // 3,600 letters are 112 rounds and a half.
+  // 3,600 letters are 112 rounds and a half, so they begin a tape and end one.
   row("3,600 letters, 32 leaves that take each", "parse", parse, refused(WUMBYRA_UNREADABLE), (double)LETTERS * NODES);
+  row("3,600 letters, 32 leaves that take each", "locate", locate, (uint64_t)LETTERS << 16, (double)LETTERS * NODES);
 }
 
 int main(void) {
