@@ -15,8 +15,8 @@ use Rattle.refusals.specs.declared.Refusal.{Refusal}
 use Rattle.refusals.specs.declared.Refusal.the-variants.{LineForm, Tree as Tree-fault, TapeTooLong, TapeByte, Unreadable, WordsTooShort}
 use Rattle.refusals.specs.declared.Refusal.the-variants.{CodeTooShort, NotACode, TapeTooShort, NoSuchVisit}
 use Rattle.refusals.specs.Refusals.{Answer, answer, number, refused}
-use Rattle.refusals.specs.Checks.{numbers, First, here, past}
-use Rattle.refusals.specs.CheckLaws.{first-more, refused-first, among}
+use Rattle.refusals.specs.Checks.{numbers, First, here}
+use Rattle.refusals.specs.CheckLaws.{first-more, first-behind, refused-first, among}
 use Rattle.checks.specs.TapeOrder.{tape-order}
 use Rattle.checks.specs.TapeLaws.{Is-taken, taken-clear}
 use Rattle.bits.specs.Bits.{cell-count, in-front}
@@ -90,9 +90,8 @@ module _ (p : Pattern) (tape words words-now code code-now : List ℕ) (r : Pars
   module _ (t : Is-taken p tape) where
     pub only-6 : length words < 2 * (length tape + 1) → Only (WordsTooShort (2 * (length tape + 1)))
     only-6 l =
-        let c = taken-clear p tape t in
         only (WordsTooShort (2 * (length tape + 1)))
-        (past (c .0) (past (c .1 .0) (past (c .1 .1 .0) (here (lt-ltb (length words) (2 * (length tape + 1)) l)))))
+        (first-behind (tape-order p tape) (taken-clear p tape t) (here (lt-ltb (length words) (2 * (length tape + 1)) l)))
 
     -- behind the first sweep: "code; marks are filled", and "code; the rest is filled"
     module _ (w : 2 * (length tape + 1) ≤ length words) where

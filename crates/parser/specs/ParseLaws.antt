@@ -14,8 +14,8 @@ use Rattle.refusals.specs.declared.Refusal.{Refusal}
 use Rattle.refusals.specs.declared.Refusal.the-variants.{Unreadable, WordsTooShort, CodeTooShort}
 use Rattle.syntax.specs.Letter.{first-bad, letter-limit}
 use Rattle.refusals.specs.Refusals.{answer, refused}
-use Rattle.refusals.specs.Checks.{First, here, past}
-use Rattle.refusals.specs.CheckLaws.{first-answered, first-positive, clear-success}
+use Rattle.refusals.specs.Checks.{First, here}
+use Rattle.refusals.specs.CheckLaws.{first-behind, first-answered, first-positive, clear-success}
 use Rattle.syntax.specs.Table.{obeys, line-at}
 use Rattle.syntax.specs.Tree.{Tree, nothing, letter, range, seq, alt, star, index}
 use Rattle.syntax.specs.Trees.{root, tree-of}
@@ -41,6 +41,7 @@ use Rattle.first_sweep.specs.Fill.{Fillable}
 use Rattle.second_sweep.specs.declared.Swept.{Swept}
 use Rattle.second_sweep.specs.Parts.{Sweeps}
 use Rattle.second_sweep.specs.Sweeping.{Own, may-stop, Behind, Knows, Wrote}
+use Rattle.checks.specs.TapeOrder.{tape-order}
 use Rattle.checks.specs.TapeLaws.{Is-taken, taken-clear}
 use Rattle.parser.specs.declared.Parsed.{Parsed}
 use Rattle.parser.specs.declared.Parsed.the-variants.{Bits, Refused}
@@ -267,10 +268,9 @@ module _ (p : Pattern) (tape ws xs : List ℕ) where
   pub parse-words : Is-taken p tape → (needed : ℕ) → needed ≡ 2 * (length tape + 1) → length ws < needed
       → Parses p tape ws ws xs xs (Refused (WordsTooShort needed))
   parse-words t needed e h =
-      let c = taken-clear p tape t in
       subst (λ n. Parses p tape ws ws xs xs (Refused (WordsTooShort n))) (sym e)
       (parse-refused (WordsTooShort (2 * (length tape + 1)))
-      (past (c .0) (past (c .1 .0) (past (c .1 .1 .0) (here (lt-ltb (length ws) (2 * (length tape + 1)) (omega (arith, e, h))))))))
+      (first-behind (tape-order p tape) (taken-clear p tape t) (here (lt-ltb (length ws) (2 * (length tape + 1)) (omega (arith, e, h))))))
 
 -- the tests in front of the first sweep are passed
 pub record Tested (p : Pattern) (tape ws : List ℕ) : Type 0 where

@@ -17,7 +17,7 @@ use Rattle.codes.specs.Spells.{code-of-tape}
 use Rattle.spans.specs.declared.SpanOutcome.the-variants.{Refused}
 use Rattle.spans.specs.declared.Spanned.{Spanned}
 use Rattle.spans.specs.Spans.{span-visit, unvisited, span-order, span-answer, span-outcome, refused-span, Spans}
-use Rattle.spans.specs.SpanLaws.{span-refused, past-tape}
+use Rattle.spans.specs.SpanLaws.{span-refused, behind-tape}
 use Rattle.spans.specs.Unique.{spans-one}
 use Rattle.spans.specs.Outside.{outside-none}
 
@@ -45,11 +45,11 @@ module _ (p : Pattern) (tape code : List ℕ) (count l k : ℕ) (r : Spanned) (h
   module _ (t : Is-taken p tape) where
     -- whatever node and visit are asked for: 8 before 10
     pub only-8 : code-of-tape (root p) tape code count ≡ false → Only NotACode
-    only-8 c = only NotACode (past-tape p tape code count l k t (here (ap not c)))
+    only-8 c = only NotACode (behind-tape p tape code count l k t (here (ap not c)))
 
     module _ (c : code-of-tape (root p) tape code count ≡ true) where
       pub only-10 : span-visit p code count l k ≡ none → Only NoSuchVisit
-      only-10 v = only NoSuchVisit (past-tape p tape code count l k t (past (ap not c) (here (ap unvisited v))))
+      only-10 v = only NoSuchVisit (behind-tape p tape code count l k t (past (ap not c) (here (ap unvisited v))))
 
       -- "node outside the table"
       pub only-10-outside : p .count ≤ l → Only NoSuchVisit

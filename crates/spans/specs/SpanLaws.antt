@@ -14,7 +14,7 @@ use Rattle.refusals.specs.declared.Refusal.the-variants.{Tree as Tree-fault, Ta
 use Rattle.refusals.specs.Refusals.{answer, number}
 use Rattle.refusals.specs.RefusalLaws.{number-positive}
 use Rattle.refusals.specs.Checks.{Check, First, here, past, Clear}
-use Rattle.refusals.specs.CheckLaws.{first-answered, clear-success, zero-clear}
+use Rattle.refusals.specs.CheckLaws.{first-behind, clear-both, first-answered, clear-success, zero-clear}
 use Rattle.syntax.specs.Bools.{and-fst, and-snd}
 use Rattle.syntax.specs.Letter.{first-bad, letter-limit}
 use Rattle.syntax.specs.Tree.{Tree}
@@ -38,7 +38,7 @@ use Rattle.spans.specs.declared.SpanOutcome.the-variants.{Shown}
 use Rattle.spans.specs.declared.Spanned.{Spanned}
 use Rattle.spans.specs.declared.find.Found.{Found}
 use Rattle.spans.specs.declared.find.Found.the-variants.{Hit, Passed}
-use Rattle.spans.specs.Spans.{visit-by, span-visit, unvisited, span-order, span-answer}
+use Rattle.spans.specs.Spans.{visit-by, span-visit, unvisited, visit-order, span-order, span-answer}
 use Rattle.spans.specs.Spans.{start-of, size-of, span-shown, span-outcome, refused-span, Spans}
 use Rattle.spans.specs.Traces.{trace, trace-visits, trace-at, found-by, found-in, numbers}
 use Rattle.spans.specs.Seeks.{Seeking, Finds}
@@ -117,22 +117,19 @@ module _ (p : Pattern) (tape code : List ℕ) (count l k : ℕ) where
       go false z q = absurd (Option·none-ne-some x q)
 
   module _ (t : Is-taken p tape) where
-    clear : Clear (tape-order p tape)
-    clear = taken-clear p tape t
-
-    -- past the causes of the tape
-    pub past-tape : {why : Refusal} {more : List Check} → First why more → First why (tape-order p tape ++ more)
-    past-tape f = past (clear .0) (past (clear .1 .0) (past (clear .1 .1 .0) f))
+    -- behind the causes of the tape
+    pub behind-tape : {why : Refusal} {more : List Check} → First why more → First why (tape-order p tape ++ more)
+    behind-tape f = first-behind (tape-order p tape) (taken-clear p tape t) f
 
     pub span-not : code-of-tape (root p) tape code count ≡ false → Refuses NotACode
-    span-not c = span-refused NotACode (past-tape (here (ap not c)))
+    span-not c = span-refused NotACode (behind-tape (here (ap not c)))
 
     module _ (w : code-of-tape (root p) tape code count ≡ true) where
       given : (x : Visit) → span-visit p code count l k ≡ some x → span-answer p tape code count l k ≡ answer 0 0
       unfolding span-answer
       given x e =
           clear-success (span-order p tape code count l k) (answer 0 0)
-          (clear .0, (clear .1 .0, (clear .1 .1 .0, (ap not w, (ap unvisited e, tt)))))
+          (clear-both (tape-order p tape) (visit-order p tape code count l k) (taken-clear p tape t) (ap not w, (ap unvisited e, tt)))
 
       module _ (r : Found) (fi : Finds (trace-at code count (root p) 0) 0 l k r) where
         -- what was found is the visit of layer 1
@@ -156,7 +153,7 @@ module _ (p : Pattern) (tape code : List ℕ) (count l k : ℕ) where
           where
             go : (x : Option Visit) → span-visit p code count l k ≡ x → Refuses NoSuchVisit
             go none e =
-                span-refused NoSuchVisit (past-tape (past (ap not w) (here (ap unvisited e))))
+                span-refused NoSuchVisit (behind-tape (past (ap not w) (here (ap unvisited e))))
             go (some x) e =
                 let (j, n, i, q) = found-visit in
                 absurd (false≢true (ap (λ z. numbers z .0) (sym t ∙ q ∙ ap (found-by n j i) e)))

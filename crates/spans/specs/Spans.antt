@@ -36,11 +36,13 @@ abbrev pub unvisited : Option Visit → Bool
 unvisited none = true
 unvisited (some x) = false
 
--- 01: "Showing the piece [..]: 2, 3, 4, 8, 10."
+-- 01: "Showing the piece [..]: 2, 3, 4, 8, 10.": the causes of a tape, and behind them those of the code and the visit
+abbrev pub visit-order : Pattern → (tape code : List ℕ) → (count node k : ℕ) → List Check
+visit-order p tape code count l k =
+    (not (code-of-tape (root p) tape code count), NotACode) ∷ (unvisited (span-visit p code count l k), NoSuchVisit) ∷ []
+
 abbrev pub span-order : Pattern → (tape code : List ℕ) → (count node k : ℕ) → List Check
-span-order p tape code count l k =
-    tape-order p tape
-    ++ ((not (code-of-tape (root p) tape code count), NotACode) ∷ (unvisited (span-visit p code count l k), NoSuchVisit) ∷ [])
+span-order p tape code count l k = tape-order p tape ++ visit-order p tape code count l k
 
 unfoldable pub span-answer : Pattern → (tape code : List ℕ) → (count node k : ℕ) → Answer
 span-answer p tape code count l k = first-cause (span-order p tape code count l k) (answer 0 0)
