@@ -1,11 +1,10 @@
 -- The promise of totalling within a term fixes everything: two outcomes that it allows on one input are the same.
 use mathlib.Core.Path.{_≡_, refl, sym, ap, _∙_}
-use mathlib.Core.List.{List}
+use mathlib.Core.List.{List, [], _∷_}
 use Prim.Native.Nat.{ℕ, _≤_}
 use native.Mathlib.Omega.{arith}
 use Rattle.syntax.specs.declared.Pattern.{Pattern}
-use Rattle.refusals.specs.Refusals.{number}
-use Rattle.refusals.specs.RefusalLaws.{refused-same, number-positive, number-few}
+use Rattle.refusals.specs.RefusalLaws.{number-positive, said-same, wider-of, wrapped-known}
 use Rattle.calendar.specs.declared.Date.{Date}
 use Rattle.terms.specs.declared.Term.{Term}
 use Rattle.terms.specs.declared.TermRefusal.{TermRefusal}
@@ -16,16 +15,16 @@ use Rattle.terms.specs.declared.TermTotalled.{TermTotalled}
 use Rattle.terms.specs.Terms.{term-number, term-refused, term-outcome, Term-totals}
 
 -- number and value fix the cause
+abbrev added : List TermRefusal
+added = TapeUndated ∷ NotATerm ∷ []
+
+known-by : (r : TermRefusal) → wider-of term-refused Base added (term-refused r) ≡ r
+known-by (Base r) = wrapped-known term-refused Base added (omega arith, (omega arith, tt)) r
+known-by TapeUndated = refl
+known-by NotATerm = refl
+
 pub term-refused-same : (r s : TermRefusal) → term-refused r ≡ term-refused s → r ≡ s
-term-refused-same (Base r) (Base s) e = ap Base (refused-same r s e)
-term-refused-same (Base r) TapeUndated e = let n : number r ≡ 11 = ap (λ a. a .number) e in absurd (omega (arith, number-few r))
-term-refused-same (Base r) NotATerm e = let n : number r ≡ 12 = ap (λ a. a .number) e in absurd (omega (arith, number-few r))
-term-refused-same TapeUndated (Base s) e = let n : 11 ≡ number s = ap (λ a. a .number) e in absurd (omega (arith, number-few s))
-term-refused-same TapeUndated TapeUndated e = refl
-term-refused-same TapeUndated NotATerm e = let n : _≡_ {A = ℕ} 11 12 = ap (λ a. a .number) e in absurd (omega arith)
-term-refused-same NotATerm (Base s) e = let n : 12 ≡ number s = ap (λ a. a .number) e in absurd (omega (arith, number-few s))
-term-refused-same NotATerm TapeUndated e = let n : _≡_ {A = ℕ} 12 11 = ap (λ a. a .number) e in absurd (omega arith)
-term-refused-same NotATerm NotATerm e = refl
+term-refused-same = said-same term-refused (wider-of term-refused Base added) known-by
 
 -- 0 is no cause's number
 pub term-number-positive : (r : TermRefusal) → 1 ≤ term-number r
