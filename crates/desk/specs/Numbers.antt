@@ -1,9 +1,9 @@
 -- A cause of the desk is known by its number and value.
 use mathlib.Core.Path.{_≡_, refl, ap}
-use Prim.Native.Nat.{ℕ, _≤_}
+use mathlib.Core.List.{List, [], _∷_}
+use Prim.Native.Nat.{_≤_}
 use native.Mathlib.Omega.{arith}
-use Rattle.refusals.specs.Refusals.{number}
-use Rattle.refusals.specs.RefusalLaws.{refused-same, number-positive, number-few}
+use Rattle.refusals.specs.RefusalLaws.{number-positive, said-same, wider-of, wrapped-known}
 use Rattle.desk.specs.declared.DeskRefusal.{DeskRefusal}
 use Rattle.desk.specs.declared.DeskRefusal.the-variants.{Base, DeskLimits, DeskFull, DeskEmpty}
 use Rattle.desk.specs.declared.Desked.{Desked}
@@ -18,23 +18,17 @@ desk-number-positive DeskFull = omega arith
 desk-number-positive DeskEmpty = omega arith
 
 -- number and value fix the cause
+abbrev added : List DeskRefusal
+added = DeskLimits ∷ DeskFull ∷ DeskEmpty ∷ []
+
+known-by : (r : DeskRefusal) → wider-of desk-refused Base added (desk-refused r) ≡ r
+known-by (Base r) = wrapped-known desk-refused Base added (omega arith, (omega arith, (omega arith, tt))) r
+known-by DeskLimits = refl
+known-by DeskFull = refl
+known-by DeskEmpty = refl
+
 pub desk-refused-same : (r s : DeskRefusal) → desk-refused r ≡ desk-refused s → r ≡ s
-desk-refused-same (Base r) (Base s) e = ap Base (refused-same r s e)
-desk-refused-same (Base r) DeskLimits e = let n : number r ≡ 13 = ap (λ a. a .number) e in absurd (omega (arith, number-few r))
-desk-refused-same (Base r) DeskFull e = let n : number r ≡ 14 = ap (λ a. a .number) e in absurd (omega (arith, number-few r))
-desk-refused-same (Base r) DeskEmpty e = let n : number r ≡ 15 = ap (λ a. a .number) e in absurd (omega (arith, number-few r))
-desk-refused-same DeskLimits (Base s) e = let n : 13 ≡ number s = ap (λ a. a .number) e in absurd (omega (arith, number-few s))
-desk-refused-same DeskLimits DeskLimits e = refl
-desk-refused-same DeskLimits DeskFull e = let n : _≡_ {A = ℕ} 13 14 = ap (λ a. a .number) e in absurd (omega arith)
-desk-refused-same DeskLimits DeskEmpty e = let n : _≡_ {A = ℕ} 13 15 = ap (λ a. a .number) e in absurd (omega arith)
-desk-refused-same DeskFull (Base s) e = let n : 14 ≡ number s = ap (λ a. a .number) e in absurd (omega (arith, number-few s))
-desk-refused-same DeskFull DeskLimits e = let n : _≡_ {A = ℕ} 14 13 = ap (λ a. a .number) e in absurd (omega arith)
-desk-refused-same DeskFull DeskFull e = refl
-desk-refused-same DeskFull DeskEmpty e = let n : _≡_ {A = ℕ} 14 15 = ap (λ a. a .number) e in absurd (omega arith)
-desk-refused-same DeskEmpty (Base s) e = let n : 15 ≡ number s = ap (λ a. a .number) e in absurd (omega (arith, number-few s))
-desk-refused-same DeskEmpty DeskLimits e = let n : _≡_ {A = ℕ} 15 13 = ap (λ a. a .number) e in absurd (omega arith)
-desk-refused-same DeskEmpty DeskFull e = let n : _≡_ {A = ℕ} 15 14 = ap (λ a. a .number) e in absurd (omega arith)
-desk-refused-same DeskEmpty DeskEmpty e = refl
+desk-refused-same = said-same desk-refused (wider-of desk-refused Base added) known-by
 
 pub desk-answer-same : (r s : Desked) → desk-answer r ≡ desk-answer s → r ≡ s
 desk-answer-same (Letters n) (Letters m) e = ap (λ a. Letters (a .value)) e
