@@ -15,7 +15,7 @@ use Rattle.loading.specs.declared.Loaded.{Loaded}
 use Rattle.loading.specs.declared.Outcome.the-variants.{Lines, Refused as Not-loaded}
 use Rattle.refusals.specs.declared.Refusal.{Refusal}
 use Rattle.refusals.specs.declared.Refusal.the-variants.{Unreadable}
-use Rattle.refusals.specs.Refusals.{answer, refused}
+use Rattle.refusals.specs.Refusals.{number, value, answer, refused}
 use Rattle.refusals.specs.RefusalLaws.{number-positive}
 use Rattle.refusals.specs.CheckLaws.{zero-clear}
 use Rattle.syntax.specs.Table.{obeys, account-limit}
@@ -57,8 +57,10 @@ pub shows-as : (old xs ys now : List ℕ) (end : ℕ) → xs ≡ ys → Shows ol
 shows-as old xs ys now end e s = subst (λ z. Shows old z now end) e s
 
 -- the line of a refusal
-pub shows-refused : (old xs ys now : List ℕ) (end : ℕ) → xs ≡ ys → Puts old 0 xs now end → length xs ≤ 30 → Shows old ys now end
-shows-refused old xs ys now end e p h = shows-as old xs ys now end e (record { puts = p; fits = omega arith })
+pub shows-refused : (old ys now : List ℕ) (end : ℕ) (why : Refusal) (n v : ℕ) → refused-line (refused why) ≡ ys → n ≡ number why → v ≡ value why
+    → Puts old 0 (refused-line (answer n v)) now end → length (refused-line (answer n v)) ≤ 30 → Shows old ys now end
+shows-refused old ys now end why n v e en ev p h =
+    shows-as old (refused-line (answer n v)) ys now end (ap₂ (λ m w. refused-line (answer m w)) en ev ∙ e) (record { puts = p; fits = omega arith })
 
 -- ── a tape that has been read: its words, its code and the bit count ──
 pub record Read (p : Pattern) (tape words code : List ℕ) (count : ℕ) : Type 0 where

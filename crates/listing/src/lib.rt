@@ -13,6 +13,8 @@ use loading::Outcome;
 use loading::load;
 use parser::Parsed;
 use parser::parse;
+use refusals::number_of;
+use refusals::value_of;
 use syntax::Pattern;
 use text::put_refused;
 use totals::totals;
@@ -56,7 +58,7 @@ fn list_with(p: Pattern, tape: &[u8], words: &mut [u64], code: &mut [u8], out: &
 {
     let parsed = parse(p, tape, words, code);
     match parsed {
-        Parsed::Refused(why) => put_refused(out, 0, why),
+        Parsed::Refused(why) => put_refused(out, 0, number_of(why), value_of(why)),
         Parsed::Bits(count) => {
             let n = (count as usize + 7) / 8;
             list_read(p, tape, words, &code[..n], count, out)
@@ -95,7 +97,7 @@ fn list_text(text: &[u8], tape: &[u8], out: &mut [u8]) -> usize
     let p = loaded.pattern;
     let outcome = loaded.outcome;
     match outcome {
-        Outcome::Refused(why) => put_refused(out, 0, why),
+        Outcome::Refused(why) => put_refused(out, 0, number_of(why), value_of(why)),
         Outcome::Lines(_) => {
             let n = letters_of(tape);
             list_tape(p, &tape[..n], out)

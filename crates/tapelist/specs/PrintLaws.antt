@@ -13,7 +13,7 @@ use Rattle.reach.specs.declared.Located.{Located}
 use Rattle.reach.specs.declared.Located.the-variants.{Positions, Refused}
 use Rattle.reach.specs.Locate.{Locates}
 use Rattle.refusals.specs.declared.Refusal.{Refusal}
-use Rattle.refusals.specs.Refusals.{refused}
+use Rattle.refusals.specs.Refusals.{number, value, answer}
 use Rattle.text.specs.Text.{Puts, line, refused-line}
 use Rattle.text.specs.Putting.{puts-as, puts-within, puts-front}
 use Rattle.text.specs.Lengths.{Short, line-length}
@@ -42,10 +42,10 @@ module _ (out now : List ℕ) (r : ℕ) (located : Located) where
       let same : line located-word k i ≡ located-line located = ap located-line (sym e) in
       (puts-as out 0 _ _ now r same p, omega (arith, ap length same, line-length located-word k i hk hi))
 
-  pub puts-refusal : (why : Refusal) → located ≡ Refused why → Puts out 0 (refused-line (refused why)) now r
-      → length (refused-line (refused why)) ≤ 30 → Puts out 0 (located-line located) now r × (length (located-line located) ≤ 30)
-  puts-refusal why e p h =
-      let same : refused-line (refused why) ≡ located-line located = ap located-line (sym e) in
+  pub puts-refusal : (why : Refusal) (n v : ℕ) → located ≡ Refused why → n ≡ number why → v ≡ value why → Puts out 0 (refused-line (answer n v)) now r
+      → length (refused-line (answer n v)) ≤ 30 → Puts out 0 (located-line located) now r × (length (located-line located) ≤ 30)
+  puts-refusal why n v e en ev p h =
+      let same : refused-line (answer n v) ≡ located-line located = ap₂ (λ m w. refused-line (answer m w)) en ev ∙ ap located-line (sym e) in
       (puts-as out 0 _ _ now r same p, omega (arith, ap length same, h))
 
 -- the line in front of a buffer of 32 bytes, cut where it ends

@@ -14,6 +14,8 @@ use listing::list;
 use loading::load;
 use reach::Located;
 use reach::locate;
+use refusals::number_of;
+use refusals::value_of;
 use text::put_line;
 use text::put_refused;
 
@@ -115,7 +117,7 @@ fn put_located(located: Located, out: &mut [u8]) -> usize
             reach as u64,
             resume as u64,
         ),
-        Located::Refused(why) => put_refused(out, 0, why),
+        Located::Refused(why) => put_refused(out, 0, number_of(why), value_of(why)),
     }
 }
 

@@ -1,11 +1,10 @@
 -- How long text can be, for numbers of 32 bits, which have at most ten digits.
-use mathlib.Core.Path.{_≡_, refl, subst}
+use mathlib.Core.Path.{_≡_, refl}
 use mathlib.Core.List.{List, [], _∷_}
 use Prim.Native.Nat.{ℕ, _+_, _*_, _≤_, _<_}
 use native.Mathlib.Omega.{arith}
 use lib.ListN.{length, length-append}
-use Rattle.refusals.specs.declared.Refusal.{Refusal}
-use Rattle.refusals.specs.Refusals.{refused, number, value}
+use Rattle.refusals.specs.Refusals.{answer}
 use Rattle.text.specs.Text.{hex-byte, hex, field, entry, line, refused-word, refused-line}
 use Rattle.text.specs.Digits.{decimal-few}
 
@@ -23,10 +22,9 @@ pub line-length : (word : List ℕ) (a b : ℕ) → Short a → Short b → leng
 unfolding line
 line-length word a b ha hb = simp length-append (omega (arith, entry-length word a b ha hb))
 
-pub refused-length : (why : Refusal) (a b : ℕ) → a ≡ number why → b ≡ value why → Short a → Short b
-    → length (refused-line (refused why)) ≤ 30
+pub refused-length : (a b : ℕ) → Short a → Short b → length (refused-line (answer a b)) ≤ 30
 unfolding refused-line
-refused-length why a b ea eb ha hb = line-length refused-word (number why) (value why) (subst Short ea ha) (subst Short eb hb)
+refused-length a b ha hb = line-length refused-word a b ha hb
 
 pub hex-length : (bs : List ℕ) → length (hex bs) ≡ 2 * length bs
 unfolding hex hex-byte

@@ -9,8 +9,7 @@ use native.Mathlib.Omega.{arith}
 use native.Mathlib.Decide.{decLt}
 use lib.ListN.{length, drop, getD, set, length-append, length-drop}
 use lib.Seq.{sets, length-sets, sets-eq, set-out, drop-cons}
-use Rattle.refusals.specs.declared.Refusal.{Refusal}
-use Rattle.refusals.specs.Refusals.{number, value, refused}
+use Rattle.refusals.specs.Refusals.{answer}
 use Rattle.text.specs.Text.{Puts-to, Puts, hex-digit, hex-byte, hex, pair, entry, line, refused-word, refused-line}
 
 pub le-or : (a b : ℕ) → (a ≤ b) ⊎ (b ≤ a)
@@ -154,8 +153,7 @@ unfolding line
 line-done out at word a b mid r x after s p q e =
     puts-as out at _ _ after s (ap (λ y. entry word a b ++ (y ∷ [])) e) (puts-then out at _ mid r _ after s p q)
 
-pub refused-done : (out : List ℕ) (at : ℕ) (why : Refusal) (word : List ℕ) (a b : ℕ) (after : List ℕ) (r : ℕ)
-    → Puts out at (line word a b) after r → word ≡ refused-word → a ≡ number why → b ≡ value why
-    → Puts out at (refused-line (refused why)) after r
+pub refused-done : (out : List ℕ) (at : ℕ) (word : List ℕ) (a b : ℕ) (after : List ℕ) (r : ℕ) → Puts out at (line word a b) after r → word ≡ refused-word
+    → Puts out at (refused-line (answer a b)) after r
 unfolding refused-line
-refused-done out at why word a b after r p w ea eb = puts-as out at _ _ after r (ap (λ x. line x a b) w ∙ ap₂ (line refused-word) ea eb) p
+refused-done out at word a b after r p w = puts-as out at _ _ after r (ap (λ x. line x a b) w) p

@@ -1,7 +1,7 @@
 // Fields parted by tabs, lines ended by byte 10, and refusals.
 ghost use Prim.Native.Nat.{_≤_};
 ghost use lib.ListN.{length};
-ghost use Rattle.refusals.specs.Refusals.{number, value, refused};
+ghost use Rattle.refusals.specs.Refusals.{number, value, answer};
 ghost use Rattle.text.specs.Text.{Puts, parted, pair, entry, line, refused-line};
 use crate::digits::put_decimal;
 use crate::put::put_byte;
@@ -50,16 +50,10 @@ pub fn put_refusal(out: &mut [u8], at: usize, why: Refusal) -> usize
     put_pair(out, at, number_of(why) as u64, value_of(why) as u64)
 }
 
-// The line of a refusal, which has at most 30 bytes.
-pub fn put_refused(out: &mut [u8], at: usize, why: Refusal) -> usize
-    ensures { λ r. ⌜ Puts (now (out .entry)) at (refused-line (refused why)) (now (out .exit)) r ⌝ }
-    ensures { λ r. ⌜ length (refused-line (refused why)) ≤ 30 ⌝ }
+// The line of a refusal, of any enum by its number and value. It has at most 30 bytes.
+pub fn put_refused(out: &mut [u8], at: usize, number: u32, value: u32) -> usize
+    ensures { λ r. ⌜ Puts (now (out .entry)) at (refused-line (answer number value)) (now (out .exit)) r ⌝ }
+    ensures { λ r. ⌜ length (refused-line (answer number value)) ≤ 30 ⌝ }
 {
-    put_line(
-        out,
-        at,
-        b"refused",
-        number_of(why) as u64,
-        value_of(why) as u64,
-    )
+    put_line(out, at, b"refused", number as u64, value as u64)
 }

@@ -12,6 +12,12 @@ load-requires c κs = search needs
 enum-known-outcome : tie.Need-enum-known-outcome
 enum-known-outcome c = search needs
 
+number-of-requires : tie.Need-number-of-requires
+number-of-requires c κs = search needs
+
+value-of-requires : tie.Need-value-of-requires
+value-of-requires c κs = search needs
+
 put-refused-requires : tie.Need-put-refused-requires
 put-refused-requires c κs = search needs
 
@@ -33,11 +39,13 @@ same-length c = search needs
 returns : tie.Need-returns
 returns c =
     let put = c .before .before in
-    let outcome = put .before .before .before in
+    let value = put .before in
+    let number = value .before in
+    let outcome = number .before .before .before in
     let loaded = outcome .before .before .before in
-    shows-refused _ _ _ _ _
+    shows-refused _ _ _ _ (outcome .outcome .given .0 .0) _ _
     (load-refused _ (loaded .before .before .before .before .args .tape .now) _ (loaded .load .ensures) _ (outcome .outcome .given .1))
-    (put .put-refused .ensures .0) (put .put-refused .ensures .1)
+    (number .number-of .ensures) (value .value-of .ensures) (put .put-refused .ensures .0) (put .put-refused .ensures .1)
 
 same-length-2 : tie.Need-same-length-2
 same-length-2 c = search needs
@@ -58,6 +66,8 @@ list-text-spec =
     (tie.spec
     load-requires
     enum-known-outcome
+    number-of-requires
+    value-of-requires
     put-refused-requires
     enum-told
     letters-of-requires

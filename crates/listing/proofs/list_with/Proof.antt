@@ -12,6 +12,12 @@ parse-requires c κs = search needs
 enum-known-parsed : tie.Need-enum-known-parsed
 enum-known-parsed c = search needs
 
+number-of-requires : tie.Need-number-of-requires
+number-of-requires c κs = search needs
+
+value-of-requires : tie.Need-value-of-requires
+value-of-requires c κs = search needs
+
 put-refused-requires : tie.Need-put-refused-requires
 put-refused-requires c κs = search needs
 
@@ -63,14 +69,17 @@ same-length-3 c = search needs
 
 returns : tie.Need-returns
 returns c =
-    let parsed = c .before .before .before .before .before in
+    let put = c .before .before in
+    let value = put .before in
+    let number = value .before in
+    let parsed = number .before .before .before in
     let parse = parsed .before .before .before .before .before .before in
     let start = parse .before .before .before .before .before .before .before in
     let given = start .args in
-    let put = c .before .before .put-refused in
-    shows-refused _ _ _ _ _
+    shows-refused _ _ _ _ (parsed .parsed .given .0 .0) _ _
     (parse-refused (given .p) (given .tape .now) (given .words .now) _ (given .code .now) _ (start .pre .0) (start .pre .1) _ _
-    (parsed .parsed .given .1) (parse .parse .ensures)) (put .ensures .0) (put .ensures .1)
+    (parsed .parsed .given .1) (parse .parse .ensures))
+    (number .number-of .ensures) (value .value-of .ensures) (put .put-refused .ensures .0) (put .put-refused .ensures .1)
 
 same-length-4 : tie.Need-same-length-4
 same-length-4 c = search needs
@@ -97,6 +106,8 @@ list-with-spec =
     (tie.spec
     parse-requires
     enum-known-parsed
+    number-of-requires
+    value-of-requires
     put-refused-requires
     enum-known-parsed-2
     cast-n

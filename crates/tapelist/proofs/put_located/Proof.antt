@@ -23,6 +23,12 @@ put-line-requires c κs = search needs
 enum-known-located-2 : tie.Need-enum-known-located-2
 enum-known-located-2 c = search needs
 
+number-of-requires : tie.Need-number-of-requires
+number-of-requires c κs = search needs
+
+value-of-requires : tie.Need-value-of-requires
+value-of-requires c κs = search needs
+
 put-refused-requires : tie.Need-put-refused-requires
 put-refused-requires c κs = search needs
 
@@ -41,7 +47,10 @@ same-length-2 c = search needs
 returns-2 : tie.Need-returns-2
 returns-2 c =
     let put = c .before .before in
-    puts-refusal _ _ _ _ _ (put .before .before .before .located2 .given .1) (put .put-refused .ensures .0) (put .put-refused .ensures .1)
+    let value = put .before in
+    let number = value .before in
+    puts-refusal _ _ _ _ _ _ _ (number .before .before .before .located2 .given .1) (number .number-of .ensures) (value .value-of .ensures)
+    (put .put-refused .ensures .0) (put .put-refused .ensures .1)
 
 pub put-located-spec : {M : Type 1} → statement M
 put-located-spec =
@@ -53,6 +62,8 @@ put-located-spec =
     cast-put-line-2
     put-line-requires
     enum-known-located-2
+    number-of-requires
+    value-of-requires
     put-refused-requires
     same-length
     returns
