@@ -2,10 +2,8 @@
 ghost use mathlib.Core.Path.{_≡_};
 ghost use Rattle.packing.specs.Packing.{unpacked};
 ghost use Rattle.packing.specs.DeskBytes.{desk-of-bytes, other-opened, desk-laid};
-use crate::of_desk_refusal;
+use crate::packed;
 use desk::Desk;
-use desk::DeskRefusal;
-use refusals::Refusal;
 use syntax::Pattern;
 use syntax::obeys_rules;
 use text::put_bytes;
@@ -42,15 +40,15 @@ pub fn put_desk(desk: Desk, bytes: &mut [u8])
     put_bytes(bytes, 1, &lengths);
 }
 
-// What an opening answers where the bytes of the desk are of another number: 2 and 6 come before it.
+// What an opening answers where the bytes of the desk are of another number: 13, and 2 and 6 come before it.
 pub fn of_other_length(p: Pattern, words: usize) -> u64
     ensures { λ r. ⌜ unpacked r ≡ other-opened p words ⌝ }
 {
     if !obeys_rules(p) {
-        return of_desk_refusal(DeskRefusal::Base(Refusal::Tree(0)));
+        return packed(2, 0);
     }
     if words < 2 {
-        return of_desk_refusal(DeskRefusal::Base(Refusal::WordsTooShort(2)));
+        return packed(6, 2);
     }
-    of_desk_refusal(DeskRefusal::DeskLimits)
+    packed(13, 0)
 }

@@ -2,14 +2,14 @@
 ghost use mathlib.Core.Path.{_≡_};
 ghost use Prim.Native.Nat.{min};
 ghost use lib.ListN.{getD};
-ghost use Rattle.refusals.specs.Refusals.{answer, refused};
+ghost use Rattle.refusals.specs.Refusals.{answer};
 ghost use Rattle.loading.specs.Load.{outcome-answer};
 ghost use Rattle.codes.specs.Flatten.{flattened-answer};
 ghost use Rattle.totals.specs.Totals.{totals-outcome};
-ghost use Rattle.terms.specs.Terms.{term-refused, term-outcome};
+ghost use Rattle.terms.specs.Terms.{term-outcome};
 ghost use Rattle.parser.specs.Parse.{parsed-answer};
 ghost use Rattle.canonical.specs.Canonicalize.{canonicalized-answer};
-ghost use Rattle.desk.specs.Desks.{desk-refused, desk-answer};
+ghost use Rattle.desk.specs.Desks.{desk-answer};
 ghost use Rattle.reach.specs.Locate.{located-answer};
 ghost use Rattle.packing.specs.Packing.{unpacked, in-cells};
 ghost use Rattle.packing.specs.Cells.{beyond, Gives};
@@ -18,7 +18,6 @@ mod desks; // desks.rt: a page desk in bytes
 
 use canonical::Canonicalized;
 use codes::Flattened;
-use desk::DeskRefusal;
 use desk::Desked;
 use desk::desk_number_of;
 use desk::desk_value_of;
@@ -29,12 +28,10 @@ pub use desks::put_desk;
 use loading::Outcome;
 use parser::Parsed;
 use reach::Located;
-use refusals::Refusal;
 use refusals::number_of;
 use refusals::value_of;
 use syntax::Pattern;
 use terms::TermOutcome;
-use terms::TermRefusal;
 use terms::term_number_of;
 use terms::term_value_of;
 use totals::TotalsOutcome;
@@ -42,16 +39,11 @@ use totals::TotalsOutcome;
 // The one cause that is the calls' own: an account without a cell has litres.
 pub const CELLS_TOO_FEW: u32 = 20;
 
+// A cause of any enum is packed by its number and value.
 pub fn packed(number: u32, value: u32) -> u64
     ensures { λ r. ⌜ unpacked r ≡ answer number value ⌝ }
 {
     number as u64 * 4294967296 + value as u64
-}
-
-pub fn of_refusal(why: Refusal) -> u64
-    ensures { λ r. ⌜ unpacked r ≡ refused why ⌝ }
-{
-    packed(number_of(why), value_of(why))
 }
 
 pub fn of_outcome(outcome: Outcome) -> u64
@@ -59,7 +51,7 @@ pub fn of_outcome(outcome: Outcome) -> u64
 {
     match outcome {
         Outcome::Lines(n) => packed(0, n),
-        Outcome::Refused(why) => of_refusal(why),
+        Outcome::Refused(why) => packed(number_of(why), value_of(why)),
     }
 }
 
@@ -68,7 +60,7 @@ pub fn of_parsed(parsed: Parsed) -> u64
 {
     match parsed {
         Parsed::Bits(n) => packed(0, n),
-        Parsed::Refused(why) => of_refusal(why),
+        Parsed::Refused(why) => packed(number_of(why), value_of(why)),
     }
 }
 
@@ -77,7 +69,7 @@ pub fn of_flattened(flattened: Flattened) -> u64
 {
     match flattened {
         Flattened::Letters(n) => packed(0, n),
-        Flattened::Refused(why) => of_refusal(why),
+        Flattened::Refused(why) => packed(number_of(why), value_of(why)),
     }
 }
 
@@ -86,7 +78,7 @@ pub fn of_canonicalized(canonicalized: Canonicalized) -> u64
 {
     match canonicalized {
         Canonicalized::Bits(n) => packed(0, n),
-        Canonicalized::Refused(why) => of_refusal(why),
+        Canonicalized::Refused(why) => packed(number_of(why), value_of(why)),
     }
 }
 
@@ -96,7 +88,7 @@ pub fn of_located(located: Located) -> u64
 {
     match located {
         Located::Positions(reach, resume) => packed(0, reach as u32 * 65536 + resume as u32),
-        Located::Refused(why) => of_refusal(why),
+        Located::Refused(why) => packed(number_of(why), value_of(why)),
     }
 }
 
@@ -105,14 +97,8 @@ pub fn of_totals(outcome: TotalsOutcome) -> u64
 {
     match outcome {
         TotalsOutcome::Added => packed(0, 0),
-        TotalsOutcome::Refused(why) => of_refusal(why),
+        TotalsOutcome::Refused(why) => packed(number_of(why), value_of(why)),
     }
-}
-
-pub fn of_term_refusal(why: TermRefusal) -> u64
-    ensures { λ r. ⌜ unpacked r ≡ term-refused why ⌝ }
-{
-    packed(term_number_of(why), term_value_of(why))
 }
 
 pub fn of_term_totals(outcome: TermOutcome) -> u64
@@ -120,14 +106,8 @@ pub fn of_term_totals(outcome: TermOutcome) -> u64
 {
     match outcome {
         TermOutcome::Added => packed(0, 0),
-        TermOutcome::Refused(why) => of_term_refusal(why),
+        TermOutcome::Refused(why) => packed(term_number_of(why), term_value_of(why)),
     }
-}
-
-pub fn of_desk_refusal(why: DeskRefusal) -> u64
-    ensures { λ r. ⌜ unpacked r ≡ desk-refused why ⌝ }
-{
-    packed(desk_number_of(why), desk_value_of(why))
 }
 
 pub fn of_desked(desked: Desked) -> u64
@@ -135,7 +115,7 @@ pub fn of_desked(desked: Desked) -> u64
 {
     match desked {
         Desked::Letters(n) => packed(0, n),
-        Desked::Refused(why) => of_desk_refusal(why),
+        Desked::Refused(why) => packed(desk_number_of(why), desk_value_of(why)),
     }
 }
 

@@ -26,7 +26,6 @@ use packing::of_located;
 use packing::of_other_length;
 use packing::of_outcome;
 use packing::of_parsed;
-use packing::of_refusal;
 use packing::of_term_totals;
 use packing::of_totals;
 use packing::packed;
@@ -34,6 +33,8 @@ use packing::put_desk;
 use packing::totals_number;
 use parser::parse;
 use reach::locate;
+use refusals::number_of;
+use refusals::value_of;
 use spans::SpanOutcome;
 use spans::span;
 use terms::Term;
@@ -120,7 +121,7 @@ pub extern "C" fn wumbyra_span(
     let outcome = spanned.outcome;
     match outcome {
         SpanOutcome::Shown => packed(0, spanned.start * 65536 + spanned.length),
-        SpanOutcome::Refused(why) => of_refusal(why),
+        SpanOutcome::Refused(why) => packed(number_of(why), value_of(why)),
     }
 }
 

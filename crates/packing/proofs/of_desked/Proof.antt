@@ -1,5 +1,6 @@
 -- `packing::of_desked` meets its contract.
-use mathlib.Core.Path.{sym, ap, _∙_}
+use mathlib.Core.Path.{sym, ap, ap₂, _∙_}
+use Rattle.refusals.specs.Refusals.{answer}
 use Rattle.desk.specs.Desks.{desk-answer}
 use borrow.Author.Needs.{needs}
 use Rattle.packing.proofs.of_desked.Statement.{statement}
@@ -14,14 +15,23 @@ packed-requires c κs = search needs
 enum-known-desked-2 : tie.Need-enum-known-desked-2
 enum-known-desked-2 c = search needs
 
-of-desk-refusal-requires : tie.Need-of-desk-refusal-requires
-of-desk-refusal-requires c κs = search needs
+desk-number-of-requires : tie.Need-desk-number-of-requires
+desk-number-of-requires c κs = search needs
+
+desk-value-of-requires : tie.Need-desk-value-of-requires
+desk-value-of-requires c κs = search needs
+
+packed-requires-2 : tie.Need-packed-requires-2
+packed-requires-2 c κs = search needs
 
 returns : tie.Need-returns
 returns c = c .packed .ensures ∙ sym (ap desk-answer (c .before .before .desked .given .1))
 
 returns-2 : tie.Need-returns-2
-returns-2 c = c .of-desk-refusal .ensures ∙ sym (ap desk-answer (c .before .before .desked2 .given .1))
+returns-2 c =
+    c .packed2 .ensures
+    ∙ ap₂ (λ n v. answer n v) (c .before .before .desk-number-of .ensures) (c .before .desk-value-of .ensures)
+    ∙ sym (ap desk-answer (c .before .before .before .before .desked2 .given .1))
 
 pub of-desked-spec : {M : Type 1} → statement M
 of-desked-spec =
@@ -30,6 +40,8 @@ of-desked-spec =
     enum-known-desked
     packed-requires
     enum-known-desked-2
-    of-desk-refusal-requires
+    desk-number-of-requires
+    desk-value-of-requires
+    packed-requires-2
     returns
     returns-2)

@@ -1,5 +1,6 @@
 -- `packing::of_located` meets its contract.
-use mathlib.Core.Path.{sym, ap, _∙_}
+use mathlib.Core.Path.{sym, ap, ap₂, _∙_}
+use Rattle.refusals.specs.Refusals.{answer}
 use Rattle.reach.specs.Locate.{located-answer}
 use borrow.Author.Needs.{needs}
 use Rattle.packing.proofs.of_located.Statement.{statement}
@@ -26,14 +27,23 @@ packed-requires c κs = search needs
 enum-known-located-2 : tie.Need-enum-known-located-2
 enum-known-located-2 c = search needs
 
-of-refusal-requires : tie.Need-of-refusal-requires
-of-refusal-requires c κs = search needs
+number-of-requires : tie.Need-number-of-requires
+number-of-requires c κs = search needs
+
+value-of-requires : tie.Need-value-of-requires
+value-of-requires c κs = search needs
+
+packed-requires-2 : tie.Need-packed-requires-2
+packed-requires-2 c κs = search needs
 
 returns : tie.Need-returns
 returns c = c .packed .ensures ∙ sym (ap located-answer (c .before .before .located .given .1))
 
 returns-2 : tie.Need-returns-2
-returns-2 c = c .of-refusal .ensures ∙ sym (ap located-answer (c .before .before .located2 .given .1))
+returns-2 c =
+    c .packed2 .ensures
+    ∙ ap₂ (λ n v. answer n v) (c .before .before .number-of .ensures) (c .before .value-of .ensures)
+    ∙ sym (ap located-answer (c .before .before .before .before .located2 .given .1))
 
 pub of-located-spec : {M : Type 1} → statement M
 of-located-spec =
@@ -46,6 +56,8 @@ of-located-spec =
     add-packed
     packed-requires
     enum-known-located-2
-    of-refusal-requires
+    number-of-requires
+    value-of-requires
+    packed-requires-2
     returns
     returns-2)

@@ -1,4 +1,6 @@
 -- `wumbyra::wumbyra_span` meets its contract.
+use mathlib.Core.Path.{ap₂, _∙_}
+use Rattle.refusals.specs.Refusals.{answer}
 use Rattle.wumbyra.specs.PackedLaws.{shown-small, span-packed, span-refused}
 use native.Mathlib.Omega.{arith}
 use borrow.Author.Needs.{needs}
@@ -29,8 +31,14 @@ packed-requires c κs = search needs
 enum-known-outcome : tie.Need-enum-known-outcome
 enum-known-outcome c = search needs
 
-of-refusal-requires : tie.Need-of-refusal-requires
-of-refusal-requires c κs = search needs
+number-of-requires : tie.Need-number-of-requires
+number-of-requires c κs = search needs
+
+value-of-requires : tie.Need-value-of-requires
+value-of-requires c κs = search needs
+
+packed-requires-2 : tie.Need-packed-requires-2
+packed-requires-2 c κs = search needs
 
 returns : tie.Need-returns
 returns c =
@@ -41,10 +49,13 @@ returns c =
 
 returns-2 : tie.Need-returns-2
 returns-2 c =
-    let c2 = c .before .before in
-    let c4 = c2 .before .before in
-    let c5 = c4 .before in
-    span-refused _ _ (c5 .load .ensures) _ _ _ _ _ _ (c4 .span .ensures) _ _ (c2 .outcome .given .1) (c .of-refusal .ensures)
+    let value = c .before in
+    let number = value .before in
+    let c4 = number .before .before in
+    let c6 = c4 .before .before in
+    let c7 = c6 .before in
+    span-refused _ _ (c7 .load .ensures) _ _ _ _ _ _ (c6 .span .ensures) _ _ (c4 .outcome .given .1)
+    (c .packed2 .ensures ∙ ap₂ (λ n v. answer n v) (number .number-of .ensures) (value .value-of .ensures))
 
 pub wumbyra-span-spec : {M : Type 1} → statement M
 wumbyra-span-spec =
@@ -57,6 +68,8 @@ wumbyra-span-spec =
     add-packed
     packed-requires
     enum-known-outcome
-    of-refusal-requires
+    number-of-requires
+    value-of-requires
+    packed-requires-2
     returns
     returns-2)
