@@ -33,7 +33,7 @@ module _ (d : Desk) (p : Pattern) (page letters : List ℕ) (words : ℕ) (table
     pub bad-on-full : page-limit ≤ d .count → First DeskFull (put-order d p page letters words)
     bad-on-full h = past (ap not table) (past (le-ltb (length letters) letter-limit cells) (past (ap not right) (here (le-leb page-limit (d .count) h))))
 
-    -- a bad letter is 4 also where the marks are too few
+    -- a bad letter is 4 also where the words are too few
     pub bad-before-words : d .count < page-limit → first-bad page < length page → First (Base (TapeByte (first-bad page))) (put-order d p page letters words)
     bad-before-words h l =
         past (ap not table) (past (le-ltb (length letters) letter-limit cells) (past (ap not right) (past (lt-leb page-limit (d .count) h)

@@ -47,49 +47,49 @@ taken : {A : Type 0} (order : List Desk-check) (n : ℕ) (new old : A) → Clear
 taken order n new old c = sym (ap (λ a. if-accepted a new old) (clear-said desk-refused order (answer 0 n) c))
 
 -- ── `open_desk` ──
-module _ (p : Pattern) (d : Desk) (marks : List ℕ) where
-  pub open-refused : (why : DeskRefusal) → First why (open-order p (length marks)) → Opens p d d marks marks (Refused why)
+module _ (p : Pattern) (d : Desk) (words : List ℕ) where
+  pub open-refused : (why : DeskRefusal) → First why (open-order p (length words)) → Opens p d d words words (Refused why)
   unfolding open-answer
   open-refused why f =
-      let order = open-order p (length marks) in
+      let order = open-order p (length words) in
       record {
         answers = sym (first-said desk-refused f (answer 0 0));
         leaves = kept order 0 why empty-desk d f;
-        marks-left = kept order 0 why (in-front (tail-words p []) marks) marks f;
+        marks-left = kept order 0 why (in-front (tail-words p []) words) words f;
       }
 
-  pub open-2 : obeys p ≡ false → First (Base (Tree-fault 0)) (open-order p (length marks))
+  pub open-2 : obeys p ≡ false → First (Base (Tree-fault 0)) (open-order p (length words))
   open-2 e = here (ap not e)
 
-  pub open-6 : obeys p ≡ true → length marks < 2 → First (Base (WordsTooShort 2)) (open-order p (length marks))
-  open-6 e h = past (ap not e) (here (lt-ltb (length marks) 2 h))
+  pub open-6 : obeys p ≡ true → length words < 2 → First (Base (WordsTooShort 2)) (open-order p (length words))
+  open-6 e h = past (ap not e) (here (lt-ltb (length words) 2 h))
 
-  pub open-clear : Clear (open-order p (length marks)) → (now : List ℕ) → now ≡ in-front (tail-words p []) marks → Opens p d empty-desk marks now (Letters 0)
+  pub open-clear : Clear (open-order p (length words)) → (now : List ℕ) → now ≡ in-front (tail-words p []) words → Opens p d empty-desk words now (Letters 0)
   unfolding open-answer
   open-clear c now k =
-      let order = open-order p (length marks) in
+      let order = open-order p (length words) in
       record {
         answers = sym (clear-said desk-refused order (answer 0 0) c);
         leaves = taken order 0 empty-desk d c;
-        marks-left = k ∙ taken order 0 (in-front (tail-words p []) marks) marks c;
+        marks-left = k ∙ taken order 0 (in-front (tail-words p []) words) words c;
       }
 
-  pub open-done : obeys p ≡ true → 2 ≤ length marks → (now : List ℕ) → now ≡ in-front (tail-words p []) marks
-      → Opens p d empty-desk marks now (Letters 0)
-  open-done e h = open-clear (ap not e, (le-ltb (length marks) 2 h, tt))
+  pub open-done : obeys p ≡ true → 2 ≤ length words → (now : List ℕ) → now ≡ in-front (tail-words p []) words
+      → Opens p d empty-desk words now (Letters 0)
+  open-done e h = open-clear (ap not e, (le-ltb (length words) 2 h, tt))
 
 -- ── `put_page` ──
-module _ (p : Pattern) (d : Desk) (page letters marks : List ℕ) where
+module _ (p : Pattern) (d : Desk) (page letters words : List ℕ) where
   abbrev at : ℕ
   at = letter-limit - (held d + length page)
 
   abbrev put-words : List ℕ
-  put-words = sets marks (2 * (held d + 1)) (grown p (getD marks (2 * held d + 1) 0) (eqb (held d) 0) page)
+  put-words = sets words (2 * (held d + 1)) (grown p (getD words (2 * held d + 1) 0) (eqb (held d) 0) page)
 
   abbrev order : List Desk-check
-  order = put-order d p page letters (length marks)
+  order = put-order d p page letters (length words)
 
-  pub put-refused : (why : DeskRefusal) → First why (put-order d p page letters (length marks)) → Puts p page d d letters letters marks marks (Refused why)
+  pub put-refused : (why : DeskRefusal) → First why (put-order d p page letters (length words)) → Puts p page d d letters letters words words (Refused why)
   unfolding put-answer
   put-refused why f =
       let n = held d + length page in
@@ -97,19 +97,19 @@ module _ (p : Pattern) (d : Desk) (page letters marks : List ℕ) where
         answers = sym (first-said desk-refused f (answer 0 n));
         leaves = kept order n why (with-page d (length page)) d f;
         letters-left = kept order n why (sets letters at page) letters f;
-        marks-left = kept order n why put-words marks f;
+        marks-left = kept order n why put-words words f;
       }
 
-  module _ (r : Checked) (c : Checks (put-order d p page letters (length marks)) (held d) r) where
-    pub put-why : (why : DeskRefusal) → r ≡ Checks-refused why → Puts p page d d letters letters marks marks (Refused why)
+  module _ (r : Checked) (c : Checks (put-order d p page letters (length words)) (held d) r) where
+    pub put-why : (why : DeskRefusal) → r ≡ Checks-refused why → Puts p page d d letters letters words words (Refused why)
     put-why why e = put-refused why (checked-why order (held d) r c why e)
 
-    pub put-held : (m : ℕ) → r ≡ Held m → Clear (put-order d p page letters (length marks)) × (m ≡ held d)
+    pub put-held : (m : ℕ) → r ≡ Held m → Clear (put-order d p page letters (length words)) × (m ≡ held d)
     put-held m e = checked-held order (held d) r c m e
 
-  module _ (c : Clear (put-order d p page letters (length marks))) where
+  module _ (c : Clear (put-order d p page letters (length words))) where
     pub put-done : (e : Desk) (after now : List ℕ) (n : ℕ) → e ≡ with-page d (length page) → after ≡ sets letters at page → now ≡ put-words
-        → n ≡ held d + length page → Puts p page d e letters after marks now (Letters n)
+        → n ≡ held d + length page → Puts p page d e letters after words now (Letters n)
     unfolding put-answer
     put-done e after now n f g h k =
         let m = held d + length page in
@@ -117,22 +117,22 @@ module _ (p : Pattern) (d : Desk) (page letters marks : List ℕ) where
           answers = ap (answer 0) k ∙ sym (clear-said desk-refused order (answer 0 m) c);
           leaves = f ∙ taken order m (with-page d (length page)) d c;
           letters-left = g ∙ taken order m (sets letters at page) letters c;
-          marks-left = h ∙ taken order m put-words marks c;
+          marks-left = h ∙ taken order m put-words words c;
         }
 
     pub put-rules : Rules p
     put-rules = obeys-iff p .0 (not-false (obeys p) (c .0))
 
-    pub put-words-room : words-for (held d + length page) ≤ length marks
-    put-words-room = ltb-false (length marks) (words-for (held d + length page)) (c .1 .1 .1 .1 .1 .0)
+    pub put-words-room : words-for (held d + length page) ≤ length words
+    put-words-room = ltb-false (length words) (words-for (held d + length page)) (c .1 .1 .1 .1 .1 .0)
 
     -- the letters behind the page, as they were counted
     module _ (b : ℕ) (e : b ≡ held d) where
       pub behind-upto : b + length page ≤ letter-limit
-      behind-upto = omega (arith, e, put-upto d p page letters (length marks) c)
+      behind-upto = omega (arith, e, put-upto d p page letters (length words) c)
 
       -- what growing asks
-      pub put-growable : Growable p page b marks
+      pub put-growable : Growable p page b words
       put-growable =
           record {
             rules = put-rules;
@@ -142,11 +142,11 @@ module _ (p : Pattern) (d : Desk) (page letters marks : List ℕ) where
           }
 
       pub put-made : (f : Desk) (after now : List ℕ) → f ≡ with-page d (length page) → after ≡ sets letters (letter-limit - (b + length page)) page
-          → now ≡ sets marks (2 * (b + 1)) (grown p (getD marks (2 * b + 1) 0) (eqb b 0) page)
-          → Puts p page d f letters after marks now (Letters (b + length page))
+          → now ≡ sets words (2 * (b + 1)) (grown p (getD words (2 * b + 1) 0) (eqb b 0) page)
+          → Puts p page d f letters after words now (Letters (b + length page))
       put-made f after now g h k =
           put-done f after now (b + length page) g (h ∙ ap (λ n. sets letters (letter-limit - (n + length page)) page) e)
-          (k ∙ ap (λ n. sets marks (2 * (n + 1)) (grown p (getD marks (2 * n + 1) 0) (eqb n 0) page)) e) (ap (λ n. n + length page) e)
+          (k ∙ ap (λ n. sets words (2 * (n + 1)) (grown p (getD words (2 * n + 1) 0) (eqb n 0) page)) e) (ap (λ n. n + length page) e)
 
 -- ── `withdraw_page` ──
 module _ (p : Pattern) (d : Desk) (letters : List ℕ) where

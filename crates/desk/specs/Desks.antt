@@ -151,24 +151,24 @@ abbrev pub refused-change : Desk → DeskRefusal → Changed
 refused-change d why = record { desk = d; answer = Refused why }
 
 -- 02: "the marks are those of the joined letters under its table"
-abbrev pub Marks-of : Pattern → (letters marks : List ℕ) → Type 0
-Marks-of p w marks = take (words-for (length w)) marks ≡ tail-words p w
+abbrev pub Words-of : Pattern → (letters words : List ℕ) → Type 0
+Words-of p w words = take (words-for (length w)) words ≡ tail-words p w
 
 -- ── THE PROMISES, for every desk, table, page and lent buffers ──
-pub record Opens (p : Pattern) (d d-now : Desk) (marks marks-now : List ℕ) (r : Desked) : Type 0 where
-  pub answers : desk-answer r ≡ open-answer p (length marks)
-  pub leaves : d-now ≡ if-accepted (open-answer p (length marks)) empty-desk d
-  pub marks-left : marks-now ≡ if-accepted (open-answer p (length marks)) (in-front (tail-words p []) marks) marks
+pub record Opens (p : Pattern) (d d-now : Desk) (words words-now : List ℕ) (r : Desked) : Type 0 where
+  pub answers : desk-answer r ≡ open-answer p (length words)
+  pub leaves : d-now ≡ if-accepted (open-answer p (length words)) empty-desk d
+  pub marks-left : words-now ≡ if-accepted (open-answer p (length words)) (in-front (tail-words p []) words) words
 
 -- 02: "a put changes only its own letters' cells and mark words"
-pub record Puts (p : Pattern) (page : List ℕ) (d d-now : Desk) (letters letters-now marks marks-now : List ℕ) (r : Desked) : Type 0 where
-  pub answers : desk-answer r ≡ put-answer d p page letters (length marks)
-  pub leaves : d-now ≡ if-accepted (put-answer d p page letters (length marks)) (with-page d (length page)) d
+pub record Puts (p : Pattern) (page : List ℕ) (d d-now : Desk) (letters letters-now words words-now : List ℕ) (r : Desked) : Type 0 where
+  pub answers : desk-answer r ≡ put-answer d p page letters (length words)
+  pub leaves : d-now ≡ if-accepted (put-answer d p page letters (length words)) (with-page d (length page)) d
   pub letters-left : letters-now ≡
-      if-accepted (put-answer d p page letters (length marks)) (sets letters (letter-limit - (held d + length page)) page) letters
-  pub marks-left : marks-now ≡
-      if-accepted (put-answer d p page letters (length marks))
-      (sets marks (2 * (held d + 1)) (grown p (getD marks (2 * held d + 1) 0) (eqb (held d) 0) page)) marks
+      if-accepted (put-answer d p page letters (length words)) (sets letters (letter-limit - (held d + length page)) page) letters
+  pub marks-left : words-now ≡
+      if-accepted (put-answer d p page letters (length words))
+      (sets words (2 * (held d + 1)) (grown p (getD words (2 * held d + 1) 0) (eqb (held d) 0) page)) words
 
 -- 02: "a withdrawal none"
 pub record Withdraws (p : Pattern) (d d-now : Desk) (letters : List ℕ) (r : Desked) : Type 0 where

@@ -9,7 +9,7 @@ pub mod DeskWays
 pub mod Decided
 pub mod Unique
 pub mod Orders
-pub mod MarkLaws
+pub mod WordLaws
 pub mod Untouched
 pub mod Stacks
 pub mod StackPages

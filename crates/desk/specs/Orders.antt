@@ -28,44 +28,44 @@ abbrev pub Answered : (order : List Desk-check) → (letters : ℕ) → Desked �
 Answered order n r = (Clear order × (r ≡ Letters n)) ⊎ ((why : DeskRefusal) × First why order × (r ≡ Refused why))
 
 -- ── opening ──
-module _ (p : Pattern) (d : Desk) (marks : List ℕ) where
-  module _ (e : Desk) (now : List ℕ) (r : Desked) (h : Opens p d e marks now r) where
-    pub open-only : (why : DeskRefusal) → First why (open-order p (length marks)) → (r ≡ Refused why) × (e ≡ d) × (now ≡ marks)
-    open-only why f = opens-one p d e d marks now marks r (Refused why) h (open-refused p d marks why f)
+module _ (p : Pattern) (d : Desk) (words : List ℕ) where
+  module _ (e : Desk) (now : List ℕ) (r : Desked) (h : Opens p d e words now r) where
+    pub open-only : (why : DeskRefusal) → First why (open-order p (length words)) → (r ≡ Refused why) × (e ≡ d) × (now ≡ words)
+    open-only why f = opens-one p d e d words now words r (Refused why) h (open-refused p d words why f)
 
-    pub opened : Clear (open-order p (length marks)) → (r ≡ Letters 0) × (e ≡ empty-desk) × (now ≡ in-front (tail-words p []) marks)
+    pub opened : Clear (open-order p (length words)) → (r ≡ Letters 0) × (e ≡ empty-desk) × (now ≡ in-front (tail-words p []) words)
     opened c =
-        opens-one p d e empty-desk marks now (in-front (tail-words p []) marks) r (Letters 0) h
-        (open-clear p d marks c (in-front (tail-words p []) marks) refl)
+        opens-one p d e empty-desk words now (in-front (tail-words p []) words) r (Letters 0) h
+        (open-clear p d words c (in-front (tail-words p []) words) refl)
 
-    pub open-answered : Answered (open-order p (length marks)) 0 r
-    open-answered = go (which-first (open-order p (length marks)))
+    pub open-answered : Answered (open-order p (length words)) 0 r
+    open-answered = go (which-first (open-order p (length words)))
       where
-        go : Clear (open-order p (length marks)) ⊎ ((why : DeskRefusal) × First why (open-order p (length marks))) → Answered (open-order p (length marks)) 0 r
+        go : Clear (open-order p (length words)) ⊎ ((why : DeskRefusal) × First why (open-order p (length words))) → Answered (open-order p (length words)) 0 r
         go (inl c) = inl (c, opened c .0)
         go (inr (why, f)) = inr (why, f, open-only why f .0)
 
 -- ── putting ──
-module _ (p : Pattern) (d : Desk) (page letters marks : List ℕ) where
+module _ (p : Pattern) (d : Desk) (page letters words : List ℕ) where
   abbrev put-checks : List Desk-check
-  put-checks = put-order d p page letters (length marks)
+  put-checks = put-order d p page letters (length words)
 
-  module _ (e : Desk) (after now : List ℕ) (r : Desked) (h : Puts p page d e letters after marks now r) where
-    pub put-only : (why : DeskRefusal) → First why (put-order d p page letters (length marks))
-        → (r ≡ Refused why) × (e ≡ d) × (after ≡ letters) × (now ≡ marks)
-    put-only why f = puts-one p d page e d letters after letters marks now marks r (Refused why) h (put-refused p d page letters marks why f)
+  module _ (e : Desk) (after now : List ℕ) (r : Desked) (h : Puts p page d e letters after words now r) where
+    pub put-only : (why : DeskRefusal) → First why (put-order d p page letters (length words))
+        → (r ≡ Refused why) × (e ≡ d) × (after ≡ letters) × (now ≡ words)
+    put-only why f = puts-one p d page e d letters after letters words now words r (Refused why) h (put-refused p d page letters words why f)
 
-    pub was-put : Clear (put-order d p page letters (length marks))
+    pub was-put : Clear (put-order d p page letters (length words))
         → (r ≡ Letters (held d + length page)) × (e ≡ with-page d (length page))
         × (after ≡ sets letters (letter-limit - (held d + length page)) page)
-        × (now ≡ sets marks (2 * (held d + 1)) (grown p (getD marks (2 * held d + 1) 0) (eqb (held d) 0) page))
+        × (now ≡ sets words (2 * (held d + 1)) (grown p (getD words (2 * held d + 1) 0) (eqb (held d) 0) page))
     was-put c =
         let cells = sets letters (letter-limit - (held d + length page)) page in
-        let words = sets marks (2 * (held d + 1)) (grown p (getD marks (2 * held d + 1) 0) (eqb (held d) 0) page) in
-        puts-one p d page e (with-page d (length page)) letters after cells marks now words r (Letters (held d + length page)) h
-        (put-done p d page letters marks c (with-page d (length page)) cells words (held d + length page) refl refl refl refl)
+        let filled = sets words (2 * (held d + 1)) (grown p (getD words (2 * held d + 1) 0) (eqb (held d) 0) page) in
+        puts-one p d page e (with-page d (length page)) letters after cells words now filled r (Letters (held d + length page)) h
+        (put-done p d page letters words c (with-page d (length page)) cells filled (held d + length page) refl refl refl refl)
 
-    pub put-answered : Answered (put-order d p page letters (length marks)) (held d + length page) r
+    pub put-answered : Answered (put-order d p page letters (length words)) (held d + length page) r
     put-answered = go (which-first put-checks)
       where
         go : Clear put-checks ⊎ ((why : DeskRefusal) × First why put-checks) → Answered put-checks (held d + length page) r

@@ -73,13 +73,13 @@ accepted-none cells c s e =
 
 -- opening
 module _ (cells : ℕ) (s : Stack) (d e : Desk) (letters : List ℕ) (h : Holds cells s d letters) where
-  opened : (p : Pattern) (words : ℕ) (marks now : List ℕ) (r : Desked) → length marks ≡ words → Opens p d e marks now r → (after : List ℕ)
-      → after ≡ letters → Answers-like cells (opening p words) s e after r
+  opened : (p : Pattern) (n : ℕ) (words now : List ℕ) (r : Desked) → length words ≡ n → Opens p d e words now r → (after : List ℕ)
+      → after ≡ letters → Answers-like cells (opening p n) s e after r
   unfolding open-answer stack-answer
-  opened p words marks now r w o after k =
-      let a = open-answer p (length marks) in
-      like cells (opening p words) s d e empty-desk letters after letters r a (o .answers) (o .leaves) (k ∙ same-letters a letters)
-      (ap (open-answer p) w) (λ z. subst (λ n. Holds n [] empty-desk letters) (h .size) (empty-holds letters)) h
+  opened p n words now r w o after k =
+      let a = open-answer p (length words) in
+      like cells (opening p n) s d e empty-desk letters after letters r a (o .answers) (o .leaves) (k ∙ same-letters a letters)
+      (ap (open-answer p) w) (λ z. subst (λ x. Holds x [] empty-desk letters) (h .size) (empty-holds letters)) h
 
 -- putting
 -- the answer of a put, by the numbers that a desk and a stack may tell
@@ -117,12 +117,12 @@ module _ (cells : ℕ) (s : Stack) (d : Desk) (letters : List ℕ) (h : Holds ce
       put-holds cells s d letters page h (ltb-false cells letter-limit (none .1 .0)) (leb-false page-limit (length s) (none .1 .1 .1 .0))
       (not-false (good-page (length page)) (none .1 .1 .0)) (no-bad page (ltb-false (first-bad page) (length page) (none .1 .1 .1 .1 .0)))
 
-  puts-like : (e : Desk) (after : List ℕ) (p : Pattern) (page : List ℕ) (words : ℕ) (marks now : List ℕ) (r : Desked) → length marks ≡ words
-      → Puts p page d e letters after marks now r → Answers-like cells (putting p page words) s e after r
-  puts-like e after p page words marks now r w k =
-      like cells (putting p page words) s d e (with-page d (length page)) letters after
-      (sets letters (letter-limit - (held d + length page)) page) r (put-answer d p page letters (length marks)) (k .answers) (k .leaves)
-      (k .letters-left) (put-same p page words (length marks) w) (put-new p page words) h
+  puts-like : (e : Desk) (after : List ℕ) (p : Pattern) (page : List ℕ) (n : ℕ) (words now : List ℕ) (r : Desked) → length words ≡ n
+      → Puts p page d e letters after words now r → Answers-like cells (putting p page n) s e after r
+  puts-like e after p page n words now r w k =
+      like cells (putting p page n) s d e (with-page d (length page)) letters after
+      (sets letters (letter-limit - (held d + length page)) page) r (put-answer d p page letters (length words)) (k .answers) (k .leaves)
+      (k .letters-left) (put-same p page n (length words) w) (put-new p page n) h
 
 -- withdrawing
 abbrev less-by : Pattern → (cells : ℕ) → (wrong : Bool) → (count success : ℕ) → Answer
@@ -160,8 +160,8 @@ module _ (cells : ℕ) (s : Stack) (d : Desk) (letters : List ℕ) (h : Holds ce
 -- ── runs ──
 one-call : (cells : ℕ) (c : Call) (s : Stack) (d e : Desk) (letters after : List ℕ) (r : Desked) → Does c d e letters after r → Holds cells s d letters
     → Answers-like cells c s e after r
-one-call cells (opening p words) s d e letters after r (marks, now, w, o, k) h = opened cells s d e letters h p words marks now r w o after k
-one-call cells (putting p page words) s d e letters after r (marks, now, w, k) h = puts-like cells s d letters h e after p page words marks now r w k
+one-call cells (opening p n) s d e letters after r (words, now, w, o, k) h = opened cells s d e letters h p n words now r w o after k
+one-call cells (putting p page n) s d e letters after r (words, now, w, k) h = puts-like cells s d letters h e after p page n words now r w k
 one-call cells (withdrawing p) s d e letters after r (w, k) h = withdraws-like cells s d letters h e after p r w k
 
 run-like : (cells : ℕ) {cs : List Call} {rs : List Desked} {d e : Desk} {letters after : List ℕ} (s : Stack) → Run d letters cs rs e after
@@ -178,10 +178,10 @@ run-like cells s (next {d = d} {e = e} {letters = letters} {after = after} {c = 
 
 -- THE THEOREM. An accepted opening leaves an empty desk, whatever desk and letters were there; any run of calls behind it, refused ones too, is
 -- answered as a stack that is empty at first answers it.
-pub desk-is-a-stack : {p : Pattern} {d e f : Desk} {marks now : List ℕ} {r : Desked} → Opens p d e marks now r → desk-answer r .number ≡ 0
+pub desk-is-a-stack : {p : Pattern} {d e f : Desk} {words now : List ℕ} {r : Desked} → Opens p d e words now r → desk-answer r .number ≡ 0
     → {letters last : List ℕ} {cs : List Call} {rs : List Desked} → Run e letters cs rs f last → Like-a-stack (length letters) cs [] rs f last
-desk-is-a-stack {p} {d} {e} {marks = marks} o z {letters} run =
-    let a = open-answer p (length marks) in
+desk-is-a-stack {p} {d} {e} {words = words} o z {letters} run =
+    let a = open-answer p (length words) in
     let zero-first : eqb (a .number) 0 ≡ true = eq-eqb (a .number) 0 (sym (ap (λ x. x .number) (o .answers)) ∙ z) in
     let empty : e ≡ empty-desk = o .leaves ∙ ap (λ b. cond b empty-desk d) zero-first in
     run-like (length letters) [] run (subst (λ x. Holds (length letters) [] x letters) (sym empty) (empty-holds letters))

@@ -71,12 +71,12 @@ stack-behind cells [] s = s
 stack-behind cells (c ∷ cs) s = stack-behind cells cs (stack-step cells c s)
 
 -- ── runs of calls ──
--- what is known of a call is its promise: the desk and the letters before and after it, with any marks of that number
+-- what is known of a call is its promise: the desk and the letters before and after it, with any words of that number
 abbrev pub Does : Call → (d d-now : Desk) → (letters letters-now : List ℕ) → Desked → Type 0
-Does (opening p words) d d-now letters letters-now r =
-    (marks : List ℕ) × (marks-now : List ℕ) × (length marks ≡ words) × (Opens p d d-now marks marks-now r) × (letters-now ≡ letters)
-Does (putting p page words) d d-now letters letters-now r =
-    (marks : List ℕ) × (marks-now : List ℕ) × (length marks ≡ words) × Puts p page d d-now letters letters-now marks marks-now r
+Does (opening p n) d d-now letters letters-now r =
+    (words : List ℕ) × (words-now : List ℕ) × (length words ≡ n) × (Opens p d d-now words words-now r) × (letters-now ≡ letters)
+Does (putting p page n) d d-now letters letters-now r =
+    (words : List ℕ) × (words-now : List ℕ) × (length words ≡ n) × Puts p page d d-now letters letters-now words words-now r
 Does (withdrawing p) d d-now letters letters-now r = (Withdraws p d d-now letters r) × (letters-now ≡ letters)
 
 -- 02: "while nothing but its calls writes desk and letters": each call finds them as the one before left them

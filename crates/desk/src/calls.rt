@@ -31,17 +31,17 @@ fn unchanged(desk: Desk, why: DeskRefusal) -> Changed
 }
 
 // Empties a desk, whatever it held, and writes the two words of the tape's end.
-pub fn open_desk(desk: Desk, p: Pattern, marks: &mut [u64]) -> Changed
-    ensures { λ r. ⌜ Opens p desk (r .desk) (now (marks .entry)) (now (marks .exit)) (r .answer) ⌝ }
+pub fn open_desk(desk: Desk, p: Pattern, words: &mut [u64]) -> Changed
+    ensures { λ r. ⌜ Opens p desk (r .desk) (now (words .entry)) (now (words .exit)) (r .answer) ⌝ }
 {
     if !obeys_rules(p) {
         return unchanged(desk, DeskRefusal::Base(Refusal::Tree(0)));
     }
-    if marks.len() < 2 {
+    if words.len() < 2 {
         return unchanged(desk, DeskRefusal::Base(Refusal::WordsTooShort(2)));
     }
     let table = table_of(p);
-    put_end(p, &table, marks);
+    put_end(p, &table, words);
     Changed {
         desk: Desk {
             count: 0,
@@ -57,17 +57,17 @@ fn put_on(
     p: Pattern,
     page: &[u8],
     letters: &mut [u8],
-    marks: &mut [u64],
+    words: &mut [u64],
     behind: usize,
 ) -> Changed
-    requires { ⌜ Clear (put-order desk p (now page) (now letters) (length (now marks))) × (behind ≡ held desk) ⌝ }
+    requires { ⌜ Clear (put-order desk p (now page) (now letters) (length (now words))) × (behind ≡ held desk) ⌝ }
     ensures { λ r.
-        ⌜ Puts p (now (page .entry)) desk (r .desk) (now (letters .entry)) (now (letters .exit)) (now (marks .entry)) (now (marks .exit)) (r .answer) ⌝ }
+        ⌜ Puts p (now (page .entry)) desk (r .desk) (now (letters .entry)) (now (letters .exit)) (now (words .entry)) (now (words .exit)) (r .answer) ⌝ }
 {
     let n = page.len();
     let total = behind + n;
     let table = table_of(p);
-    grow(p, &table, page, behind, marks);
+    grow(p, &table, page, behind, words);
     put_bytes(letters, Pattern::MAX_LETTERS - total, page);
     Changed {
         desk: with_page(desk, n),
@@ -80,15 +80,15 @@ pub fn put_page(
     p: Pattern,
     page: &[u8],
     letters: &mut [u8],
-    marks: &mut [u64],
+    words: &mut [u64],
 ) -> Changed
     ensures { λ r.
-        ⌜ Puts p (now (page .entry)) desk (r .desk) (now (letters .entry)) (now (letters .exit)) (now (marks .entry)) (now (marks .exit)) (r .answer) ⌝ }
+        ⌜ Puts p (now (page .entry)) desk (r .desk) (now (letters .entry)) (now (letters .exit)) (now (words .entry)) (now (words .exit)) (r .answer) ⌝ }
 {
-    let checked = check_put(desk, p, page, letters, marks.len());
+    let checked = check_put(desk, p, page, letters, words.len());
     match checked {
         Checked::Refused(why) => unchanged(desk, why),
-        Checked::Held(behind) => put_on(desk, p, page, letters, marks, behind),
+        Checked::Held(behind) => put_on(desk, p, page, letters, words, behind),
     }
 }
 

@@ -75,10 +75,10 @@ pub fn desk_value_of(why: DeskRefusal) -> u32
 }
 
 // Opens a desk: it is empty then, whatever it held before.
-pub fn open(desk: &mut Desk, p: Pattern, marks: &mut [u64]) -> Desked
-    ensures { λ r. ⌜ Opens p (now (desk .entry)) (now (desk .exit)) (now (marks .entry)) (now (marks .exit)) r ⌝ }
+pub fn open(desk: &mut Desk, p: Pattern, words: &mut [u64]) -> Desked
+    ensures { λ r. ⌜ Opens p (now (desk .entry)) (now (desk .exit)) (now (words .entry)) (now (words .exit)) r ⌝ }
 {
-    let changed = open_desk(*desk, p, marks);
+    let changed = open_desk(*desk, p, words);
     *desk = changed.desk;
     changed.answer
 }
@@ -89,13 +89,13 @@ pub fn put(
     p: Pattern,
     page: &[u8],
     letters: &mut [u8],
-    marks: &mut [u64],
+    words: &mut [u64],
 ) -> Desked
     ensures { λ r.
         ⌜ Puts p (now (page .entry)) (now (desk .entry)) (now (desk .exit)) (now (letters .entry)) (now (letters .exit))
-        (now (marks .entry)) (now (marks .exit)) r ⌝ }
+        (now (words .entry)) (now (words .exit)) r ⌝ }
 {
-    let changed = put_page(*desk, p, page, letters, marks);
+    let changed = put_page(*desk, p, page, letters, words);
     *desk = changed.desk;
     changed.answer
 }

@@ -19,23 +19,23 @@ use Rattle.first_sweep.specs.Grow.{step-by, grown, grown-length, tail-gr
 
 -- a buffer's first words are those of the letters held; what stands behind them does not matter
 abbrev pub Right-words : Pattern → (held words : List ℕ) → Type 0
-Right-words p w marks = take (2 * (length w + 1)) marks ≡ tail-words p w
+Right-words p w words = take (2 * (length w + 1)) words ≡ tail-words p w
 
 module _ (p : Pattern) where
   pub end-right : (old new : List ℕ) → new ≡ in-front (tail-words p []) old → Right-words p [] new
   unfolding in-front
   end-right old new e = ap (take 2) e
 
-  pub withdrawn-right : (page w marks : List ℕ) → Right-words p (page ++ w) marks → Right-words p w marks
-  withdrawn-right page w marks right =
-      sym (take-take (2 * (length w + 1)) (2 * (length (page ++ w) + 1)) marks (omega (arith, length-append page w)))
+  pub withdrawn-right : (page w words : List ℕ) → Right-words p (page ++ w) words → Right-words p w words
+  withdrawn-right page w words right =
+      sym (take-take (2 * (length w + 1)) (2 * (length (page ++ w) + 1)) words (omega (arith, length-append page w)))
       ∙ ap (take (2 * (length w + 1))) right ∙ tail-front p page w
 
   -- the flag 1 word of the letters held stands where a page looks for it
-  pub right-one : (w marks : List ℕ) → Right-words p w marks → getD marks (2 * length w + 1) 0 ≡ state-set p true w
-  right-one w marks right =
+  pub right-one : (w words : List ℕ) → Right-words p w words → getD words (2 * length w + 1) 0 ≡ state-set p true w
+  right-one w words right =
       let e : length w - length w ≡ 0 = omega arith in
-      sym (getD-take (2 * (length w + 1)) marks (2 * length w + 1) 0 (omega arith)) ∙ ap (λ ws. getD ws (2 * length w + 1) 0) right
+      sym (getD-take (2 * (length w + 1)) words (2 * length w + 1) 0 (omega arith)) ∙ ap (λ ws. getD ws (2 * length w + 1) 0) right
       ∙ tail-at p w (length w) true (omega arith) ∙ ap (λ n. state-set p true (drop n w)) e
 
 -- the tape's end lies behind a page exactly if no letter is held

@@ -17,13 +17,13 @@ use Rattle.refusals.specs.Checks.{Clear}
 use Rattle.semantics.specs.Begins.{Ends}
 use Rattle.steps.specs.StateSets.{state-set}
 use Rattle.desk.specs.declared.Desk.{Desk}
-use Rattle.desk.specs.Desks.{held, letters-held, good-page, desk-good, page-letters, Desk-check, put-order, desk-answer, Marks-of, Puts}
+use Rattle.desk.specs.Desks.{held, letters-held, good-page, desk-good, page-letters, Desk-check, put-order, desk-answer, Words-of, Puts}
 use Rattle.desk.specs.Numbers.{desk-number-positive}
 use Rattle.desk.specs.Checking.{put-upto, put-cells}
 use Rattle.desk.specs.DeskWays.{put-rules}
 use Rattle.desk.specs.Moves.{held-length}
 use Rattle.desk.specs.Orders.{Answered, put-answered}
-use Rattle.desk.specs.MarkLaws.{last-word, put-before}
+use Rattle.desk.specs.WordLaws.{last-word, put-before}
 use Rattle.reach.specs.FrontWords.{has-any}
 use Rattle.reach.specs.StateEnds.{state-ends-iff}
 use Rattle.loading.specs.Load.{load-table}
@@ -41,20 +41,20 @@ any-above zero h = absurd (true≢false (sym h))
 any-above (suc x) h = omega arith
 
 -- letters, at least one, with right words
-pub last-word-ends : (p : Pattern) → Rules p → (w marks : List ℕ) → Marks-of p w marks → 1 ≤ length w
-    → (1 ≤ getD marks (2 * length w + 1) 0) ↔ Ends (root p) w
-last-word-ends p rules [] marks right h = absurd (omega arith)
-last-word-ends p rules (c ∷ w) marks right h =
-    let word = getD marks (2 * length (c ∷ w) + 1) 0 in
-    let same : word ≡ state-set p true (c ∷ w) = last-word p (c ∷ w) marks right in
+pub last-word-ends : (p : Pattern) → Rules p → (w words : List ℕ) → Words-of p w words → 1 ≤ length w
+    → (1 ≤ getD words (2 * length w + 1) 0) ↔ Ends (root p) w
+last-word-ends p rules [] words right h = absurd (omega arith)
+last-word-ends p rules (c ∷ w) words right h =
+    let word = getD words (2 * length (c ∷ w) + 1) 0 in
+    let same : word ≡ state-set p true (c ∷ w) = last-word p (c ∷ w) words right in
     let ends = state-ends-iff p rules true c w in (
       λ k. ends .0 (ap has-any (sym same) ∙ above-any word k),
       λ e. any-above word (ap has-any same ∙ ends .1 e),
     )
 
-module _ (text desk now page letters letters-now marks marks-now : List ℕ) (r : ℕ) (whole : length desk ≡ desk-bytes)
-    (t : Desk-puts-text text desk now page letters letters-now marks marks-now r) (accepted : unpacked r .number ≡ 0)
-    (right : Marks-of (load-table text) (letters-held (desk-of-bytes desk) letters) marks) where
+module _ (text desk now page letters letters-now words words-now : List ℕ) (r : ℕ) (whole : length desk ≡ desk-bytes)
+    (t : Desk-puts-text text desk now page letters letters-now words words-now r) (accepted : unpacked r .number ≡ 0)
+    (right : Words-of (load-table text) (letters-held (desk-of-bytes desk) letters) words) where
   abbrev p : Pattern
   p = load-table text
 
@@ -62,14 +62,14 @@ module _ (text desk now page letters letters-now marks marks-now : List ℕ) (r 
   d = desk-of-bytes desk
 
   abbrev order : List Desk-check
-  order = put-order d p page letters (length marks)
+  order = put-order d p page letters (length words)
 
-  was-put : Puts p page d (desk-of-bytes now) letters letters-now marks marks-now (t .desked)
-  was-put = puts-served text desk now r whole letters page letters-now marks marks-now t .0
+  was-put : Puts p page d (desk-of-bytes now) letters letters-now words words-now (t .desked)
+  was-put = puts-served text desk now r whole letters page letters-now words words-now t .0
 
   -- no cause held, and the value is the number of letters
   was-accepted : Clear order × (unpacked r .value ≡ held d + length page)
-  was-accepted = go (put-answered p d page letters marks (desk-of-bytes now) letters-now marks-now (t .desked) was-put)
+  was-accepted = go (put-answered p d page letters words (desk-of-bytes now) letters-now words-now (t .desked) was-put)
     where
       go : Answered order (held d + length page) (t .desked) → Clear order × (unpacked r .value ≡ held d + length page)
       go (inl (c, k)) = (c, ap (λ a. a .value) (t .answers ∙ ap desk-answer k))
@@ -88,14 +88,14 @@ module _ (text desk now page letters letters-now marks marks-now : List ℕ) (r 
   pub put-count : length all ≡ unpacked r .value
   put-count =
       let c = was-accepted .0 in
-      let few = put-upto d p page letters (length marks) c in
-      let size = held-length d letters (put-cells d p page letters (length marks) c) (omega (arith, few)) in
-      let before = put-before p page d (desk-of-bytes now) letters letters-now marks marks-now (t .desked) was-put (lengths-all desk whole) c in
+      let few = put-upto d p page letters (length words) c in
+      let size = held-length d letters (put-cells d p page letters (length words) c) (omega (arith, few)) in
+      let before = put-before p page d (desk-of-bytes now) letters letters-now words words-now (t .desked) was-put (lengths-all desk whole) c in
       omega (arith, ap length before, length-append page (letters-held d letters), size, was-accepted .1)
 
-  pub put-ends : (1 ≤ getD marks-now (2 * unpacked r .value + 1) 0) ↔ Ends (root p) all
+  pub put-ends : (1 ≤ getD words-now (2 * unpacked r .value + 1) 0) ↔ Ends (root p) all
   put-ends =
-      let rules = put-rules p d page letters marks (was-accepted .0) in
-      let words = puts-right text desk now r whole letters page letters-now marks marks-now t right in
-      subst (λ n. (1 ≤ getD marks-now (2 * n + 1) 0) ↔ Ends (root p) all) put-count
-      (last-word-ends p rules all marks-now words (omega (arith, put-count, was-accepted .1, some-letters)))
+      let rules = put-rules p d page letters words (was-accepted .0) in
+      let stay = puts-right text desk now r whole letters page letters-now words words-now t right in
+      subst (λ n. (1 ≤ getD words-now (2 * n + 1) 0) ↔ Ends (root p) all) put-count
+      (last-word-ends p rules all words-now stay (omega (arith, put-count, was-accepted .1, some-letters)))

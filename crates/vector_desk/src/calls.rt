@@ -20,10 +20,10 @@ pub(crate) struct Next {
     pub(crate) size: usize,
 }
 
-fn run_open(text: &[u8], line: &[u8], desk: &mut [u8], letters: &[u8], marks: &mut [u64]) -> usize {
-    let words = least(number(field(line)) as usize, marks.len());
-    let answer = wumbyra_desk_open(text, desk, &mut marks[..words]);
-    print_call(answer, desk, letters, marks);
+fn run_open(text: &[u8], line: &[u8], desk: &mut [u8], letters: &[u8], words: &mut [u64]) -> usize {
+    let lent = least(number(field(line)) as usize, words.len());
+    let answer = wumbyra_desk_open(text, desk, &mut words[..lent]);
+    print_call(answer, desk, letters, words);
     rest(line).len()
 }
 
@@ -34,13 +34,13 @@ fn put_lent(
     line: &[u8],
     desk: &mut [u8],
     letters: &mut [u8],
-    marks: &mut [u64],
+    words: &mut [u64],
 ) -> usize {
     let last = rest(line);
     let cells = least(number(field(line)) as usize, letters.len());
-    let words = least(number(field(last)) as usize, marks.len());
-    let answer = wumbyra_desk_put(text, desk, page, &mut letters[..cells], &mut marks[..words]);
-    print_call(answer, desk, letters, marks);
+    let lent = least(number(field(last)) as usize, words.len());
+    let answer = wumbyra_desk_put(text, desk, page, &mut letters[..cells], &mut words[..lent]);
+    print_call(answer, desk, letters, words);
     rest(last).len()
 }
 
@@ -49,17 +49,17 @@ fn run_put(
     line: &[u8],
     desk: &mut [u8],
     letters: &mut [u8],
-    marks: &mut [u64],
+    words: &mut [u64],
 ) -> usize {
     let mut page = [0u8; MAX_TAPE];
     let size = decode(field(line), &mut page);
-    put_lent(text, &page[..size], rest(line), desk, letters, marks)
+    put_lent(text, &page[..size], rest(line), desk, letters, words)
 }
 
-fn run_withdraw(text: &[u8], line: &[u8], desk: &mut [u8], letters: &[u8], marks: &[u64]) -> usize {
+fn run_withdraw(text: &[u8], line: &[u8], desk: &mut [u8], letters: &[u8], words: &[u64]) -> usize {
     let cells = least(number(field(line)) as usize, letters.len());
     let answer = wumbyra_desk_withdraw(text, desk, &letters[..cells]);
-    print_call(answer, desk, letters, marks);
+    print_call(answer, desk, letters, words);
     rest(line).len()
 }
 
@@ -96,12 +96,12 @@ fn run_call(
     line: &[u8],
     desk: &mut [u8],
     letters: &mut [u8],
-    marks: &mut [u64],
+    words: &mut [u64],
 ) -> usize {
     match kind {
-        b'o' => run_open(text, line, desk, letters, marks),
-        b'p' => run_put(text, line, desk, letters, marks),
-        b'w' => run_withdraw(text, line, desk, letters, marks),
+        b'o' => run_open(text, line, desk, letters, words),
+        b'p' => run_put(text, line, desk, letters, words),
+        b'w' => run_withdraw(text, line, desk, letters, words),
         b'h' => run_hand(line, desk, letters),
         _ => {
             say_bad();
@@ -116,7 +116,7 @@ pub(crate) fn run_step(
     line: &[u8],
     desk: &mut [u8],
     letters: &mut [u8],
-    marks: &mut [u64],
+    words: &mut [u64],
 ) -> Next {
     if line.len() == 0 {
         return Next { left: 0, size };
@@ -129,6 +129,6 @@ pub(crate) fn run_step(
         return Next { left, size: end };
     }
     let end = least(size, text.len());
-    let left = run_call(kind, &text[..end], fields, desk, letters, marks);
+    let left = run_call(kind, &text[..end], fields, desk, letters, words);
     Next { left, size }
 }

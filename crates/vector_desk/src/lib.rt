@@ -1,4 +1,4 @@
-// For tests alone: the cases of the page desk. A case is a run of calls, each on the desk, letters and marks that the step before it left. Behind
+// For tests alone: the cases of the page desk. A case is a run of calls, each on the desk, letters and words that the step before it left. Behind
 // the pattern's text stand the steps, each a letter and its fields; pages, lengths, bytes and texts are in hexadecimal, the others in decimal:
 //   o words                     opens the desk, with so many words lent
 //   p page cells words          puts a page, with so many cells and words lent
@@ -33,7 +33,7 @@ fn run_steps(
     line: &[u8],
     desk: &mut [u8],
     letters: &mut [u8],
-    marks: &mut [u64],
+    words: &mut [u64],
 ) {
     let end = line.len();
     let mut next = Next { left: end, size };
@@ -43,7 +43,7 @@ fn run_steps(
         if end <= at {
             return;
         }
-        let behind = run_step(text, next.size, &line[at..], desk, letters, marks);
+        let behind = run_step(text, next.size, &line[at..], desk, letters, words);
         next = behind;
         turns -= 1;
     }
@@ -55,6 +55,6 @@ pub fn run_desk(digits: &[u8], line: &[u8]) {
     let size = decode(digits, &mut text);
     let mut desk = [BYTE_BEFORE; DESK_BYTES];
     let mut letters = [BYTE_BEFORE; ALL_LETTERS];
-    let mut marks = [WORD_BEFORE; ALL_WORDS];
-    run_steps(&mut text, size, line, &mut desk, &mut letters, &mut marks);
+    let mut words = [WORD_BEFORE; ALL_WORDS];
+    run_steps(&mut text, size, line, &mut desk, &mut letters, &mut words);
 }

@@ -44,45 +44,45 @@ module _ (p : Pattern) (words bytes : ℕ) where
         (λ z. true≢false (sym (ap not (ne-eqb bytes desk-bytes h))
         ∙ clear-parts (open-order p words) behind (zero-said desk-refused desk-number-positive (open-order p words ++ behind) (answer 0 0) z) .1 .0))
 
-module _ (text : List ℕ) (l : Loaded) (g : Loads text l) (desk marks : List ℕ) (r : ℕ) where
-  pub open-packed-other : (length desk ≡ desk-bytes → ⊥) → (words : ℕ) → unpacked r ≡ other-opened (l .pattern) words → words ≡ length marks
-      → Desk-opens-text text desk desk marks marks r
-  open-packed-other h words e w =
+module _ (text : List ℕ) (l : Loaded) (g : Loads text l) (desk words : List ℕ) (r : ℕ) where
+  pub open-packed-other : (length desk ≡ desk-bytes → ⊥) → (n : ℕ) → unpacked r ≡ other-opened (l .pattern) n → n ≡ length words
+      → Desk-opens-text text desk desk words words r
+  open-packed-other h n e w =
       let p = load-table text in
-      let said = desk-open-answer p (length marks) (length desk) in
-      let not-said : eqb (said .number) 0 ≡ false = open-other-refused p (length marks) (length desk) h in
+      let said = desk-open-answer p (length words) (length desk) in
+      let not-said : eqb (said .number) 0 ≡ false = open-other-refused p (length words) (length desk) h in
       record {
         answers =
-            e ∙ ap₂ other-opened (g .gives) w ∙ sym (open-other p (length marks) (length desk) h);
+            e ∙ ap₂ other-opened (g .gives) w ∙ sym (open-other p (length words) (length desk) h);
         leaves = sym (ap (λ b. cond b (bytes-of-desk empty-desk) desk) not-said);
-        marks-left = sym (ap (λ b. cond b (in-front (tail-words p []) marks) marks) not-said);
+        words-left = sym (ap (λ b. cond b (in-front (tail-words p []) words) words) not-said);
       }
 
-  module _ (h : length desk ≡ desk-bytes) (d : Desk) (f : d ≡ desk-of-bytes desk) (after : Desk) (marks-now : List ℕ) (a : Desked)
-      (o : Opens (l .pattern) d after marks marks-now a) (desk-now : List ℕ) (k : desk-now ≡ desk-laid after desk) (e : unpacked r ≡ desk-answer a) where
-    pub open-packed : Desk-opens-text text desk desk-now marks marks-now r
+  module _ (h : length desk ≡ desk-bytes) (d : Desk) (f : d ≡ desk-of-bytes desk) (after : Desk) (words-now : List ℕ) (a : Desked)
+      (o : Opens (l .pattern) d after words words-now a) (desk-now : List ℕ) (k : desk-now ≡ desk-laid after desk) (e : unpacked r ≡ desk-answer a) where
+    pub open-packed : Desk-opens-text text desk desk-now words words-now r
     open-packed =
         let p = load-table text in
-        let q = subst (λ t. Opens t (desk-of-bytes desk) after marks marks-now a) (g .gives) (subst (λ x. Opens (l .pattern) x after marks marks-now a) f o) in
-        let said = desk-open-answer p (length marks) (length desk) in
-        let same : open-answer p (length marks) ≡ said = sym (open-right p (length marks) (length desk) h) in
+        let q = subst (λ t. Opens t (desk-of-bytes desk) after words words-now a) (g .gives) (subst (λ x. Opens (l .pattern) x after words words-now a) f o) in
+        let said = desk-open-answer p (length words) (length desk) in
+        let same : open-answer p (length words) ≡ said = sym (open-right p (length words) (length desk) h) in
         record {
           answers = e ∙ q .answers ∙ same;
           leaves = k ∙ desk-written desk said after empty-desk (q .leaves ∙ ap (λ x. if-accepted x empty-desk (desk-of-bytes desk)) same)
               (λ other. absurd (other h));
-          marks-left = q .marks-left ∙ ap (λ x. if-accepted x (in-front (tail-words p []) marks) marks) same;
+          words-left = q .marks-left ∙ ap (λ x. if-accepted x (in-front (tail-words p []) words) words) same;
         }
 
 -- ── putting and withdrawing ──
 module _ (text : List ℕ) (l : Loaded) (g : Loads text l) (desk : List ℕ) (d : Desk) (f : d ≡ desk-of-bytes desk) (letters : List ℕ) where
   pub put-packed :
-      (page letters-now marks marks-now : List ℕ) (after : Desk) (a : Desked) → Puts (l .pattern) page d after letters letters-now marks marks-now a
+      (page letters-now words words-now : List ℕ) (after : Desk) (a : Desked) → Puts (l .pattern) page d after letters letters-now words words-now a
       → (desk-now : List ℕ) → desk-now ≡ desk-laid after desk → (r : ℕ) → unpacked r ≡ desk-answer a
-      → Desk-puts-text text desk desk-now page letters letters-now marks marks-now r
-  put-packed page letters-now marks marks-now after a o desk-now k r e =
+      → Desk-puts-text text desk desk-now page letters letters-now words words-now r
+  put-packed page letters-now words words-now after a o desk-now k r e =
       let p = load-table text in
-      let here = subst (λ x. Puts (l .pattern) page x after letters letters-now marks marks-now a) f o in
-      let q = subst (λ t. Puts t page (desk-of-bytes desk) after letters letters-now marks marks-now a) (g .gives) here in
+      let here = subst (λ x. Puts (l .pattern) page x after letters letters-now words words-now a) f o in
+      let q = subst (λ t. Puts t page (desk-of-bytes desk) after letters letters-now words words-now a) (g .gives) here in
       let new = with-page (desk-of-bytes desk) (length page) in
       record {
         after = after;
@@ -92,7 +92,7 @@ module _ (text : List ℕ) (l : Loaded) (g : Loads text l) (desk : List ℕ) (d 
         leaves =
             k
             ∙ desk-kept desk (desk-answer a) after new (q .leaves ∙ ap (λ x. if-accepted x new (desk-of-bytes desk)) (sym (q .answers)))
-            (λ h. ap (λ x. eqb (x .number) 0) (q .answers) ∙ put-other-refused desk h p letters page (length marks));
+            (λ h. ap (λ x. eqb (x .number) 0) (q .answers) ∙ put-other-refused desk h p letters page (length words));
       }
 
   pub withdraw-packed :

@@ -23,43 +23,43 @@ not-accepted : (a b : Answer) → a ≡ b → 1 ≤ a .number → eqb (b .number
 not-accepted a b e h = ne-eqb (b .number) 0 (λ z. omega (arith, h, z, ap (λ x. x .number) e))
 
 -- ── opening ──
-module _ (text desk desk-now marks marks-now : List ℕ) (r : ℕ) (t : Desk-opens-text text desk desk-now marks marks-now r) where
-  opens-kept : eqb (desk-open-answer (load-table text) (length marks) (length desk) .number) 0 ≡ false → (desk-now ≡ desk) × (marks-now ≡ marks)
-  opens-kept said = (kept _ _ _ _ (t .leaves) said, kept _ _ _ _ (t .marks-left) said)
+module _ (text desk desk-now words words-now : List ℕ) (r : ℕ) (t : Desk-opens-text text desk desk-now words words-now r) where
+  opens-kept : eqb (desk-open-answer (load-table text) (length words) (length desk) .number) 0 ≡ false → (desk-now ≡ desk) × (words-now ≡ words)
+  opens-kept said = (kept _ _ _ _ (t .leaves) said, kept _ _ _ _ (t .words-left) said)
 
   -- 02: "A refused call leaves desk, letters and marks alike."
-  pub opens-refused : 1 ≤ unpacked r .number → (desk-now ≡ desk) × (marks-now ≡ marks)
+  pub opens-refused : 1 ≤ unpacked r .number → (desk-now ≡ desk) × (words-now ≡ words)
   opens-refused h = opens-kept (not-accepted _ _ (t .answers) h)
 
   -- a desk of another length is 13 behind 2 and 6
   pub opens-other : (length desk ≡ desk-bytes → ⊥)
-      → (unpacked r ≡ other-opened (load-table text) (length marks)) × (desk-now ≡ desk) × (marks-now ≡ marks)
+      → (unpacked r ≡ other-opened (load-table text) (length words)) × (desk-now ≡ desk) × (words-now ≡ words)
   opens-other h =
       let p = load-table text in
-      let k = opens-kept (open-other-refused p (length marks) (length desk) h) in
-      (t .answers ∙ open-other p (length marks) (length desk) h, k .0, k .1)
+      let k = opens-kept (open-other-refused p (length words) (length desk) h) in
+      (t .answers ∙ open-other p (length words) (length desk) h, k .0, k .1)
 
 -- ── putting ──
-module _ (text desk desk-now page letters letters-now marks marks-now : List ℕ) (r : ℕ)
-    (t : Desk-puts-text text desk desk-now page letters letters-now marks marks-now r) where
-  puts-kept : eqb (put-answer (desk-of-bytes desk) (load-table text) page letters (length marks) .number) 0 ≡ false
-      → (desk-now ≡ desk) × (letters-now ≡ letters) × (marks-now ≡ marks)
+module _ (text desk desk-now page letters letters-now words words-now : List ℕ) (r : ℕ)
+    (t : Desk-puts-text text desk desk-now page letters letters-now words words-now r) where
+  puts-kept : eqb (put-answer (desk-of-bytes desk) (load-table text) page letters (length words) .number) 0 ≡ false
+      → (desk-now ≡ desk) × (letters-now ≡ letters) × (words-now ≡ words)
   puts-kept said = (
     kept _ _ _ _ (t .leaves) (ap (λ a. eqb (a .number) 0) (t .puts .answers) ∙ said),
     kept _ _ _ _ (t .puts .letters-left) said,
     kept _ _ _ _ (t .puts .marks-left) said,
   )
 
-  pub puts-refused : 1 ≤ unpacked r .number → (desk-now ≡ desk) × (letters-now ≡ letters) × (marks-now ≡ marks)
+  pub puts-refused : 1 ≤ unpacked r .number → (desk-now ≡ desk) × (letters-now ≡ letters) × (words-now ≡ words)
   puts-refused h = puts-kept (not-accepted _ _ (t .answers ∙ t .puts .answers) h)
 
   -- a desk of another length is 13 behind 2 and 9
   pub puts-other : (length desk ≡ desk-bytes → ⊥)
-      → (unpacked r ≡ other-held (load-table text) (length letters)) × (desk-now ≡ desk) × (letters-now ≡ letters) × (marks-now ≡ marks)
+      → (unpacked r ≡ other-held (load-table text) (length letters)) × (desk-now ≡ desk) × (letters-now ≡ letters) × (words-now ≡ words)
   puts-other h =
       let p = load-table text in
-      let k = puts-kept (put-other-refused desk h p letters page (length marks)) in
-      (t .answers ∙ t .puts .answers ∙ put-other desk h p letters page (length marks), k .0, k .1, k .2)
+      let k = puts-kept (put-other-refused desk h p letters page (length words)) in
+      (t .answers ∙ t .puts .answers ∙ put-other desk h p letters page (length words), k .0, k .1, k .2)
 
 -- ── withdrawing ──
 module _ (text desk desk-now letters : List ℕ) (r : ℕ) (t : Desk-withdraws-text text desk desk-now letters r) where

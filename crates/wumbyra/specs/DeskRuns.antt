@@ -29,12 +29,12 @@ use Rattle.wumbyra.specs.DeskServed.{opens-served, puts-served, withdraw
 -- ── runs of calls from C ──
 -- what is known of a call is its promise, with some text of its table
 abbrev pub Text-does : Call → (desk desk-now letters letters-now : List ℕ) → (r : ℕ) → Type 0
-Text-does (opening p words) desk desk-now letters letters-now r =
-    (text : List ℕ) × (marks : List ℕ) × (marks-now : List ℕ) × (load-table text ≡ p) × (length marks ≡ words)
-    × (Desk-opens-text text desk desk-now marks marks-now r) × (letters-now ≡ letters)
-Text-does (putting p page words) desk desk-now letters letters-now r =
-    (text : List ℕ) × (marks : List ℕ) × (marks-now : List ℕ) × (load-table text ≡ p) × (length marks ≡ words)
-    × Desk-puts-text text desk desk-now page letters letters-now marks marks-now r
+Text-does (opening p n) desk desk-now letters letters-now r =
+    (text : List ℕ) × (words : List ℕ) × (words-now : List ℕ) × (load-table text ≡ p) × (length words ≡ n)
+    × (Desk-opens-text text desk desk-now words words-now r) × (letters-now ≡ letters)
+Text-does (putting p page n) desk desk-now letters letters-now r =
+    (text : List ℕ) × (words : List ℕ) × (words-now : List ℕ) × (load-table text ≡ p) × (length words ≡ n)
+    × Desk-puts-text text desk desk-now page letters letters-now words words-now r
 Text-does (withdrawing p) desk desk-now letters letters-now r =
     (text : List ℕ) × (load-table text ≡ p) × (Desk-withdraws-text text desk desk-now letters r) × (letters-now ≡ letters)
 
@@ -51,12 +51,12 @@ Served c desk now letters letters-now r =
 
 served : (c : Call) (desk now letters letters-now : List ℕ) (r : ℕ) → length desk ≡ desk-bytes → Text-does c desk now letters letters-now r
     → Served c desk now letters letters-now r
-served (opening p words) desk now letters letters-now r whole (text, marks, marks-now, e, w, t, k) =
-    let s = opens-served text desk now r whole marks marks-now t in
-    subst (λ x. Served (opening x words) desk now letters letters-now r) e (s .0, s .1, (marks, marks-now, w, s .2, k), s .3)
-served (putting p page words) desk now letters letters-now r whole (text, marks, marks-now, e, w, t) =
-    let s = puts-served text desk now r whole letters page letters-now marks marks-now t in
-    subst (λ x. Served (putting x page words) desk now letters letters-now r) e (t .desked, t .answers, (marks, marks-now, w, s .0), s .1)
+served (opening p n) desk now letters letters-now r whole (text, words, words-now, e, w, t, k) =
+    let s = opens-served text desk now r whole words words-now t in
+    subst (λ x. Served (opening x n) desk now letters letters-now r) e (s .0, s .1, (words, words-now, w, s .2, k), s .3)
+served (putting p page n) desk now letters letters-now r whole (text, words, words-now, e, w, t) =
+    let s = puts-served text desk now r whole letters page letters-now words words-now t in
+    subst (λ x. Served (putting x page n) desk now letters letters-now r) e (t .desked, t .answers, (words, words-now, w, s .0), s .1)
 served (withdrawing p) desk now letters letters-now r whole (text, e, t, k) =
     let s = withdraws-served text desk now r whole letters t in
     subst (λ x. Served (withdrawing x) desk now letters letters-now r) e (t .desked, t .answers, (s .0, k), s .1)
@@ -75,15 +75,15 @@ run-served (goes {desk = desk} {after = after} {letters = letters} {between = be
 
 -- THE THEOREM: behind an accepted opening, whatever bytes were lent for the desk, any run of calls is answered as a stack that is empty at first
 -- answers it, number and value; the letters held are its pages joined, and the count is their number.
-pub text-desk-is-a-stack : {text desk desk-now marks marks-now : List ℕ} {r : ℕ} → Desk-opens-text text desk desk-now marks marks-now r
+pub text-desk-is-a-stack : {text desk desk-now words words-now : List ℕ} {r : ℕ} → Desk-opens-text text desk desk-now words words-now r
     → unpacked r .number ≡ 0 → {letters end last : List ℕ} {cs : List Call} {rs : List ℕ} → Text-run desk-now letters cs rs end last
     → (map unpacked rs ≡ stack-answers (length letters) cs [])
     × (letters-held (desk-of-bytes end) last ≡ joined (stack-behind (length letters) cs []))
     × (desk-of-bytes end .count ≡ length (stack-behind (length letters) cs []))
 unfolding desk-open-answer
-text-desk-is-a-stack {text} {desk} {desk-now} {marks} t z {letters} {end} {last} {cs} run =
+text-desk-is-a-stack {text} {desk} {desk-now} {words} t z {letters} {end} {last} {cs} run =
     let p = load-table text in
-    let order = open-order p (length marks) in
+    let order = open-order p (length words) in
     let behind : List Desk-check = (not (eqb (length desk) desk-bytes), DeskLimits) ∷ [] in
     let a = first-of desk-refused (order ++ behind) (answer 0 0) in
     let none : a .number ≡ 0 = sym (ap (λ x. x .number) (t .answers)) ∙ z in
@@ -91,6 +91,6 @@ text-desk-is-a-stack {text} {desk} {desk-now} {marks} t z {letters} {end} {last}
     let opened : desk-now ≡ bytes-of-desk empty-desk = t .leaves ∙ ap (λ b. cond b (bytes-of-desk empty-desk) desk) (eq-eqb (a .number) 0 none) in
     let all = run-served run (ap length opened) in
     let first = ap desk-of-bytes opened ∙ desk-back empty-desk refl in
-    let like = desk-is-a-stack (open-clear p empty-desk marks clear (in-front (tail-words p []) marks) refl) refl
+    let like = desk-is-a-stack (open-clear p empty-desk words clear (in-front (tail-words p []) words) refl) refl
     (subst (λ d. Run d letters cs (all .0) (desk-of-bytes end) last) first (all .2)) in
     (all .1 ∙ like .answers, like .holds, like .pages)

@@ -18,8 +18,8 @@ use Rattle.desk.specs.declared.DeskRefusal.{DeskRefusal}
 use Rattle.desk.specs.declared.Desked.{Desked}
 use Rattle.desk.specs.declared.Desked.the-variants.{Letters, Refused}
 use Rattle.desk.specs.Desks.{page-limit, letters-held, empty-desk, with-page, without-page, desk-refused, desk-answer, if-accepted, Desk-check}
-use Rattle.desk.specs.Desks.{open-order, open-answer, Marks-of, Opens, Puts, Withdraws}
-use Rattle.desk.specs.MarkLaws.{put-right, withdraw-right}
+use Rattle.desk.specs.Desks.{open-order, open-answer, Words-of, Opens, Puts, Withdraws}
+use Rattle.desk.specs.WordLaws.{put-right, withdraw-right}
 use Rattle.packing.specs.Packing.{unpacked}
 use Rattle.packing.specs.DeskBytes.{desk-bytes, desk-of-bytes, bytes-of-desk}
 use Rattle.packing.specs.DeskBytesLaws.{bytes-back, desk-back, again}
@@ -61,30 +61,30 @@ told order n = go (which-first order)
     go (inr (why, f)) = (Refused why, sym (first-said desk-refused f (answer 0 n)))
 
 module _ (text desk now : List ℕ) (r : ℕ) (whole : length desk ≡ desk-bytes) where
-  pub opens-served : (marks marks-now : List ℕ) → Desk-opens-text text desk now marks marks-now r
-      → (a : Desked) × (unpacked r ≡ desk-answer a) × (Opens (load-table text) (desk-of-bytes desk) (desk-of-bytes now) marks marks-now a)
+  pub opens-served : (words words-now : List ℕ) → Desk-opens-text text desk now words words-now r
+      → (a : Desked) × (unpacked r ≡ desk-answer a) × (Opens (load-table text) (desk-of-bytes desk) (desk-of-bytes now) words words-now a)
       × (length now ≡ desk-bytes)
   unfolding open-answer
-  opens-served marks marks-now t =
+  opens-served words words-now t =
       let p = load-table text in
-      let a = told (open-order p (length marks)) 0 in
-      let same : desk-open-answer p (length marks) (length desk) ≡ open-answer p (length marks) = open-right p (length marks) (length desk) whole in
+      let a = told (open-order p (length words)) 0 in
+      let same : desk-open-answer p (length words) (length desk) ≡ open-answer p (length words) = open-right p (length words) (length desk) whole in
       let left = t .leaves ∙ ap (λ x. if-accepted x (bytes-of-desk empty-desk) desk) same in
-      let s = stands desk whole (open-answer p (length marks)) empty-desk refl now left in
-      let words = t .marks-left ∙ ap (λ x. if-accepted x (in-front (tail-words p []) marks) marks) same in
-      (a .0, t .answers ∙ same ∙ sym (a .1), record { answers = a .1; leaves = s .0; marks-left = words }, s .1)
+      let s = stands desk whole (open-answer p (length words)) empty-desk refl now left in
+      let filled = t .words-left ∙ ap (λ x. if-accepted x (in-front (tail-words p []) words) words) same in
+      (a .0, t .answers ∙ same ∙ sym (a .1), record { answers = a .1; leaves = s .0; marks-left = filled }, s .1)
 
   module _ (letters : List ℕ) where
-    pub puts-served : (page letters-now marks marks-now : List ℕ) (t : Desk-puts-text text desk now page letters letters-now marks marks-now r)
-        → (Puts (load-table text) page (desk-of-bytes desk) (desk-of-bytes now) letters letters-now marks marks-now (t .desked))
+    pub puts-served : (page letters-now words words-now : List ℕ) (t : Desk-puts-text text desk now page letters letters-now words words-now r)
+        → (Puts (load-table text) page (desk-of-bytes desk) (desk-of-bytes now) letters letters-now words words-now (t .desked))
         × (length now ≡ desk-bytes)
-    puts-served page letters-now marks marks-now t =
+    puts-served page letters-now words words-now t =
         let old = desk-of-bytes desk in
         let new = with-page old (length page) in
         let size : length (new .lengths) ≡ page-limit = length-set (old .lengths) (old .count) (length page) ∙ lengths-all desk whole in
         let s = left-stands desk whole (desk-answer (t .desked)) new (t .after) size
         (t .puts .leaves ∙ ap (λ x. if-accepted x new old) (sym (t .puts .answers))) now (t .leaves) in
-        (subst (λ d. Puts (load-table text) page old d letters letters-now marks marks-now (t .desked)) (s .0) (t .puts), s .1)
+        (subst (λ d. Puts (load-table text) page old d letters letters-now words words-now (t .desked)) (s .0) (t .puts), s .1)
 
     pub withdraws-served : (t : Desk-withdraws-text text desk now letters r)
         → (Withdraws (load-table text) (desk-of-bytes desk) (desk-of-bytes now) letters (t .desked)) × (length now ≡ desk-bytes)
@@ -96,15 +96,15 @@ module _ (text desk now : List ℕ) (r : ℕ) (whole : length desk ≡ desk-byte
         (subst (λ d. Withdraws (load-table text) old d letters (t .desked)) (s .0) (t .withdraws), s .1)
 
     -- 02: "If before a call the marks are those of the joined letters under its table, they are so after it"
-    pub puts-right : (page letters-now marks marks-now : List ℕ) → Desk-puts-text text desk now page letters letters-now marks marks-now r
-        → Marks-of (load-table text) (letters-held (desk-of-bytes desk) letters) marks
-        → Marks-of (load-table text) (letters-held (desk-of-bytes now) letters-now) marks-now
-    puts-right page letters-now marks marks-now t =
-        put-right (load-table text) page (desk-of-bytes desk) (desk-of-bytes now) letters letters-now marks marks-now (t .desked)
-        (puts-served page letters-now marks marks-now t .0) (lengths-all desk whole)
+    pub puts-right : (page letters-now words words-now : List ℕ) → Desk-puts-text text desk now page letters letters-now words words-now r
+        → Words-of (load-table text) (letters-held (desk-of-bytes desk) letters) words
+        → Words-of (load-table text) (letters-held (desk-of-bytes now) letters-now) words-now
+    puts-right page letters-now words words-now t =
+        put-right (load-table text) page (desk-of-bytes desk) (desk-of-bytes now) letters letters-now words words-now (t .desked)
+        (puts-served page letters-now words words-now t .0) (lengths-all desk whole)
 
-    pub withdraws-right : (marks : List ℕ) → Desk-withdraws-text text desk now letters r
-        → Marks-of (load-table text) (letters-held (desk-of-bytes desk) letters) marks
-        → Marks-of (load-table text) (letters-held (desk-of-bytes now) letters) marks
-    withdraws-right marks t =
-        withdraw-right (load-table text) (desk-of-bytes desk) (desk-of-bytes now) letters marks (t .desked) (withdraws-served t .0)
+    pub withdraws-right : (words : List ℕ) → Desk-withdraws-text text desk now letters r
+        → Words-of (load-table text) (letters-held (desk-of-bytes desk) letters) words
+        → Words-of (load-table text) (letters-held (desk-of-bytes now) letters) words
+    withdraws-right words t =
+        withdraw-right (load-table text) (desk-of-bytes desk) (desk-of-bytes now) letters words (t .desked) (withdraws-served t .0)

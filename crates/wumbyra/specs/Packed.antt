@@ -90,19 +90,19 @@ unfoldable pub desk-open-answer : Pattern → (words bytes : ℕ) → Answer
 desk-open-answer p words bytes = first-of desk-refused (open-order p words ++ ((not (eqb bytes desk-bytes), DeskLimits) ∷ [])) (answer 0 0)
 
 -- THE PROMISE of opening a desk from C
-pub record Desk-opens-text (text desk desk-now marks marks-now : List ℕ) (r : ℕ) : Type 0 where
-  pub answers : unpacked r ≡ desk-open-answer (load-table text) (length marks) (length desk)
-  pub leaves : desk-now ≡ if-accepted (desk-open-answer (load-table text) (length marks) (length desk)) (bytes-of-desk empty-desk) desk
-  pub marks-left : marks-now ≡
-      if-accepted (desk-open-answer (load-table text) (length marks) (length desk)) (in-front (tail-words (load-table text) []) marks) marks
+pub record Desk-opens-text (text desk desk-now words words-now : List ℕ) (r : ℕ) : Type 0 where
+  pub answers : unpacked r ≡ desk-open-answer (load-table text) (length words) (length desk)
+  pub leaves : desk-now ≡ if-accepted (desk-open-answer (load-table text) (length words) (length desk)) (bytes-of-desk empty-desk) desk
+  pub words-left : words-now ≡
+      if-accepted (desk-open-answer (load-table text) (length words) (length desk)) (in-front (tail-words (load-table text) []) words) words
 
 -- THE PROMISE of putting a page from C: what the service promises on the table of the text and on the desk that the bytes are taken for. One of
 -- another length than 31 is taken for a desk that breaks the limits.
-pub record Desk-puts-text (text desk desk-now page letters letters-now marks marks-now : List ℕ) (r : ℕ) : Type 0 where
+pub record Desk-puts-text (text desk desk-now page letters letters-now words words-now : List ℕ) (r : ℕ) : Type 0 where
   pub after : Desk
   pub desked : Desked
   pub answers : unpacked r ≡ desk-answer desked
-  pub puts : Puts (load-table text) page (desk-of-bytes desk) after letters letters-now marks marks-now desked
+  pub puts : Puts (load-table text) page (desk-of-bytes desk) after letters letters-now words words-now desked
   pub leaves : desk-now ≡ if-accepted (desk-answer desked) (bytes-of-desk after) desk
 
 -- THE PROMISE of withdrawing a page from C: the same

@@ -64,15 +64,15 @@ module _ (text : List ℕ) where
       let e = locates-one (load-table text) tape (f .located) (g .located) (f .locates) (g .locates) in
       unpacked-same r s (f .answers ∙ ap located-answer e ∙ sym (g .answers))
 
-  pub desk-opens-text-one : (desk a b marks ms ns : List ℕ) (r s : ℕ) → Desk-opens-text text desk a marks ms r → Desk-opens-text text desk b marks ns s
+  pub desk-opens-text-one : (desk a b words ms ns : List ℕ) (r s : ℕ) → Desk-opens-text text desk a words ms r → Desk-opens-text text desk b words ns s
       → (r ≡ s) × (a ≡ b) × (ms ≡ ns)
-  desk-opens-text-one desk a b marks ms ns r s f g =
-      (unpacked-same r s (f .answers ∙ sym (g .answers)), f .leaves ∙ sym (g .leaves), f .marks-left ∙ sym (g .marks-left))
+  desk-opens-text-one desk a b words ms ns r s f g =
+      (unpacked-same r s (f .answers ∙ sym (g .answers)), f .leaves ∙ sym (g .leaves), f .words-left ∙ sym (g .words-left))
 
-  pub desk-puts-text-one : (desk a b page letters ks ls marks ms ns : List ℕ) (r s : ℕ) → Desk-puts-text text desk a page letters ks marks ms r
-      → Desk-puts-text text desk b page letters ls marks ns s → (r ≡ s) × (a ≡ b) × (ks ≡ ls) × (ms ≡ ns)
-  desk-puts-text-one desk a b page letters ks ls marks ms ns r s f g =
-      let e = puts-one (load-table text) (desk-of-bytes desk) page (f .after) (g .after) letters ks ls marks ms ns (f .desked) (g .desked)
+  pub desk-puts-text-one : (desk a b page letters ks ls words ms ns : List ℕ) (r s : ℕ) → Desk-puts-text text desk a page letters ks words ms r
+      → Desk-puts-text text desk b page letters ls words ns s → (r ≡ s) × (a ≡ b) × (ks ≡ ls) × (ms ≡ ns)
+  desk-puts-text-one desk a b page letters ks ls words ms ns r s f g =
+      let e = puts-one (load-table text) (desk-of-bytes desk) page (f .after) (g .after) letters ks ls words ms ns (f .desked) (g .desked)
       (f .puts) (g .puts) in (
         unpacked-same r s (f .answers ∙ ap desk-answer (e .0) ∙ sym (g .answers)),
         f .leaves ∙ ap₂ (λ x d. if-accepted (desk-answer x) (bytes-of-desk d) desk) (e .0) (e .1) ∙ sym (g .leaves),

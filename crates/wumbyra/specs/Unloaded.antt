@@ -71,22 +71,22 @@ module _ (text : List ℕ) (h : 1 ≤ load-answer text .number) where
   unfolding terms-answer terms-litres
   term-totals-unloaded code count start first last cells cells-now r t = refused-given t (rw not-obeyed refl) (rw not-obeyed refl)
 
-  -- desk, letters and marks are as they were
-  pub desk-opens-unloaded : (desk desk-now marks marks-now : List ℕ) (r : ℕ) → Desk-opens-text text desk desk-now marks marks-now r
-      → (unpacked r ≡ answer 2 0) × (desk-now ≡ desk) × (marks-now ≡ marks)
+  -- desk, letters and words are as they were
+  pub desk-opens-unloaded : (desk desk-now words words-now : List ℕ) (r : ℕ) → Desk-opens-text text desk desk-now words words-now r
+      → (unpacked r ≡ answer 2 0) × (desk-now ≡ desk) × (words-now ≡ words)
   unfolding desk-open-answer
-  desk-opens-unloaded desk desk-now marks marks-now r t =
+  desk-opens-unloaded desk desk-now words words-now r t =
       let said : unpacked r ≡ answer 2 0 = t .answers ∙ rw not-obeyed refl in
-      let k = opens-refused text desk desk-now marks marks-now r t (refused-2 (unpacked r) said) in
+      let k = opens-refused text desk desk-now words words-now r t (refused-2 (unpacked r) said) in
       (said, k .0, k .1)
 
-  pub desk-puts-unloaded : (desk desk-now page letters letters-now marks marks-now : List ℕ) (r : ℕ)
-      → Desk-puts-text text desk desk-now page letters letters-now marks marks-now r
-      → (unpacked r ≡ answer 2 0) × (desk-now ≡ desk) × (letters-now ≡ letters) × (marks-now ≡ marks)
+  pub desk-puts-unloaded : (desk desk-now page letters letters-now words words-now : List ℕ) (r : ℕ)
+      → Desk-puts-text text desk desk-now page letters letters-now words words-now r
+      → (unpacked r ≡ answer 2 0) × (desk-now ≡ desk) × (letters-now ≡ letters) × (words-now ≡ words)
   unfolding put-answer
-  desk-puts-unloaded desk desk-now page letters letters-now marks marks-now r t =
+  desk-puts-unloaded desk desk-now page letters letters-now words words-now r t =
       let said : unpacked r ≡ answer 2 0 = t .answers ∙ t .puts .answers ∙ rw not-obeyed refl in
-      let k = puts-refused text desk desk-now page letters letters-now marks marks-now r t (refused-2 (unpacked r) said) in
+      let k = puts-refused text desk desk-now page letters letters-now words words-now r t (refused-2 (unpacked r) said) in
       (said, k .0, k .1, k .2)
 
   pub desk-withdraws-unloaded : (desk desk-now letters : List ℕ) (r : ℕ) → Desk-withdraws-text text desk desk-now letters r

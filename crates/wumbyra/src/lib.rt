@@ -187,16 +187,16 @@ pub extern "C" fn wumbyra_term_totals(
 
 // A page desk is 31 bytes: the count, and behind it the 30 lengths. One of another length is 13, at opening after 6.
 #[no_mangle]
-pub extern "C" fn wumbyra_desk_open(text: &[u8], desk: &mut [u8], marks: &mut [u64]) -> u64
+pub extern "C" fn wumbyra_desk_open(text: &[u8], desk: &mut [u8], words: &mut [u64]) -> u64
     ensures { λ r.
-        ⌜ Desk-opens-text (now (text .entry)) (now (desk .entry)) (now (desk .exit)) (now (marks .entry)) (now (marks .exit)) r ⌝ }
+        ⌜ Desk-opens-text (now (text .entry)) (now (desk .entry)) (now (desk .exit)) (now (words .entry)) (now (words .exit)) r ⌝ }
 {
     let loaded = load(text);
     if desk.len() != DESK_BYTES {
-        return of_other_length(loaded.pattern, marks.len());
+        return of_other_length(loaded.pattern, words.len());
     }
     let held = desk_of(desk);
-    let changed = open_desk(held, loaded.pattern, marks);
+    let changed = open_desk(held, loaded.pattern, words);
     let answer = changed.answer;
     put_desk(changed.desk, desk);
     of_desked(answer)
@@ -208,15 +208,15 @@ pub extern "C" fn wumbyra_desk_put(
     desk: &mut [u8],
     page: &[u8],
     letters: &mut [u8],
-    marks: &mut [u64],
+    words: &mut [u64],
 ) -> u64
     ensures { λ r.
         ⌜ Desk-puts-text (now (text .entry)) (now (desk .entry)) (now (desk .exit)) (now (page .entry))
-        (now (letters .entry)) (now (letters .exit)) (now (marks .entry)) (now (marks .exit)) r ⌝ }
+        (now (letters .entry)) (now (letters .exit)) (now (words .entry)) (now (words .exit)) r ⌝ }
 {
     let loaded = load(text);
     let held = desk_of(desk);
-    let changed = put_page(held, loaded.pattern, page, letters, marks);
+    let changed = put_page(held, loaded.pattern, page, letters, words);
     let answer = changed.answer;
     put_desk(changed.desk, desk);
     of_desked(answer)

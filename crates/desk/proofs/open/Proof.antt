@@ -1,5 +1,5 @@
 -- `desk::open` meets its contract: a walk of its MIR, by hand. The borrow of the desk is opened, the desk is copied and passed to `open_desk`, and the
--- borrow is closed at the desk that comes back. The marks are given up to the callee at their own lifetime, share and name.
+-- borrow is closed at the desk that comes back. The words are given up to the callee at their own lifetime, share and name.
 -- All that the proof knows of `open_desk` is that it meets its contract.
 use mathlib.Core.Path.{_≡_, refl, ap}
 use Prim.Native.Nat.{ℕ}
@@ -84,7 +84,7 @@ module _ {M : Type 1} (𝓤 : URA M) (H : Heap 𝓤) (A : Atoms 𝓤) (W : Given
   abbrev a : Arg
   a = (record { ptr = (b, o); name = γ; now = h }, (p, (x, tt)))
 
-  -- the machine values: the marks' pointer and count, a pattern's, a desk's
+  -- the machine values: the words' pointer and count, a pattern's, a desk's
   abbrev s : Val
   s = sliceVal (b′, o′) (length ys)
 
@@ -100,7 +100,7 @@ module _ {M : Type 1} (𝓤 : URA M) (H : Heap 𝓤) (A : Atoms 𝓤) (W : Given
   abbrev Post : Val → SProp 𝓤
   Post = walkOf 𝓤 H A f.ended stayed (f.clauses 𝓤 H A at-mem run) .post (((κ, (κ′, tt)), (q, (q′, tt)), bounds, a, vals), tt)
 
-  -- what `open_desk`'s triple binds outside: the desk that is copied, and the marks at their own lifetime, share and value
+  -- what `open_desk`'s triple binds outside: the desk that is copied, and the words at their own lifetime, share and value
   abbrev to-callee : Callee 𝓤 H A at-mem run .Ghost
   to-callee = (((κ′, tt), (q′, tt), tt, (h, (p, (x, tt))), (dm h ∷ [], (pm ∷ [], (s ∷ [], tt)))), tt)
 
@@ -148,7 +148,7 @@ module _ {M : Type 1} (𝓤 : URA M) (H : Heap 𝓤) (A : Atoms 𝓤) (W : Given
         opens ! tt D.the-row {h = h} b o (λ vs.
         spelt ! D.the-row (Is D.the-row) (shows 𝓤 H A D.the-row) (LL.vals D.the-type D′.the-laws) (LL.tells D.the-type D′.the-laws) fullShare h vs b o $
         move ! (1 ∷ []) $ peeks ! D.the-row (Is D.the-row) (shows 𝓤 H A D.the-row) h (dm h ∷ []) (λ g. move ! (1 ∷ 0 ∷ []) $
-        -- [the desk's cell; what a Desk owns; the open borrow; obs; auth; the marks' token; what p and marks own; _7; …; _0; …]
+        -- [the desk's cell; what a Desk owns; the open borrow; obs; auth; the words' token; what p and words own; _7; …; _0; …]
         assigns ! (of-opd ! (load ! (from ! (hop ! (look ! 19 refl) (stop !))) (look-raw ! 0 refl))) (from ! (stop !))
         (init ! 11 refl (LL.lawful D.the-type D′.the-laws 𝓤 H A W .typed h _ g .0)) $
         assigns ! (addr ! (from ! (fld ! refl (hop ! (look-in ! 15 (sub ! 0 refl (whole !))) (stop !))))) (from ! (stop !)) (init ! 9 refl (tt, tt)) $

@@ -1,4 +1,4 @@
--- `desk::put` meets its contract: a walk of its MIR, by hand, as those of `desk::open` and `desk::withdraw`: letters and marks are given up to the
+-- `desk::put` meets its contract: a walk of its MIR, by hand, as those of `desk::open` and `desk::withdraw`: letters and words are given up to the
 -- callee, the page is only read.
 -- All that the proof knows of `put_page` is that it meets its contract.
 use mathlib.Core.Path.{_≡_, refl, ap}
@@ -88,14 +88,14 @@ module _ {M : Type 1} (𝓤 : URA M) (H : Heap 𝓤) (A : Atoms 𝓤) (W : Given
   abbrev letters : RefT (List ℕ)
   letters = record { ptr = (b₂, o₂); name = γ₂; now = ls }
 
-  abbrev marks : RefT (List ℕ)
-  marks = record { ptr = (b₃, o₃); name = γ₃; now = ms }
+  abbrev words : RefT (List ℕ)
+  words = record { ptr = (b₃, o₃); name = γ₃; now = ms }
 
   abbrev Arg : Type 0
   Arg = RefT Desk × (Pattern × (RefT (List ℕ) × (RefT (List ℕ) × (RefT (List ℕ) × Unit {0}))))
 
   abbrev a : Arg
-  a = (record { ptr = (b, o); name = γ; now = h }, (p, (page, (letters, (marks, tt)))))
+  a = (record { ptr = (b, o); name = γ; now = h }, (p, (page, (letters, (words, tt)))))
 
   -- the machine values: the slices' pointers and counts, a pattern's, a desk's
   abbrev s₁ : Val
@@ -125,15 +125,15 @@ module _ {M : Type 1} (𝓤 : URA M) (H : Heap 𝓤) (A : Atoms 𝓤) (W : Given
 
   -- what `put_page`'s triple binds outside: the desk that is copied, and the slices at their own lifetimes, shares and values
   abbrev to-callee : Callee 𝓤 H A at-mem run .Ghost
-  to-callee = (((κ₁, (κ₂, (κ₃, tt))), (q₁, (q₂, (q₃, tt))), tt, (h, (p, (page, (letters, (marks, tt))))), (dm h ∷ [], (pm ∷ [], (s₁ ∷ [], (s₂ ∷ [], (s₃ ∷ [], tt)))))), tt)
+  to-callee = (((κ₁, (κ₂, (κ₃, tt))), (q₁, (q₂, (q₃, tt))), tt, (h, (p, (page, (letters, (words, tt))))), (dm h ∷ [], (pm ∷ [], (s₁ ∷ [], (s₂ ∷ [], (s₃ ∷ [], tt)))))), tt)
 
   goes : ent 𝓤 (sep 𝓤 (sep 𝓤 (A .lft κ₁ q₁) (sep 𝓤 (A .lft κ₂ q₂) (sep 𝓤 (A .lft κ₃ q₃) (sem 𝓤 H A ftrue))))
       (sep 𝓤 (sem 𝓤 H A (D.the-row .own h (dm h ∷ [])))
-      (sem 𝓤 H A (owns (P.the-row ∷ ShrSlice (named 1) κ₁ u8 ∷ MutSlice (named 2) κ₂ u8 ∷ MutSlice (named 3) κ₃ u64 ∷ []) (p, (page, (letters, (marks, tt)))) (pm ∷ [], (s₁ ∷ [], (s₂ ∷ [], (s₃ ∷ [], tt))))))))
+      (sem 𝓤 H A (owns (P.the-row ∷ ShrSlice (named 1) κ₁ u8 ∷ MutSlice (named 2) κ₂ u8 ∷ MutSlice (named 3) κ₃ u64 ∷ []) (p, (page, (letters, (words, tt)))) (pm ∷ [], (s₁ ∷ [], (s₂ ∷ [], (s₃ ∷ [], tt))))))))
       (Callee 𝓤 H A at-mem run .pre to-callee)
   goes =
       qed W ((‵ (flft κ₁ q₁) ⊛ ‵ (flft κ₂ q₂) ⊛ ‵ (flft κ₃ q₃) ⊛ ‵ ftrue) ∷ ‵ (D.the-row .own h (dm h ∷ []))
-      ∷ ‵ (owns (P.the-row ∷ ShrSlice (named 1) κ₁ u8 ∷ MutSlice (named 2) κ₂ u8 ∷ MutSlice (named 3) κ₃ u64 ∷ []) (p, (page, (letters, (marks, tt)))) (pm ∷ [], (s₁ ∷ [], (s₂ ∷ [], (s₃ ∷ [], tt))))) ∷ []) ∵
+      ∷ ‵ (owns (P.the-row ∷ ShrSlice (named 1) κ₁ u8 ∷ MutSlice (named 2) κ₂ u8 ∷ MutSlice (named 3) κ₃ u64 ∷ []) (p, (page, (letters, (words, tt)))) (pm ∷ [], (s₁ ∷ [], (s₂ ∷ [], (s₃ ∷ [], tt))))) ∷ []) ∵
       move ! (1 ∷ 2 ∷ []) $ fjoin ! $ move ! (1 ∷ 0 ∷ []) $ join ! $ frame ! $ done !
 
   -- what is known of the result's fields
@@ -198,10 +198,10 @@ module _ {M : Type 1} (𝓤 : URA M) (H : Heap 𝓤) (A : Atoms 𝓤) (W : Given
         (and-then ! (load ! (from ! (stop !)) (look ! 24 refl)) (and-then ! (load ! (from ! (stop !)) (look ! 22 refl))
         (and-then ! (load ! (from ! (stop !)) (look ! 10 refl)) (and-then ! (load ! (from ! (stop !)) (look ! 6 refl)) (no-more !)))))) (λ w.
         use1 W (later (some (λ (r : Changed). ((‵ (flft κ₁ q₁) ⊛ ‵ (flft κ₂ q₂) ⊛ ‵ (flft κ₃ q₃) ⊛ ‵ ftrue) ⊛ ‵ (K.the-row .own r (w ∷ [])))
-        ⊛ raw (ensured 𝓤 H A callee.ended (callee.clauses 𝓤 H A at-mem run) (κ₁, (κ₂, (κ₃, tt))) (h, (p, (page, (letters, (marks, tt))))) tt r)))) (id⊢ 𝓤 _) $ await ! tt $ pick ! (λ r.
+        ⊛ raw (ensured 𝓤 H A callee.ended (callee.clauses 𝓤 H A at-mem run) (κ₁, (κ₂, (κ₃, tt))) (h, (p, (page, (letters, (words, tt))))) tt r)))) (id⊢ 𝓤 _) $ await ! tt $ pick ! (λ r.
         -- what it ensures, at some last letters and words
         split ! $ move ! (1 ∷ []) $
-        use1 W (some (λ (last : Unit {0} × (Unit {0} × (Unit {0} × (List ℕ × (List ℕ × Unit {0}))))). ‵ (lasts callee.ended (κ₁, (κ₂, (κ₃, tt))) (h, (p, (page, (letters, (marks, tt))))) last)
+        use1 W (some (λ (last : Unit {0} × (Unit {0} × (Unit {0} × (List ℕ × (List ℕ × Unit {0}))))). ‵ (lasts callee.ended (κ₁, (κ₂, (κ₃, tt))) (h, (p, (page, (letters, (words, tt))))) last)
         ⊛ raw (fact 𝓤 (Puts p zs h (r .desk) ls (last .1 .1 .1 .0) ms (last .1 .1 .1 .1 .0) (r .answer))))) (id⊢ 𝓤 _) $ pick ! (λ last.
         split ! $ move ! (1 ∷ []) $ heard ! (Puts p zs h (r .desk) ls (last .1 .1 .1 .0) ms (last .1 .1 .1 .1 .0) (r .answer)) (λ e.
         fsplit ! $ move ! (1 ∷ []) $ fsplit ! $ move ! (1 ∷ []) $ fsplit ! $ move ! (1 ∷ []) $ fsplit ! $ fsplit ! $ move ! (1 ∷ []) $ feqL ! (λ l.

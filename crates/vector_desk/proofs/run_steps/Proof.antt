@@ -6,11 +6,11 @@ use Rattle.vector_desk.proofs.run_steps.Statement.{statement}
 use Rattle.vector_desk.proofs.run_steps.Tie as tie
 
 abbrev Inv-loop : tie.InvT-loop
-Inv-loop text₀ size line desk₀ letters₀ marks₀ end next₀ turns₀ text desk letters marks next turns =
-    (length text ≡ length text₀) × (length desk ≡ length desk₀) × (length letters ≡ length letters₀) × (length marks ≡ length marks₀)
+Inv-loop text₀ size line desk₀ letters₀ words₀ end next₀ turns₀ text desk letters words next turns =
+    (length text ≡ length text₀) × (length desk ≡ length desk₀) × (length letters ≡ length letters₀) × (length words ≡ length words₀)
 
 abbrev μ-loop : tie.MeasureT-loop
-μ-loop text₀ size line desk₀ letters₀ marks₀ end next₀ turns₀ text desk letters marks next turns =
+μ-loop text₀ size line desk₀ letters₀ words₀ end next₀ turns₀ text desk letters words next turns =
     turns
 
 loop-holds : tie.Need-loop-holds Inv-loop μ-loop

@@ -15,7 +15,7 @@ returns : tie.Need-returns
 returns c =
     let at-load = c .before .before in
     let start = at-load .before .before .before .before in
-    open-packed-other _ _ (at-load .load .ensures) _ (start .args .marks .now) _ (c .before .if1 .taken) _ (c .of-other-length .ensures) refl
+    open-packed-other _ _ (at-load .load .ensures) _ (start .args .words .now) _ (c .before .if1 .taken) _ (c .of-other-length .ensures) refl
 
 desk-of-requires : tie.Need-desk-of-requires
 desk-of-requires c κs = search needs

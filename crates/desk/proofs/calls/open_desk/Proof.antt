@@ -17,7 +17,7 @@ returns : tie.Need-returns
 returns c =
     let start = c .before .before .before .before in
     rw (c .unchanged .ensures)
-    (open-refused _ _ _ _ (open-2 _ (start .args .desk) (start .args .marks .now) (sym (c .before .before .obeys-rules .ensures) ∙ not-true _ (c .before .if1 .taken))))
+    (open-refused _ _ _ _ (open-2 _ (start .args .desk) (start .args .words .now) (sym (c .before .before .obeys-rules .ensures) ∙ not-true _ (c .before .if1 .taken))))
 
 unchanged-requires-2 : tie.Need-unchanged-requires-2
 unchanged-requires-2 c κs = search needs
@@ -27,7 +27,7 @@ returns-2 c =
     let at-obeys-rules = c .before .before .before in
     let start = at-obeys-rules .before .before in
     rw (c .unchanged2 .ensures)
-    (open-refused _ _ _ _ (open-6 _ (start .args .desk) (start .args .marks .now) (sym (at-obeys-rules .obeys-rules .ensures) ∙ not-false _ (c .before .before .if1 .left)) (c .before .if2 .taken)))
+    (open-refused _ _ _ _ (open-6 _ (start .args .desk) (start .args .words .now) (sym (at-obeys-rules .obeys-rules .ensures) ∙ not-false _ (c .before .before .if1 .left)) (c .before .if2 .taken)))
 
 table-of-requires : tie.Need-table-of-requires
 table-of-requires c κs = obeys-iff _ .0 (sym (c .before .before .obeys-rules .ensures) ∙ not-false _ (c .before .if1 .left))

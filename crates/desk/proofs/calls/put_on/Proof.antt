@@ -9,24 +9,24 @@ use Rattle.desk.proofs.calls.put_on.Tie as tie
 add-total : tie.Need-add-total
 add-total c =
     let start = c .before .before .before in
-    let few = behind-upto (start .args .p) (start .args .desk) (start .args .page .now) (start .args .letters .now) (start .args .marks .now)
+    let few = behind-upto (start .args .p) (start .args .desk) (start .args .page .now) (start .args .letters .now) (start .args .words .now)
     (start .pre .0) _ (start .pre .1) in
     record { fits = omega (arith, few) }
 
 table-of-requires : tie.Need-table-of-requires
 table-of-requires c κs =
     let start = c .before .before .before in
-    put-rules (start .args .p) (start .args .desk) (start .args .page .now) (start .args .letters .now) (start .args .marks .now) (start .pre .0)
+    put-rules (start .args .p) (start .args .desk) (start .args .page .now) (start .args .letters .now) (start .args .words .now) (start .pre .0)
 
 grow-requires : tie.Need-grow-requires
 grow-requires c κs =
     let start = c .before .before .before .before .before .before in
-    (put-growable (start .args .p) (start .args .desk) (start .args .page .now) (start .args .letters .now) (start .args .marks .now) (start .pre .0) _ (start .pre .1), c .before .before .table-of .ensures)
+    (put-growable (start .args .p) (start .args .desk) (start .args .page .now) (start .args .letters .now) (start .args .words .now) (start .pre .0) _ (start .pre .1), c .before .before .table-of .ensures)
 
 sub-put-bytes : tie.Need-sub-put-bytes
 sub-put-bytes c =
     let start = c .before .before .before .before .before .before .before .before .before .before in
-    let few = behind-upto (start .args .p) (start .args .desk) (start .args .page .now) (start .args .letters .now) (start .args .marks .now)
+    let few = behind-upto (start .args .p) (start .args .desk) (start .args .page .now) (start .args .letters .now) (start .args .words .now)
     (start .pre .0) _ (start .pre .1) in
     omega (arith, few)
 
@@ -43,7 +43,7 @@ with-page-requires c κs =
 cast-t20 : tie.Need-cast-t20
 cast-t20 c =
     let start = c .before .before .before .before .before .before .before .before .before .before .before .before .before .before in
-    let few = behind-upto (start .args .p) (start .args .desk) (start .args .page .now) (start .args .letters .now) (start .args .marks .now)
+    let few = behind-upto (start .args .p) (start .args .desk) (start .args .page .now) (start .args .letters .now) (start .args .words .now)
     (start .pre .0) _ (start .pre .1) in
     record { fits = omega (arith, few) }
 
@@ -58,7 +58,7 @@ returns c =
     let at-put-bytes = c .before .before .before in
     let at-grow = at-put-bytes .before .before .before .before in
     let start = at-grow .before .before .before .before .before .before .before in
-    put-made (start .args .p) (start .args .desk) (start .args .page .now) (start .args .letters .now) (start .args .marks .now) (start .pre .0) _
+    put-made (start .args .p) (start .args .desk) (start .args .page .now) (start .args .letters .now) (start .args .words .now) (start .pre .0) _
     (start .pre .1) _ _ _ (c .with-page .ensures) (at-put-bytes .put-bytes .ensures .leaves) (at-grow .grow .ensures)
 
 pub put-on-spec : {M : Type 1} → statement M

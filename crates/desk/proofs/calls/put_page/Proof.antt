@@ -21,7 +21,7 @@ put-on-requires c κs =
     let at-checked2 = c .before .before .before in
     let at-check-put = at-checked2 .before .before in
     let start = at-check-put .before .before .before .before .before in
-    put-held (start .args .p) (start .args .desk) (start .args .page .now) (start .args .letters .now) (start .args .marks .now) _
+    put-held (start .args .p) (start .args .desk) (start .args .page .now) (start .args .letters .now) (start .args .words .now) _
     (at-check-put .check-put .ensures) _ (at-checked2 .checked2 .given .1)
 
 same-length : tie.Need-same-length
@@ -32,7 +32,7 @@ returns c =
     let at-check-put = c .before .before .before .before in
     let start = at-check-put .before .before .before .before .before in
     rw (c .unchanged .ensures)
-    (put-why (start .args .p) (start .args .desk) (start .args .page .now) (start .args .letters .now) (start .args .marks .now) _ (at-check-put .check-put .ensures) _ (c .before .before .checked .given .1))
+    (put-why (start .args .p) (start .args .desk) (start .args .page .now) (start .args .letters .now) (start .args .words .now) _ (at-check-put .check-put .ensures) _ (c .before .before .checked .given .1))
 
 same-length-2 : tie.Need-same-length-2
 same-length-2 c = search needs

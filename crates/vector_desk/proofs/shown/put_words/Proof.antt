@@ -7,10 +7,10 @@ use Rattle.vector_desk.proofs.shown.put_words.Statement.{statement}
 use Rattle.vector_desk.proofs.shown.put_words.Tie as tie
 
 abbrev Inv-loop : tie.InvT-loop
-Inv-loop out₀ at marks count end₀ i₀ out end i = length out ≡ length out₀
+Inv-loop out₀ at words count end₀ i₀ out end i = length out ≡ length out₀
 
 abbrev μ-loop : tie.MeasureT-loop
-μ-loop out₀ at marks count end₀ i₀ out end i = count - i
+μ-loop out₀ at words count end₀ i₀ out end i = count - i
 
 loop-holds : tie.Need-loop-holds Inv-loop μ-loop
 loop-holds c = search needs
