@@ -17,24 +17,14 @@ use Rattle.masks.specs.Masks.{Masks-of}
 use Rattle.steps.specs.declared.Words.{Words}
 use Rattle.steps.specs.StateSets.{state-set}
 use Rattle.steps.specs.Steps.{stepped, stepped-right, step-of, step-stepped}
-use Rattle.first_sweep.specs.Sweep.{put}
+use Rattle.first_sweep.specs.Sweep.{Step, stored-step, next-of, put, end-append}
 use Rattle.first_sweep.specs.SweepWords.{All-letters}
 use Rattle.first_sweep.specs.Tail.{two-words, tail-words}
-
--- a step: both words of a position, from its letter, the flag 1 word behind it, and whether the tape's end lies there
-abbrev pub Step : Type 0
-Step = (letter next : ℕ) → (last : Bool) → Words
-
--- the flag 1 word of the first letter of a page, and of no letter the word that stands behind the page. Only behind the page's last letter
--- can the tape's end lie, and `last` says whether it does.
-abbrev pub one-behind : Step → (next : ℕ) → (last : Bool) → (page : List ℕ) → ℕ
-one-behind f next last [] = next
-one-behind f next last (c ∷ w) = f c (one-behind f next last w) (at-end last w) .one
 
 -- the words of a page's letters, those of its last letter first
 abbrev pub grown-by : Step → (next : ℕ) → (last : Bool) → (page : List ℕ) → List ℕ
 grown-by f next last [] = []
-grown-by f next last (c ∷ w) = grown-by f next last w ++ put (f c (one-behind f next last w) (at-end last w)) []
+grown-by f next last (c ∷ w) = grown-by f next last w ++ put (f c (next-of f next last w) (at-end last w)) []
 
 -- by the pattern's tree: what a put writes
 abbrev pub step-by : Pattern → Step
@@ -43,27 +33,23 @@ step-by p c next last = record { zero = stepped p false c next last; one = stepp
 abbrev pub grown : Pattern → (next : ℕ) → (last : Bool) → (page : List ℕ) → List ℕ
 grown p = grown-by (step-by p)
 
--- by the masks as they are stored: how it is computed
-abbrev pub stored-step : (zero one table takers : List ℕ) → Step
-stored-step zs os ts ks c = step-of zs os ts (entry ks c)
-
 pub grown-length : (f : Step) (next : ℕ) (last : Bool) (page : List ℕ) → length (grown-by f next last page) ≡ 2 * length page
 grown-length f next last [] = refl
 grown-length f next last (c ∷ w) =
-    length-append (grown-by f next last w) (put (f c (one-behind f next last w) (at-end last w)) []) ∙ omega (arith, grown-length f next last w)
+    length-append (grown-by f next last w) (put (f c (next-of f next last w) (at-end last w)) []) ∙ omega (arith, grown-length f next last w)
 
 -- ---- steps that agree on letters give the same words
 module _ (f g : Step) (same : (c : ℕ) → is-letter c ≡ true → (next : ℕ) (last : Bool) → f c next last ≡ g c next last) (next : ℕ) (last : Bool) where
-  behind-same : (page : List ℕ) → All-letters page → one-behind f next last page ≡ one-behind g next last page
-  behind-same [] h = refl
-  behind-same (c ∷ w) h =
-      ap (λ r. r .one) (same c (h .0) (one-behind f next last w) (at-end last w) ∙ ap (λ k. g c k (at-end last w)) (behind-same w (h .1)))
+  next-same : (page : List ℕ) → All-letters page → next-of f next last page ≡ next-of g next last page
+  next-same [] h = refl
+  next-same (c ∷ w) h =
+      ap (λ r. r .one) (same c (h .0) (next-of f next last w) (at-end last w) ∙ ap (λ k. g c k (at-end last w)) (next-same w (h .1)))
 
   pub grown-same : (page : List ℕ) → All-letters page → grown-by f next last page ≡ grown-by g next last page
   grown-same [] h = refl
   grown-same (c ∷ w) h =
       ap₂ (λ ws r. ws ++ put r []) (grown-same w (h .1))
-      (same c (h .0) (one-behind f next last w) (at-end last w) ∙ ap (λ k. g c k (at-end last w)) (behind-same w (h .1)))
+      (same c (h .0) (next-of f next last w) (at-end last w) ∙ ap (λ k. g c k (at-end last w)) (next-same w (h .1)))
 
 module _ (p : Pattern) (r : Rules p) where
   -- over the masks of a pattern, the words by its tree
@@ -75,25 +61,21 @@ module _ (p : Pattern) (r : Rules p) where
 
   -- ---- grown from right is right
   module _ (w : List ℕ) where
-    end-behind : (page : List ℕ) → at-end (at-end true w) page ≡ at-end true (page ++ w)
-    end-behind [] = refl
-    end-behind (c ∷ page) = refl
-
     pub step-right : (b : Bool) (c : ℕ) (page : List ℕ) (k : ℕ) → k ≡ state-set p true (page ++ w)
         → stepped p b c k (at-end (at-end true w) page) ≡ state-set p b (c ∷ (page ++ w))
-    step-right b c page k e = ap₂ (stepped p b c) e (end-behind page) ∙ stepped-right p r b c (page ++ w)
+    step-right b c page k e = ap₂ (stepped p b c) e (sym (end-append true page w)) ∙ stepped-right p r b c (page ++ w)
 
-    pub behind-right : (page : List ℕ) → one-behind (step-by p) (state-set p true w) (at-end true w) page ≡ state-set p true (page ++ w)
-    behind-right [] = refl
-    behind-right (c ∷ page) = step-right true c page (one-behind (step-by p) (state-set p true w) (at-end true w) page) (behind-right page)
+    pub next-right : (page : List ℕ) → next-of (step-by p) (state-set p true w) (at-end true w) page ≡ state-set p true (page ++ w)
+    next-right [] = refl
+    next-right (c ∷ page) = step-right true c page (next-of (step-by p) (state-set p true w) (at-end true w) page) (next-right page)
 
     -- 02, Job 6: "If before a call the marks are those of the joined letters under its table, they are so after it": a page put before letters
     pub tail-grown : (page : List ℕ) → tail-words p (page ++ w) ≡ tail-words p w ++ grown p (state-set p true w) (at-end true w) page
     tail-grown [] = sym (append-nil (tail-words p w))
     tail-grown (c ∷ page) =
         ap₂ (λ xs ys. xs ++ ys) (tail-grown page)
-        (sym (ap₂ (λ x y. x ∷ y ∷ []) (step-right false c page next (behind-right page)) (step-right true c page next (behind-right page))))
+        (sym (ap₂ (λ x y. x ∷ y ∷ []) (step-right false c page next (next-right page)) (step-right true c page next (next-right page))))
         ∙ append-assoc (tail-words p w) (grown p (state-set p true w) (at-end true w) page) (put (step-by p c next (at-end (at-end true w) page)) [])
       where
         next : ℕ
-        next = one-behind (step-by p) (state-set p true w) (at-end true w) page
+        next = next-of (step-by p) (state-set p true w) (at-end true w) page

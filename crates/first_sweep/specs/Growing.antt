@@ -1,4 +1,4 @@
--- Writing the words of a page, letter after letter from its last: what is asked of a caller, and the laws of the loop.
+-- Writing the words of a page: what is asked of a caller, and that a sweep which counts from the tape's end writes them.
 use mathlib.Core.Path.{_≡_, refl, sym, ap, ap₂, subst, _∙_}
 use mathlib.Core.Bool.{Bool, true, false}
 use mathlib.Core.List.{List, [], _∷_, _++_}
@@ -24,33 +24,10 @@ use Rattle.steps.specs.declared.Words.{Words}
 use Rattle.steps.specs.StateSets.{state-set}
 use Rattle.steps.specs.Steps.{state-end, step-of}
 use Rattle.first_sweep.specs.Fill.{small-letters, all-letters}
-use Rattle.first_sweep.specs.Sweep.{put, Filling, filling-down}
+use Rattle.first_sweep.specs.declared.Start.{Start}
+use Rattle.first_sweep.specs.Sweep.{Step, stored-step, next-of, put, put-at, Puts-words, Sweepable, laid, Sweeps}
 use Rattle.first_sweep.specs.Tail.{tail-words}
-use Rattle.first_sweep.specs.Grow.{Step, one-behind, grown-by, grown, stored-step, grown-length, grown-stored}
-
--- two words are written, from cell `at` on, that of flag 0 first
-pub record Puts-words (zero one at : ℕ) (words words-now : List ℕ) : Type 0 where
-  pub is : words-now ≡ set (set words at zero) (at + 1) one
-
--- a fill goes on by such words; z and o are what is written
-pub filling-put : (zs os ts ks : List ℕ) (e : ℕ) (tape old : List ℕ) → 2 * (length tape + 1) ≤ length old → (i next c : ℕ) (last : Bool)
-    (words now : List ℕ) (r : Words) (z o : ℕ) → 0 < i → Filling zs os ts ks e tape old i next last words → c ≡ getD tape (i - 1) 0
-    → r ≡ step-of zs os ts (entry ks c) next last → Puts-words z o (2 * (i - 1)) words now → z ≡ r .zero → o ≡ r .one
-    → Filling zs os ts ks e tape old (i - 1) (r .one) false now
-filling-put zs os ts ks e tape old room i next c last words now r z o h f g s w flag-0 flag-1 =
-    subst (Filling zs os ts ks e tape old (i - 1) (r .one) false)
-    (sym (w .is ∙ ap₂ (λ x y. set (set words (2 * (i - 1)) x) (2 * (i - 1) + 1) y) flag-0 flag-1))
-    (filling-down zs os ts ks e tape old room i next c last words r h f g s)
-
--- every letter has an entry in the table of letters, the tape has at most 3,600 with the page, and the buffer is long enough
-pub record Page-sweepable (page : List ℕ) (held : ℕ) (words : List ℕ) : Type 0 where
-  pub few : held + length page ≤ letter-limit
-  pub letters : (i : ℕ) → getD page i 0 < letter-cells
-  pub room : 2 * (held + length page + 1) ≤ length words
-
--- the words of a page are written behind those of the letters held
-pub record Sweeps-page (f : Step) (next held : ℕ) (page words words-now : List ℕ) : Type 0 where
-  pub is : words-now ≡ sets words (2 * (held + 1)) (grown-by f next (eqb held 0) page)
+use Rattle.first_sweep.specs.Grow.{grown-by, grown, grown-length, grown-stored}
 
 -- a tested table and letters, as `Fillable` asks of a tape; 02, Job 6: marks enough "for the letters after the put"
 pub record Growable (p : Pattern) (page : List ℕ) (held : ℕ) (words : List ℕ) : Type 0 where
@@ -59,8 +36,14 @@ pub record Growable (p : Pattern) (page : List ℕ) (held : ℕ) (words : List �
   pub letters : (i : ℕ) → i < length page → is-letter (getD page i 0) ≡ true
   pub room : 2 * (held + length page + 1) ≤ length words
 
-pub grow-sweepable : (p : Pattern) (page : List ℕ) (held : ℕ) (ws : List ℕ) → Growable p page held ws → Page-sweepable page held ws
-grow-sweepable p page held ws g = record { few = g .few; letters = small-letters page (g .letters); room = g .room }
+pub grow-sweepable : (p : Pattern) (page : List ℕ) (held count : ℕ) (ws : List ℕ) → Growable p page held ws → count ≡ held + length page
+    → Sweepable page count ws
+grow-sweepable p page held count ws g e = record {
+  inside = omega arith;
+  few = omega (arith, g .few);
+  small = small-letters page (g .letters);
+  room = omega (arith, g .room);
+}
 
 sets-append : (xs ys l : List ℕ) (i : ℕ) → sets l i (xs ++ ys) ≡ sets (sets l i xs) (i + length xs) ys
 sets-append [] ys l i = ap (λ k. sets l k ys) (sym (add-zero i))
@@ -68,109 +51,33 @@ sets-append (x ∷ xs) ys l i =
     let e : suc i + length xs ≡ i + suc (length xs) = omega arith in
     sets-append xs ys (set l i x) (suc i) ∙ ap (λ k. sets (sets (set l i x) (suc i) xs) k ys) e
 
-module _ (f : Step) (first held : ℕ) (page old : List ℕ) where
-  -- on the way, at letter i of the page: the words from there on are written, and `at` is where the next two go
-  pub record Growing (i at behind : ℕ) (last : Bool) (words : List ℕ) : Type 0 where
-    pub inside : i ≤ length page
-    pub place : at + 2 * i ≡ 2 * (held + length page + 1)
-    pub wrote : words ≡ sets old (2 * (held + 1)) (grown-by f first (eqb held 0) (drop i page))
-    pub ahead : behind ≡ one-behind f first (eqb held 0) (drop i page)
-    pub ends : last ≡ at-end (eqb held 0) (drop i page)
+-- counted from the tape's end: the words of letters from position k on, those of the last letter first, after those of the letters held
+laid-grows : (f : Step) (next : ℕ) (last : Bool) (held count k : ℕ) (w old : List ℕ) → count ≡ held + (k + length w)
+    → laid f count true next last k w old ≡ sets old (2 * (held + 1)) (grown-by f next last w)
+laid-grows f next last held count k [] old e = refl
+laid-grows f next last held count k (c ∷ w) old e =
+    let at : 2 * (count - k) ≡ 2 * (held + 1) + length done = omega (arith, grown-length f next last w) in
+    ap₂ (λ m ws. put-at there m ws) at (laid-grows f next last held count (suc k) w old (omega arith))
+    ∙ ap (λ m. set (set (sets old (2 * (held + 1)) done) (2 * (held + 1) + length done) (there .zero)) m (there .one))
+    (add-one (2 * (held + 1) + length done))
+    ∙ sym (sets-append done (put there []) old (2 * (held + 1)))
+  where
+    there : Words
+    there = f c (next-of f next last w) (at-end last w)
 
-  pub growing-start : Growing (length page) (2 * held + 2) first (eqb held 0) old
-  growing-start =
-      let d : drop (length page) page ≡ [] = drop-length page in
-      record { inside = omega arith; place = omega arith; wrote = rw d refl; ahead = rw d refl; ends = rw d refl }
-
-  pub growing-same : (i at behind : ℕ) (last : Bool) (words : List ℕ) → Growing i at behind last words → length words ≡ length old
-  growing-same i at behind last words g = ap length (g .wrote) ∙ length-sets old (2 * (held + 1)) (grown-by f first (eqb held 0) (drop i page))
-
-  growing-next : (i at behind c : ℕ) (last : Bool) (words now : List ℕ) (r : Words) → i < length page → Growing (i + 1) at behind last words
-      → c ≡ getD page i 0 → r ≡ f c behind last → Puts-words (r .zero) (r .one) at words now → Growing i (at + 2) (r .one) false now
-  growing-next i at behind c last words now r h g e s w =
-      let d : drop i page ≡ getD page i 0 ∷ drop (i + 1) page = rw (add-one i) (drop-cons page i 0 h) in
-      let from : r ≡ there = s ∙ ap (λ x. f x behind last) e ∙ ap₂ (λ x y. f (getD page i 0) x y) (g .ahead) (g .ends) in
-      let k : at ≡ 2 * (held + 1) + length done =
-      omega (arith, g .place, grown-length f first (eqb held 0) (drop (i + 1) page), length-drop (i + 1) page) in
-      let put-now : now ≡ sets words at (put r []) = rw (w .is, add-one at) refl in
-      record {
-        inside = omega arith;
-        place = omega (arith, g .place);
-        wrote =
-            rw d (put-now ∙ ap (λ ws. sets ws at (put r [])) (g .wrote) ∙ ap₂ (λ n x. sets (sets old (2 * (held + 1)) done) n (put x [])) k from
-            ∙ sym (sets-append done (put there []) old (2 * (held + 1))));
-        ahead = rw d (ap (λ x. x .one) from);
-        ends = rw d refl;
-      }
-    where
-      there : Words
-      there = f (getD page i 0) (one-behind f first (eqb held 0) (drop (i + 1) page)) (at-end (eqb held 0) (drop (i + 1) page))
-
-      done : List ℕ
-      done = grown-by f first (eqb held 0) (drop (i + 1) page)
-
-  -- the same, counting down; z and o are what is written
-  pub growing-down : (i at behind c : ℕ) (last : Bool) (words now : List ℕ) (r : Words) (z o : ℕ) → 0 < i → Growing i at behind last words
-      → c ≡ getD page (i - 1) 0 → r ≡ f c behind last → Puts-words z o at words now → z ≡ r .zero → o ≡ r .one
-      → Growing (i - 1) (at + 2) (r .one) false now
-  growing-down i at behind c last words now r z o h g e s w flag-0 flag-1 =
-      let k : i ≡ i - 1 + 1 = omega arith in
-      growing-next (i - 1) at behind c last words now r (omega (arith, g .inside)) (subst (λ j. Growing j at behind last words) k g) e s
-      (record { is = w .is ∙ ap₂ (λ x y. set (set words at x) (at + 1) y) flag-0 flag-1 })
-
-  pub growing-end : (at behind : ℕ) (last : Bool) (words : List ℕ) → Growing 0 at behind last words → Sweeps-page f first held page old words
-  growing-end at behind last words g = record { is = g .wrote }
-
--- ---- a page from any letter on
--- every letter has an entry in the table of letters, and there is room for the words of those left
-pub record Page-left (page : List ℕ) (i at : ℕ) (words : List ℕ) : Type 0 where
-  pub letters : (i : ℕ) → getD page i 0 < letter-cells
-  pub inside : i ≤ length page
-  pub room : at + 2 * i ≤ length words
-
-module _ (f : Step) (page : List ℕ) where
-  -- the words down to letter j, whatever is held and whatever the words were
-  pub record Grows-onward (i at behind : ℕ) (last : Bool) (words : List ℕ) (j at-now behind-now : ℕ) (last-now : Bool) (words-now : List ℕ) : Type 0 where
-    pub inside : j ≤ length page
-    pub same : length words-now ≡ length words
-    pub place : at-now + 2 * j ≡ at + 2 * i
-    pub to : (first held : ℕ) (old : List ℕ) → Growing f first held page old i at behind last words
-        → Growing f first held page old j at-now behind-now last-now words-now
-
-  -- and so the page is swept
-  pub record Grows-on (i at behind : ℕ) (last : Bool) (words words-now : List ℕ) : Type 0 where
-    pub is : (first held : ℕ) (old : List ℕ) → Growing f first held page old i at behind last words → Sweeps-page f first held page old words-now
-
-  module _ (i at behind : ℕ) (last : Bool) (words : List ℕ) where
-    pub grows-start : i ≤ length page → Grows-onward i at behind last words i at behind last words
-    grows-start h = record { inside = h; same = refl; place = refl; to = λ a b c g. g }
-
-    pub grows-down : (j at-now behind-now c : ℕ) (last-now : Bool) (words-now new : List ℕ) (r : Words) → 0 < j
-        → Grows-onward i at behind last words j at-now behind-now last-now words-now → c ≡ getD page (j - 1) 0 → r ≡ f c behind-now last-now
-        → Puts-words (r .zero) (r .one) at-now words-now new → Grows-onward i at behind last words (j - 1) (at-now + 2) (r .one) false new
-    grows-down j at-now behind-now c last-now words-now new r o q e s w = record {
-      inside = omega (arith, q .inside);
-      same = ap length (w .is) ∙ simp length-set (q .same);
-      place = omega (arith, q .place);
-      to = λ first held old g.
-          growing-down f first held page old j at-now behind-now c last-now words-now new r (r .zero) (r .one) o (q .to first held old g) e s w refl refl;
-    }
-
-    pub grows-end : (at-now behind-now : ℕ) (last-now : Bool) (words-now : List ℕ) → Grows-onward i at behind last words 0 at-now behind-now last-now words-now
-        → Grows-on i at behind last words words-now
-    grows-end at-now behind-now last-now words-now q = record {
-      is = λ first held old g. growing-end f first held page old at-now behind-now last-now words-now (q .to first held old g);
-    }
+    done : List ℕ
+    done = grown-by f next last w
 
 -- so that the buffer holds the words of the definition, from the flag 1 word of the letters held
 pub grown-words :
-    (p : Pattern) (next held : ℕ) (page old new zs os ts ks : List ℕ) (e : ℕ) → Growable p page held old → Holds p ts
-    → Masks-of (root p) (p .count) zs os ks e → Sweeps-page (stored-step zs os ts ks) next held page old new → next ≡ getD old (2 * held + 1) 0
+    (p : Pattern) (next held count : ℕ) (last : Bool) (notes : ℕ) (page old new zs os ts ks : List ℕ) (e : ℕ) → Growable p page held old → Holds p ts
+    → Masks-of (root p) (p .count) zs os ks e → count ≡ held + length page → next ≡ getD old (2 * held + 1) 0 → last ≡ eqb held 0
+    → Sweeps (stored-step zs os ts ks) (record { next = next; last = last; count = count; turned = true; notes = notes }) page old new
     → new ≡ sets old (2 * (held + 1)) (grown p (getD old (2 * held + 1) 0) (eqb held 0) page)
-grown-words p next held page old new zs os ts ks e g h m w n =
-    w .is
+grown-words p next held count last notes page old new zs os ts ks e g h m k n l w =
+    w .is ∙ laid-grows (stored-step zs os ts ks) next last held count 0 page old (omega arith)
     ∙ ap (sets old (2 * (held + 1)))
-    (ap (λ k. grown-by (stored-step zs os ts ks) k (eqb held 0) page) n
+    (ap₂ (λ x y. grown-by (stored-step zs os ts ks) x y page) n l
     ∙ grown-stored p (g .rules) zs os ts ks e h m (getD old (2 * held + 1) 0) (eqb held 0) page (all-letters page (g .letters)))
 
 -- the two words of the end; z and o are what is written

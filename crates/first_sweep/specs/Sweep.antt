@@ -1,144 +1,156 @@
--- THE FILL over masks as they are stored: the words of all positions, from the tape's end to its start.
+-- THE FIRST SWEEP over masks as they are stored: the two words of each letter, from the last letter to the first, into the cells of its position.
+-- A fill counts positions from the tape's start, a page desk from the tape's end; all else is the same.
 use mathlib.Core.Path.{_≡_, refl, sym, ap, ap₂, subst, _∙_}
-use mathlib.Core.Bool.{Bool, true, false}
+use mathlib.Core.Bool.{Bool, true, false, cond}
 use mathlib.Core.List.{List, [], _∷_, _++_}
 use Prim.Native.Nat.{ℕ, zero, suc, _+_, _-_, _*_, _≤_, _<_}
-use native.Mathlib.Numerals.{add-one}
+use native.Mathlib.Nat.{add-zero}
 use native.Mathlib.Omega.{arith}
-use lib.ListN.{length, getD, drop, set, length-set}
-use lib.Seq.{drop-cons, drop-length, drop-set-lt}
+use lib.ListN.{length, getD, take, drop, set, length-set, take-append-drop}
+use lib.Seq.{drop-cons, drop-length, length-take-le, getD-take}
 use Rattle.syntax.specs.Letter.{letter-limit}
-use Rattle.bits.specs.Bits.{in-front}
 use Rattle.semantics.specs.Sweeps.{at-end}
 use Rattle.steps.specs.declared.Words.{Words}
 use Rattle.masks.specs.Leaves.{letter-cells, entry}
 use Rattle.steps.specs.Steps.{step-of}
+use Rattle.first_sweep.specs.declared.Start.{Start}
 
--- the flag 1 word of the first position of a fill
-abbrev pub first-one : List ℕ → ℕ
-first-one ws = getD ws 1 0
+-- a step: both words of a position, from its letter, the flag 1 word of the next position, and whether the tape's end lies there
+abbrev pub Step : Type 0
+Step = (letter next : ℕ) → (last : Bool) → Words
 
--- the two words of a position in front of those behind it
+-- by the masks as they are stored; takers: by the letter
+abbrev pub stored-step : (zero one table takers : List ℕ) → Step
+stored-step zs os ts ks c = step-of zs os ts (entry ks c)
+
+-- the flag 1 word of the first of some letters, and of no letter the word that stands after them. Only after the last of them can the tape's
+-- end lie, and `last` says whether it does.
+abbrev pub next-of : Step → (next : ℕ) → (last : Bool) → (letters : List ℕ) → ℕ
+next-of f next last [] = next
+next-of f next last (c ∷ w) = f c (next-of f next last w) (at-end last w) .one
+
+-- the two words of a position in front of others
 abbrev pub put : Words → List ℕ → List ℕ
 put r ws = r .zero ∷ r .one ∷ ws
 
--- takers: by the letter; end: the flag 1 word of the tape's end
-abbrev pub sweep-of : (zero one table takers : List ℕ) → (end : ℕ) → (tape : List ℕ) → List ℕ
-sweep-of zs os ts ks e [] = 0 ∷ e ∷ []
-sweep-of zs os ts ks e (c ∷ w) = put (step-of zs os ts (entry ks c) (first-one (sweep-of zs os ts ks e w)) (at-end true w)) (sweep-of zs os ts ks e w)
+-- the cell of a position's flag 0 word, for a tape of `count` letters. 01: "word 2 × i + b"; 02, Job 6: "the words for j letters from 2 × j on"
+abbrev pub cell-at : (count : ℕ) → (turned : Bool) → (i : ℕ) → ℕ
+cell-at count turned i = cond turned (2 * (count - i)) (2 * i)
+
+abbrev pub put-at : Words → (at : ℕ) → List ℕ → List ℕ
+put-at r at ws = set (set ws at (r .zero)) (at + 1) (r .one)
+
+-- two words are written, from cell `at` on, that of flag 0 first
+pub record Puts-words (zero one at : ℕ) (words words-now : List ℕ) : Type 0 where
+  pub is : words-now ≡ put-at (record { zero = zero; one = one }) at words
+
+pub puts-length : (z o at : ℕ) (words now : List ℕ) → Puts-words z o at words now → length now ≡ length words
+puts-length z o at words now w = ap length (w .is) ∙ simp length-set refl
 
 -- every letter has an entry in the table of letters, and the buffer is long enough. 01: "Tapes hold at most 3,600 letters"
-pub record Sweepable (tape words : List ℕ) : Type 0 where
-  pub few : length tape ≤ letter-limit
-  pub letters : (i : ℕ) → getD tape i 0 < letter-cells
-  pub room : 2 * (length tape + 1) ≤ length words
+pub record Sweepable (letters : List ℕ) (count : ℕ) (words : List ℕ) : Type 0 where
+  pub inside : length letters ≤ count
+  pub few : count ≤ letter-limit
+  pub small : (i : ℕ) → i < length letters → getD letters i 0 < letter-cells
+  pub room : 2 * (count + 1) ≤ length words
 
--- two cells written one after the other
-pub two-set : (k a b : ℕ) (xs : List ℕ) → suc k < length xs → drop k (set (set xs k a) (suc k) b) ≡ a ∷ b ∷ drop (suc (suc k)) xs
-two-set zero a b [] h = absurd (omega arith)
-two-set zero a b (x ∷ []) h = absurd (omega arith)
-two-set zero a b (x ∷ (y ∷ xs)) h = refl
-two-set (suc k) a b [] h = absurd (omega arith)
-two-set (suc k) a b (x ∷ xs) h = two-set k a b xs (omega arith)
-
-module _ (zs os ts ks : List ℕ) (e : ℕ) where
-  pub sweep-length : (w : List ℕ) → length (sweep-of zs os ts ks e w) ≡ 2 * (length w + 1)
-  sweep-length [] = refl
-  sweep-length (c ∷ w) = omega (arith, sweep-length w)
-
-  -- on the way, at position i: from there on the buffer is filled, and behind the last position it is as it was
-  pub record Filling (tape old : List ℕ) (i next : ℕ) (last : Bool) (words : List ℕ) : Type 0 where
-    pub inside : i ≤ length tape
-    pub same : length words ≡ length old
-    pub filled : drop (2 * i) words ≡ sweep-of zs os ts ks e (drop i tape) ++ drop (2 * (length tape + 1)) old
-    pub ahead : next ≡ first-one (sweep-of zs os ts ks e (drop i tape))
-    pub ends : last ≡ at-end true (drop i tape)
-
-  module _ (tape old : List ℕ) (room : 2 * (length tape + 1) ≤ length old) where
-    -- the buffer once the words of the tape's end are written
-    abbrev pub ended : List ℕ
-    ended = set (set old (2 * length tape) 0) (2 * length tape + 1) e
-
-    ended-behind : drop (2 * (length tape + 1)) ended ≡ drop (2 * (length tape + 1)) old
-    ended-behind =
-        drop-set-lt (2 * (length tape + 1)) (set old (2 * length tape) 0) (2 * length tape + 1) e (omega arith)
-        ∙ drop-set-lt (2 * (length tape + 1)) old (2 * length tape) 0 (omega arith)
-
-    pub filling-start : Filling tape ended (length tape) e true ended
-    filling-start =
-        let d : drop (length tape) tape ≡ [] = drop-length tape in
-        let k : suc (suc (2 * length tape)) ≡ 2 * (length tape + 1) = omega arith in
-        record {
-          inside = omega arith;
-          same = refl;
-          filled =
-              rw (d, ended-behind, add-one (2 * length tape)) (two-set (2 * length tape) 0 e old (omega arith) ∙ ap (λ z. 0 ∷ e ∷ drop z old) k);
-          ahead = rw d refl;
-          ends = rw d refl;
-        }
-
-    pub filling-end : (words : List ℕ) → words ≡ sweep-of zs os ts ks e tape ++ drop (2 * (length tape + 1)) ended
-        → words ≡ in-front (sweep-of zs os ts ks e tape) old
-    unfolding in-front
-    filling-end words f =
-        f ∙ ap (λ z. sweep-of zs os ts ks e tape ++ z) ended-behind ∙ ap (λ k. sweep-of zs os ts ks e tape ++ drop k old) (sym (sweep-length tape))
-
-    pub filling-next : (i next c : ℕ) (last : Bool) (words : List ℕ) (r : Words) → Filling tape old (i + 1) next last words → c ≡ getD tape i 0
-        → r ≡ step-of zs os ts (entry ks c) next last → Filling tape old i (r .one) false (set (set words (2 * i) (r .zero)) (2 * i + 1) (r .one))
-    filling-next i next c last words r f g h =
-        let b : suc i ≤ length tape = omega (arith, f .inside) in
-        let d : drop i tape ≡ getD tape i 0 ∷ drop (i + 1) tape = rw (add-one i) (drop-cons tape i 0 b) in
-        let s : r ≡ step-of zs os ts (entry ks (getD tape i 0)) (first-one (sweep-of zs os ts ks e (drop (i + 1) tape))) (at-end true (drop (i + 1) tape)) =
-        h ∙ ap (λ x. step-of zs os ts (entry ks x) next last) g ∙ ap₂ (λ x y. step-of zs os ts (entry ks (getD tape i 0)) x y) (f .ahead) (f .ends) in
-        let k : suc (suc (2 * i)) ≡ 2 * (i + 1) = omega arith in
-        record {
-          inside = omega (arith, f .inside);
-          same = simp length-set (f .same);
-          filled =
-              rw (d, add-one (2 * i)) (two-set (2 * i) (r .zero) (r .one) words (omega (arith, f .same))
-              ∙ ap (λ z. r .zero ∷ r .one ∷ drop z words) k ∙ ap₂ (λ x y. x .zero ∷ x .one ∷ y) s (f .filled));
-          ahead = rw d (ap (λ x. x .one) s);
-          ends = rw d refl;
-        }
-
-    -- the same, counting down
-    pub filling-down : (i next c : ℕ) (last : Bool) (words : List ℕ) (r : Words) → 0 < i → Filling tape old i next last words → c ≡ getD tape (i - 1) 0
-        → r ≡ step-of zs os ts (entry ks c) next last
-        → Filling tape old (i - 1) (r .one) false (set (set words (2 * (i - 1)) (r .zero)) (2 * (i - 1) + 1) (r .one))
-    filling-down i next c last words r o f g h =
-        let e : i ≡ i - 1 + 1 = omega arith in
-        filling-next (i - 1) next c last words r (subst (λ k. Filling tape old k next last words) e f) g h
-
--- ---- a fill from any position on
-module _ (zs os ts ks tape : List ℕ) where
-  -- what was filled from position i on is filled from position j on, whatever the end's word and what lies behind the last position
-  pub record Onward (i next : ℕ) (last : Bool) (words : List ℕ) (j next-now : ℕ) (last-now : Bool) (words-now : List ℕ) : Type 0 where
-    pub inside : j ≤ length tape
-    pub same : length words-now ≡ length words
-    pub to : (e : ℕ) (old : List ℕ) → Filling zs os ts ks e tape old i next last words → Filling zs os ts ks e tape old j next-now last-now words-now
-
-  -- and so it is filled
-  pub record Fills-on (i next : ℕ) (last : Bool) (words words-now : List ℕ) : Type 0 where
-    pub is : (e : ℕ) (old : List ℕ) → Filling zs os ts ks e tape old i next last words
-        → words-now ≡ sweep-of zs os ts ks e tape ++ drop (2 * (length tape + 1)) old
-
-  module _ (i next : ℕ) (last : Bool) (words : List ℕ) where
-    pub onward-start : i ≤ length tape → Onward i next last words i next last words
-    onward-start h = record { inside = h; same = refl; to = λ e old f. f }
-
-    pub onward-down : (j next-now c : ℕ) (last-now : Bool) (words-now : List ℕ) (r : Words) → 2 * (length tape + 1) ≤ length words → 0 < j
-        → Onward i next last words j next-now last-now words-now → c ≡ getD tape (j - 1) 0 → r ≡ step-of zs os ts (entry ks c) next-now last-now
-        → Onward i next last words (j - 1) (r .one) false (set (set words-now (2 * (j - 1)) (r .zero)) (2 * (j - 1) + 1) (r .one))
-    onward-down j next-now c last-now words-now r room o q g h = record {
-      inside = omega (arith, q .inside);
-      same = simp length-set (q .same);
-      to = λ e old f. filling-down zs os ts ks e tape old (omega (arith, f .same)) j next-now c last-now words-now r o (q .to e old f) g h;
+-- the letters up to some position
+pub sweepable-front : (letters : List ℕ) (count : ℕ) (words words-now : List ℕ) (i : ℕ) → i ≤ length letters → length words-now ≡ length words
+    → Sweepable letters count words → Sweepable (take i letters) count words-now
+sweepable-front letters count words now i h e s =
+    let k : length (take i letters) ≡ i = length-take-le i letters h in
+    record {
+      inside = omega (arith, s .inside);
+      few = s .few;
+      small = λ j l. subst (λ c. c < letter-cells) (sym (getD-take i letters j 0 (omega arith))) (s .small j (omega arith));
+      room = omega (arith, s .room);
     }
 
-    pub onward-end : (next-now : ℕ) (last-now : Bool) (words-now : List ℕ) → Onward i next last words 0 next-now last-now words-now
-        → Fills-on i next last words words-now
-    onward-end next-now last-now words-now q = record { is = λ e old f. q .to e old f .filled }
+-- a position's cells lie in the buffer
+cell-room : (letters : List ℕ) (count : ℕ) (words : List ℕ) (turned : Bool) (i : ℕ) → Sweepable letters count words
+    → i < length letters → cell-at count turned i + 1 < length words
+cell-room letters count words true i s h = omega (arith, s .room, s .inside)
+cell-room letters count words false i s h = omega (arith, s .room, s .inside)
 
-    pub fills-end : (e : ℕ) (old : List ℕ) (room : 2 * (length tape + 1) ≤ length old) (words-now : List ℕ) → Fills-on i next last words words-now
-        → Filling zs os ts ks e tape (ended zs os ts ks e tape old room) i next last words → words-now ≡ in-front (sweep-of zs os ts ks e tape) old
-    fills-end e old room words-now f g = filling-end zs os ts ks e tape old room words-now (f .is e (ended zs os ts ks e tape old room) g)
+-- letters in two parts: the tape's end lies after the first part only if the second has no letter
+pub end-append : (last : Bool) (u v : List ℕ) → at-end last (u ++ v) ≡ at-end (at-end last v) u
+end-append last [] v = refl
+end-append last (c ∷ u) v = refl
+
+module _ (f : Step) (count : ℕ) (turned : Bool) where
+  -- the words of letters, the first of them at position i, laid into a buffer
+  abbrev pub laid : (next : ℕ) → (last : Bool) → (i : ℕ) → (letters old : List ℕ) → List ℕ
+  laid next last i [] old = old
+  laid next last i (c ∷ w) old = put-at (f c (next-of f next last w) (at-end last w)) (cell-at count turned i) (laid next last (suc i) w old)
+
+  pub laid-length : (next : ℕ) (last : Bool) (i : ℕ) (letters old : List ℕ) → length (laid next last i letters old) ≡ length old
+  laid-length next last i [] old = refl
+  laid-length next last i (c ∷ w) old = simp length-set (laid-length next last (suc i) w old)
+
+  -- ---- letters in two parts: first those of the second part, then, from the word of its first letter, those of the first
+  next-append : (next : ℕ) (last : Bool) (u v : List ℕ) → next-of f next last (u ++ v) ≡ next-of f (next-of f next last v) (at-end last v) u
+  next-append next last [] v = refl
+  next-append next last (c ∷ u) v = ap₂ (λ x y. f c x y .one) (next-append next last u v) (end-append last u v)
+
+  laid-append : (next : ℕ) (last : Bool) (i : ℕ) (u v old : List ℕ)
+      → laid next last i (u ++ v) old ≡ laid (next-of f next last v) (at-end last v) i u (laid next last (i + length u) v old)
+  laid-append next last i [] v old = ap (λ k. laid next last k v old) (sym (add-zero i))
+  laid-append next last i (c ∷ u) v old =
+      let e : suc i + length u ≡ i + suc (length u) = omega arith in
+      ap₂ (λ r ws. put-at r (cell-at count turned i) ws) (ap₂ (f c) (next-append next last u v) (end-append last u v))
+      (laid-append next last (suc i) u v old
+      ∙ ap (λ k. laid (next-of f next last v) (at-end last v) (suc i) u (laid next last k v old)) e)
+
+  module _ (first : ℕ) (final : Bool) (letters old : List ℕ) where
+    -- on the way, at position i: the words from there on are laid
+    pub record Sweeping (i next : ℕ) (last : Bool) (words : List ℕ) : Type 0 where
+      pub inside : i ≤ length letters
+      pub wrote : words ≡ laid first final i (drop i letters) old
+      pub ahead : next ≡ next-of f first final (drop i letters)
+      pub ends : last ≡ at-end final (drop i letters)
+
+    pub sweeping-start : Sweeping (length letters) first final old
+    sweeping-start =
+        let d : drop (length letters) letters ≡ [] = drop-length letters in
+        record { inside = omega arith; wrote = rw d refl; ahead = rw d refl; ends = rw d refl }
+
+    pub sweeping-same : (i next : ℕ) (last : Bool) (words : List ℕ) → Sweeping i next last words → length words ≡ length old
+    sweeping-same i next last words g = ap length (g .wrote) ∙ laid-length first final i (drop i letters) old
+
+    pub sweeping-room : (i next at : ℕ) (last : Bool) (words : List ℕ) → Sweepable letters count old → 0 < i → Sweeping i next last words
+        → at ≡ cell-at count turned (i - 1) → at + 1 < length words
+    sweeping-room i next at last words s h g a =
+        omega (arith, cell-room letters count old turned (i - 1) s (omega (arith, g .inside)), sweeping-same i next last words g)
+
+    -- counting down; z and o are what is written
+    pub sweeping-down : (i next c at : ℕ) (last : Bool) (words now : List ℕ) (r : Words) (z o : ℕ) → 0 < i → Sweeping i next last words
+        → c ≡ getD letters (i - 1) 0 → r ≡ f c next last → at ≡ cell-at count turned (i - 1) → Puts-words z o at words now
+        → z ≡ r .zero → o ≡ r .one → Sweeping (i - 1) (r .one) false now
+    sweeping-down i next c at last words now r z o h g e s a w flag-0 flag-1 =
+        let k : suc (i - 1) ≡ i = omega arith in
+        let b : i - 1 < length letters = omega (arith, g .inside) in
+        let d : drop (i - 1) letters ≡ getD letters (i - 1) 0 ∷ drop i letters =
+        drop-cons letters (i - 1) 0 b ∙ ap (λ j. getD letters (i - 1) 0 ∷ drop j letters) k in
+        let from : r ≡ f (getD letters (i - 1) 0) (next-of f first final (drop i letters)) (at-end final (drop i letters)) =
+        s ∙ ap (λ x. f x next last) e ∙ ap₂ (λ x y. f (getD letters (i - 1) 0) x y) (g .ahead) (g .ends) in
+        record {
+          inside = omega (arith, g .inside);
+          wrote =
+              rw d (w .is ∙ ap₂ (λ x y. put-at (record { zero = x; one = y }) at words) flag-0 flag-1 ∙ ap (λ j. put-at r j words) a
+              ∙ ap₂ (λ x ws. put-at x (cell-at count turned (i - 1)) ws) from (g .wrote ∙ ap (λ j. laid first final j (drop i letters) old) (sym k)));
+          ahead = rw d (ap (λ x. x .one) from);
+          ends = rw d refl;
+        }
+
+    -- what is left is laid from here
+    pub sweeping-rest : (i next : ℕ) (last : Bool) (words now : List ℕ) → Sweeping i next last words
+        → now ≡ laid next last 0 (take i letters) words → now ≡ laid first final 0 letters old
+    sweeping-rest i next last words now g e =
+        let k : i ≡ 0 + length (take i letters) = omega (arith, length-take-le i letters (g .inside)) in
+        e ∙ ap (λ ws. laid next last 0 (take i letters) ws) (g .wrote ∙ ap (λ j. laid first final j (drop i letters) old) k)
+        ∙ ap₂ (λ x y. laid x y 0 (take i letters) (laid first final (0 + length (take i letters)) (drop i letters) old)) (g .ahead) (g .ends)
+        ∙ sym (laid-append first final 0 (take i letters) (drop i letters) old) ∙ ap (λ w. laid first final 0 w old) (take-append-drop i letters)
+
+-- THE WORDS OF SOME LETTERS ARE LAID, from a start
+pub record Sweeps (f : Step) (s : Start) (letters words words-now : List ℕ) : Type 0 where
+  pub is : words-now ≡ laid f (s .count) (s .turned) (s .next) (s .last) 0 letters words

@@ -1,8 +1,10 @@
--- The fill over the masks of a pattern is the words of the definition.
+-- The words of all positions in order, each from the next; over the masks of a pattern they are the words of the definition.
 use mathlib.Core.Path.{_≡_, refl, sym, ap, ap₂, _∙_}
 use mathlib.Core.Bool.{true, false}
 use mathlib.Core.List.{List, [], _∷_}
-use Prim.Native.Nat.{ℕ}
+use Prim.Native.Nat.{ℕ, _+_, _*_}
+use native.Mathlib.Omega.{arith}
+use lib.ListN.{length, getD}
 use Rattle.syntax.specs.declared.Pattern.{Pattern}
 use Rattle.syntax.specs.Letter.{is-letter}
 use Rattle.syntax.specs.Trees.{root}
@@ -13,7 +15,20 @@ use Rattle.masks.specs.Leaves.{entry}
 use Rattle.masks.specs.Masks.{Masks-of}
 use Rattle.steps.specs.StateSets.{state-set, words}
 use Rattle.steps.specs.Steps.{state-end, stepped-right, step-of, step-stepped}
-use Rattle.first_sweep.specs.Sweep.{first-one, put, sweep-of}
+use Rattle.first_sweep.specs.Sweep.{put}
+
+-- the flag 1 word of the first position
+abbrev pub first-one : List ℕ → ℕ
+first-one ws = getD ws 1 0
+
+-- over masks as they are stored. takers: by the letter; end: the flag 1 word of the tape's end
+abbrev pub sweep-of : (zero one table takers : List ℕ) → (end : ℕ) → (tape : List ℕ) → List ℕ
+sweep-of zs os ts ks e [] = 0 ∷ e ∷ []
+sweep-of zs os ts ks e (c ∷ w) = put (step-of zs os ts (entry ks c) (first-one (sweep-of zs os ts ks e w)) (at-end true w)) (sweep-of zs os ts ks e w)
+
+pub sweep-length : (zs os ts ks : List ℕ) (e : ℕ) (w : List ℕ) → length (sweep-of zs os ts ks e w) ≡ 2 * (length w + 1)
+sweep-length zs os ts ks e [] = refl
+sweep-length zs os ts ks e (c ∷ w) = omega (arith, sweep-length zs os ts ks e w)
 
 -- every letter of a tape is one
 abbrev pub All-letters : List ℕ → Type 0

@@ -6,15 +6,16 @@ ghost use Prim.Native.Nat.{_+_, _*_, _≤_, _<_};
 ghost use lib.Dec.{eqb};
 ghost use lib.ListN.{length, getD};
 ghost use lib.Seq.{sets};
+ghost use Rattle.syntax.specs.Letter.{letter-limit};
 ghost use Rattle.syntax.specs.TreeLaws.{Rules};
 ghost use Rattle.bits.specs.Bits.{in-front};
 ghost use Rattle.table.specs.Cells.{Holds};
 ghost use Rattle.steps.specs.StateSets.{words as words-of};
-ghost use Rattle.first_sweep.specs.Sweep.{Sweepable, Fills-on, sweep-of};
+ghost use Rattle.first_sweep.specs.Sweep.{cell-at, stored-step, Puts-words, Sweepable, Sweeps};
 ghost use Rattle.first_sweep.specs.Fill.{Fillable};
 ghost use Rattle.first_sweep.specs.Tail.{tail-words};
-ghost use Rattle.first_sweep.specs.Grow.{stored-step, grown};
-ghost use Rattle.first_sweep.specs.Growing.{Puts-words, Page-sweepable, Page-left, Grows-on, Sweeps-page, Growable};
+ghost use Rattle.first_sweep.specs.Grow.{grown};
+ghost use Rattle.first_sweep.specs.Growing.{Growable};
 use masks::LETTER_CELLS;
 use masks::put_masks;
 use masks::scatter::put_takers;
@@ -34,82 +35,121 @@ const FILL_NOTES: u64 = 192;
 
 const PAGE_NOTES: u64 = 32;
 
-// The rest of a fill, from a position down to the tape's start, without numbers.
+// What a sweep over some letters starts from, and where their words go.
+struct Start {
+    // The flag 1 word of the position after the letters, and whether that position is the tape's end: the word does not say it.
+    next: u64,
+    last: bool,
+    // How many letters the tape has, from the first of these on, and whether words are counted from its end.
+    count: usize,
+    turned: bool,
+    // How many steps are noted at most.
+    notes: u64,
+}
+
+// The cell of a position's flag 0 word.
+fn cell_of(count: usize, turned: bool, i: usize) -> usize
+    requires { ⌜ (i ≤ count) × (count ≤ letter-limit) ⌝ }
+    ensures { λ r. ⌜ r ≡ cell-at count turned i ⌝ }
+{
+    if turned {
+        return 2 * (count - i);
+    }
+    2 * i
+}
+
+// The two words of a position, that of flag 0 first.
+fn put_words(words: &mut [u64], at: usize, zero: u64, one: u64)
+    requires { ⌜ at + 1 < length (now words) ⌝ }
+    ensures { λ _. ⌜ Puts-words zero one at (now (words .entry)) (now (words .exit)) ⌝ }
+{
+    words[at] = zero;
+    words[at + 1] = one;
+}
+
+// The state sets of some letters, over the masks of a pattern, from the last letter to the first.
 fn sweep_on(
     zero: &[u64; 64],
     one: &[u64; 64],
     table: &[u64; 64],
     takers: &[u64; LETTER_CELLS],
-    tape: &[u8],
-    from: usize,
-    behind: u64,
-    ends: bool,
+    letters: &[u8],
+    start: Start,
     words: &mut [u64],
 )
-    requires { ⌜ Sweepable (now tape) (now words) × (from ≤ length (now tape)) ⌝ }
+    requires { ⌜ Sweepable (now letters) (start .count) (now words) ⌝ }
     ensures { λ _.
-        ⌜ Fills-on (now (zero .entry)) (now (one .entry)) (now (table .entry)) (now (takers .entry)) (now (tape .entry)) from behind ends
-        (now (words .entry)) (now (words .exit)) ⌝ }
+        ⌜ Sweeps (stored-step (now (zero .entry)) (now (one .entry)) (now (table .entry)) (now (takers .entry))) start
+        (now (letters .entry)) (now (words .entry)) (now (words .exit)) ⌝ }
 {
-    let mut next = behind;
-    let mut last = ends;
-    let mut i = from;
+    let count = start.count;
+    let turned = start.turned;
+    let mut next = start.next;
+    let mut last = start.last;
+    let mut i = letters.len();
     while 0 < i {
         i -= 1;
-        let c = tape[i] as usize;
+        let c = letters[i] as usize;
         let r = step(zero, one, table, takers[c], next, last);
-        words[2 * i] = r.zero;
-        words[2 * i + 1] = r.one;
+        put_words(words, cell_of(count, turned, i), r.zero, r.one);
         next = r.one;
         last = false;
     }
 }
 
-// The state sets of all positions, over the masks of a pattern: from the tape's end to its start, by noted steps as long as pairs are numbered.
+// The same, by noted steps as long as pairs are numbered. Tapes and pages share this loop. The cell of a position is computed for each letter, and
+// that cannot be seen in the time of either (measured).
 fn sweep(
     zero: &[u64; 64],
     one: &[u64; 64],
     table: &[u64; 64],
     takers: &[u64; LETTER_CELLS],
-    end: u64,
-    tape: &[u8],
+    letters: &[u8],
+    start: Start,
     words: &mut [u64],
 )
-    requires { ⌜ Sweepable (now tape) (now words) ⌝ }
+    requires { ⌜ Sweepable (now letters) (start .count) (now words) ⌝ }
     ensures { λ _.
-        ⌜ now (words .exit) ≡
-        in-front (sweep-of (now (zero .entry)) (now (one .entry)) (now (table .entry)) (now (takers .entry)) end (now (tape .entry))) (now (words .entry)) ⌝ }
+        ⌜ Sweeps (stored-step (now (zero .entry)) (now (one .entry)) (now (table .entry)) (now (takers .entry))) start
+        (now (letters .entry)) (now (words .entry)) (now (words .exit)) ⌝ }
 {
-    let n = tape.len();
-    words[2 * n] = 0;
-    words[2 * n + 1] = end;
+    let count = start.count;
+    let turned = start.turned;
+    let notes = start.notes;
     let mut owners = [0u64; COLUMNS];
     let mut pairs = [0u64; PAIR_CELLS];
     let mut ways = [0u8; WAY_CELLS];
-    let mut next = end;
-    let mut last = true;
+    let mut next = start.next;
+    let mut last = start.last;
     let mut pair = 0;
-    let mut i = n;
+    let mut i = letters.len();
     while goes_on(i, pair) {
         i -= 1;
-        let c = tape[i] as usize;
+        let c = letters[i] as usize;
         let k = takers[c];
-        let column = column_of(k);
-        let n = known(&owners, &ways, k, column, pair);
+        let at = cell_of(count, turned, i);
+        let n = known(&owners, &ways, k, column_of(k), pair);
         if n != 0 {
             next = pairs[2 * n + 1];
-            put_words(words, 2 * i, pairs[2 * n], next);
+            put_words(words, at, pairs[2 * n], next);
             last = false;
             pair = n;
             continue;
         }
         let r = step(zero, one, table, k, next, last);
-        pair = learn(&mut owners, &mut pairs, &mut ways, k, pair, FILL_NOTES, r);
-        put_words(words, 2 * i, r.zero, r.one);
+        pair = learn(&mut owners, &mut pairs, &mut ways, k, pair, notes, r);
+        put_words(words, at, r.zero, r.one);
         next = r.one;
         last = false;
     }
-    sweep_on(zero, one, table, takers, tape, i, next, last, words);
+    let rest = Start {
+        next: next,
+        last: last,
+        count: count,
+        turned: turned,
+        notes: notes,
+    };
+    sweep_on(zero, one, table, takers, &letters[..i], rest, words);
 }
 
 // THE FIRST SWEEP: fills words 2i and 2i + 1 with the state sets of position i, flag 0 and flag 1, for each position of the tape, its end
@@ -123,98 +163,16 @@ pub fn fill(p: Pattern, table: &[u64; 64], tape: &[u8], words: &mut [u64])
     let end = put_masks(table, p.count, &mut zero, &mut one);
     let mut takers = [0u64; LETTER_CELLS];
     put_takers(table, p.count, &mut takers);
-    sweep(&zero, &one, table, &takers, end, tape, words);
-}
-
-// The two words of a position, that of flag 0 first.
-fn put_words(words: &mut [u64], at: usize, zero: u64, one: u64)
-    requires { ⌜ at + 1 < length (now words) ⌝ }
-    ensures { λ _. ⌜ Puts-words zero one at (now (words .entry)) (now (words .exit)) ⌝ }
-{
-    words[at] = zero;
-    words[at + 1] = one;
-}
-
-// The rest of a page, from a letter down to its first, without numbers.
-fn sweep_page_on(
-    zero: &[u64; 64],
-    one: &[u64; 64],
-    table: &[u64; 64],
-    takers: &[u64; LETTER_CELLS],
-    page: &[u8],
-    from: usize,
-    start: usize,
-    next: u64,
-    ends: bool,
-    words: &mut [u64],
-)
-    requires { ⌜ Page-left (now page) from start (now words) ⌝ }
-    ensures { λ _.
-        ⌜ Grows-on (stored-step (now (zero .entry)) (now (one .entry)) (now (table .entry)) (now (takers .entry)))
-        (now (page .entry)) from start next ends (now (words .entry)) (now (words .exit)) ⌝ }
-{
-    let mut behind = next;
-    let mut last = ends;
-    let mut at = start;
-    let mut i = from;
-    while 0 < i {
-        i -= 1;
-        let c = page[i] as usize;
-        let w = step(zero, one, table, takers[c], behind, last);
-        put_words(words, at, w.zero, w.one);
-        at += 2;
-        behind = w.one;
-        last = false;
-    }
-}
-
-// The state sets of a page's letters, over the masks of a pattern: from its last letter to its first, behind the words of the letters held.
-// `next` is the flag 1 word behind the page; whether the tape's end lies there is known by the letters held, since a word does not say it.
-fn sweep_page(
-    zero: &[u64; 64],
-    one: &[u64; 64],
-    table: &[u64; 64],
-    takers: &[u64; LETTER_CELLS],
-    page: &[u8],
-    held: usize,
-    next: u64,
-    words: &mut [u64],
-)
-    requires { ⌜ Page-sweepable (now page) held (now words) ⌝ }
-    ensures { λ _.
-        ⌜ Sweeps-page (stored-step (now (zero .entry)) (now (one .entry)) (now (table .entry)) (now (takers .entry)))
-        next held (now (page .entry)) (now (words .entry)) (now (words .exit)) ⌝ }
-{
-    let mut owners = [0u64; COLUMNS];
-    let mut pairs = [0u64; PAIR_CELLS];
-    let mut ways = [0u8; WAY_CELLS];
-    let mut behind = next;
-    let mut last = held == 0;
-    let mut pair = 0;
-    let mut at = 2 * held + 2;
-    let mut i = page.len();
-    while goes_on(i, pair) {
-        i -= 1;
-        let c = page[i] as usize;
-        let k = takers[c];
-        let column = column_of(k);
-        let n = known(&owners, &ways, k, column, pair);
-        if n != 0 {
-            behind = pairs[2 * n + 1];
-            put_words(words, at, pairs[2 * n], behind);
-            at += 2;
-            last = false;
-            pair = n;
-            continue;
-        }
-        let r = step(zero, one, table, k, behind, last);
-        pair = learn(&mut owners, &mut pairs, &mut ways, k, pair, PAGE_NOTES, r);
-        put_words(words, at, r.zero, r.one);
-        at += 2;
-        behind = r.one;
-        last = false;
-    }
-    sweep_page_on(zero, one, table, takers, page, i, at, behind, last, words);
+    let n = tape.len();
+    put_words(words, 2 * n, 0, end);
+    let start = Start {
+        next: end,
+        last: true,
+        count: n,
+        turned: false,
+        notes: FILL_NOTES,
+    };
+    sweep(&zero, &one, table, &takers, tape, start, words);
 }
 
 // GROWING: the words of a page that is put before the letters held, from word 2 × (held + 1) on, those of the page's last letter first. It
@@ -231,7 +189,15 @@ pub fn grow(p: Pattern, table: &[u64; 64], page: &[u8], held: usize, words: &mut
     let mut takers = [0u64; LETTER_CELLS];
     put_takers(table, p.count, &mut takers);
     let next = words[2 * held + 1];
-    sweep_page(&zero, &one, table, &takers, page, held, next, words);
+    let count = held + page.len();
+    let start = Start {
+        next: next,
+        last: held == 0,
+        count: count,
+        turned: true,
+        notes: PAGE_NOTES,
+    };
+    sweep(&zero, &one, table, &takers, page, start, words);
 }
 
 // The two words of the tape's end, from which pages grow. No other word changes.

@@ -11,7 +11,7 @@ use Rattle.bits.specs.Unions.{union}
 use Rattle.semantics.specs.Fronts.{reading}
 use Rattle.table.specs.Cells.{follower-in}
 use Rattle.masks.specs.Leaves.{entry}
-use Rattle.first_sweep.specs.Sweep.{first-one, sweep-of}
+use Rattle.first_sweep.specs.SweepWords.{first-one, sweep-of}
 
 -- a word that is not empty
 abbrev pub has-any : ℕ → Bool

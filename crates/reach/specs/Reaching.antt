@@ -28,8 +28,7 @@ use Rattle.masks.specs.Leaves.{entry}
 use Rattle.masks.specs.Masks.{Masks-of}
 use Rattle.steps.specs.declared.Words.{Words}
 use Rattle.steps.specs.Steps.{step-of}
-use Rattle.first_sweep.specs.Sweep.{first-one, sweep-of}
-use Rattle.first_sweep.specs.SweepWords.{All-letters, sweep-words}
+use Rattle.first_sweep.specs.SweepWords.{first-one, sweep-of, All-letters, sweep-words}
 use Rattle.first_sweep.specs.Fill.{all-letters}
 use Rattle.reach.specs.declared.Located.the-variants.{Positions}
 use Rattle.reach.specs.Locate.{Tells}

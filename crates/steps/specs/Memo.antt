@@ -32,7 +32,7 @@ pub record Learned (zs os ts owners pairs ways : List ℕ) : Type 0 where
   pub pairs-long : length pairs ≡ 80
   pub ways-long : length ways ≡ 2560
   pub few : entry pairs 0 < 40
-  pub leads : (s k : ℕ) → s < 40 → k < 64 → (entry ways (64 * s + k) ≡ 0 → ⊥) → Leads zs os ts owners pairs s k (entry ways (64 * s + k))
+  pub leads : (s k : ℕ) → s < 40 → k < 64 → (entry ways (40 * k + s) ≡ 0 → ⊥) → Leads zs os ts owners pairs s k (entry ways (40 * k + s))
 
 -- where a sweep stands: a number from 1 to 39 is that of a pair whose flag 1 state set is the next position's
 pub record Stands (pairs : List ℕ) (next : ℕ) (last : Bool) (n : ℕ) : Type 0 where
@@ -48,7 +48,7 @@ pub record Learns (owners pairs ways : List ℕ) (takers s : ℕ) (w : Words) (o
 
 -- what `known` gives: 0, or the number noted in the row of pair s and the column k of these leaves
 pub record Knows (owners ways : List ℕ) (takers k s r : ℕ) : Type 0 where
-  pub is : (r ≡ 0 → ⊥) → r ≡ entry ways (64 * s + k)
+  pub is : (r ≡ 0 → ⊥) → r ≡ entry ways (40 * k + s)
   pub owned : (r ≡ 0 → ⊥) → entry owners k ≡ takers
 
 -- what `goes_on` gives: true only if letters are left and n is the number of a pair
@@ -222,7 +222,7 @@ module _ (zs os ts : List ℕ) where
     pairs-long = length-replicate {A = ℕ} 80 0;
     ways-long = length-replicate {A = ℕ} 2560 0;
     few = omega (arith, zeros 80 0);
-    leads = λ s k h j n. absurd (n (zeros 2560 (64 * s + k)));
+    leads = λ s k h j n. absurd (n (zeros 2560 (40 * k + s)));
   }
 
   module _ (owners pairs ways : List ℕ) (l : Learned zs os ts owners pairs ways) where
@@ -232,7 +232,7 @@ module _ (zs os ts : List ℕ) where
       pairs-long = e .long;
       ways-long = l .ways-long;
       few = e .few;
-      leads = λ s k h j n. go s k (entry ways (64 * s + k)) (λ z. n z) (l .leads s k h j n);
+      leads = λ s k h j n. go s k (entry ways (40 * k + s)) (λ z. n z) (l .leads s k h j n);
     }
       where
         go : (s k t : ℕ) → (t ≡ 0 → ⊥) → Leads zs os ts owners pairs s k t → Leads zs os ts owners new s k t
@@ -253,7 +253,7 @@ module _ (zs os ts : List ℕ) where
       pairs-long = l .pairs-long;
       ways-long = l .ways-long;
       few = l .few;
-      leads = λ s j h g n. go s j (entry ways (64 * s + j)) (l .leads s j h g n);
+      leads = λ s j h g n. go s j (entry ways (40 * j + s)) (l .leads s j h g n);
     }
       where
         go : (s j t : ℕ) → Leads zs os ts owners pairs s j t → Leads zs os ts new pairs s j t
@@ -265,7 +265,7 @@ module _ (zs os ts : List ℕ) where
           right = ap (λ x. step-of zs os ts x (entry pairs (2 * s + 1)) false) (c .same j (q .owned)) ∙ q .right;
         }
 
-    pub learned-noted : (s k t : ℕ) → s < 40 → k < 64 → Leads zs os ts owners pairs s k t → Learned zs os ts owners pairs (set ways (64 * s + k) t)
+    pub learned-noted : (s k t : ℕ) → s < 40 → k < 64 → Leads zs os ts owners pairs s k t → Learned zs os ts owners pairs (set ways (40 * k + s) t)
     learned-noted s k t h j q = record {
       owners-long = l .owners-long;
       pairs-long = l .pairs-long;
@@ -274,24 +274,24 @@ module _ (zs os ts : List ℕ) where
       leads = λ x y a b n. go x y a b n (equal s x) (equal k y);
     }
       where
-        room : Learned zs os ts owners pairs ways → 64 * s + k < length ways
+        room : Learned zs os ts owners pairs ways → 40 * k + s < length ways
         room l = omega (arith, l .ways-long)
 
         new : List ℕ
-        new = set ways (64 * s + k) t
+        new = set ways (40 * k + s) t
 
-        here : entry new (64 * s + k) ≡ t
-        here = getD-set-same ways (64 * s + k) t 0 (room l)
+        here : entry new (40 * k + s) ≡ t
+        here = getD-set-same ways (40 * k + s) t 0 (room l)
 
-        apart : (x y : ℕ) → (64 * x + y ≡ 64 * s + k → ⊥) → entry new (64 * x + y) ≡ entry ways (64 * x + y)
-        apart x y d = getD-set-other ways (64 * s + k) (64 * x + y) t 0 d
+        apart : (x y : ℕ) → (40 * y + x ≡ 40 * k + s → ⊥) → entry new (40 * y + x) ≡ entry ways (40 * y + x)
+        apart x y d = getD-set-other ways (40 * k + s) (40 * y + x) t 0 d
 
-        kept : (x y : ℕ) → x < 40 → y < 64 → (entry new (64 * x + y) ≡ 0 → ⊥) → (64 * x + y ≡ 64 * s + k → ⊥)
-            → Leads zs os ts owners pairs x y (entry new (64 * x + y))
+        kept : (x y : ℕ) → x < 40 → y < 64 → (entry new (40 * y + x) ≡ 0 → ⊥) → (40 * y + x ≡ 40 * k + s → ⊥)
+            → Leads zs os ts owners pairs x y (entry new (40 * y + x))
         kept x y a b n d = rw (apart x y d) (l .leads x y a b (λ z. n (apart x y d ∙ z)))
 
-        go : (x y : ℕ) → x < 40 → y < 64 → (entry new (64 * x + y) ≡ 0 → ⊥) → Dec (s ≡ x) → Dec (k ≡ y)
-            → Leads zs os ts owners pairs x y (entry new (64 * x + y))
+        go : (x y : ℕ) → x < 40 → y < 64 → (entry new (40 * y + x) ≡ 0 → ⊥) → Dec (s ≡ x) → Dec (k ≡ y)
+            → Leads zs os ts owners pairs x y (entry new (40 * y + x))
         go x y a b n (yes e) (yes f) = rw (← e, ← f, here) q
         go x y a b n (no e) d = kept x y a b n (λ z. e (omega arith))
         go x y a b n (yes e) (no f) = kept x y a b n (λ z. f (omega arith))
@@ -335,7 +335,7 @@ pub notes-other : (owners new ways : List ℕ) (takers k s t : ℕ) (b : Bool) �
 notes-other owners new ways takers k s t b c = record { learned = λ zs os ts pairs l x y z. learned-claimed zs os ts owners pairs ways l new k takers b c }
 
 pub notes-way : (owners new ways : List ℕ) (takers k s t : ℕ) (b : Bool) → Claims owners new k takers b → b ≡ true → k < 64 → s < 40 → (s ≡ 0 → ⊥) → t < 40
-    → Notes owners ways takers s t new (set ways (64 * s + k) t)
+    → Notes owners ways takers s t new (set ways (40 * k + s) t)
 notes-way owners new ways takers k s t b c e h j some small = record {
   learned = λ zs os ts pairs l x y z.
       learned-noted zs os ts new pairs ways (learned-claimed zs os ts owners pairs ways l new k takers b c) s k t j h (record {

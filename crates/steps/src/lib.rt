@@ -23,7 +23,8 @@ const PAIRS: usize = 40;
 pub const PAIR_CELLS: usize = 80;
 // A column for each leaf.
 pub const COLUMNS: usize = 64;
-// A row of columns for each pair: the number of the pair that the step leads to, or 0 if it is not noted.
+// A column of pairs for each leaf: the number of the pair that the step leads to, or 0 if it is not noted. The cell is PAIRS × column + pair, not
+// by rows: the column is known early and the pair last, so only one sum is left to do when it is (measured).
 pub const WAY_CELLS: usize = 2560;
 
 // The two state sets of a position: with flag 0 and with flag 1.
@@ -183,7 +184,7 @@ fn note(
         return;
     }
     if claims(owners, column, takers) {
-        ways[64 * pair + column] = to as u8;
+        ways[PAIRS * column + pair] = to as u8;
     }
 }
 
@@ -225,7 +226,7 @@ pub fn known(
     if owners[column] != takers {
         return 0;
     }
-    wide(ways[64 * pair + column])
+    wide(ways[PAIRS * column + pair])
 }
 
 // Whether letters are left, and pairs are still numbered.

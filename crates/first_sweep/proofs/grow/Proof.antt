@@ -30,20 +30,24 @@ mul-next-2 c = search needs
 slice-read-next : tie.Need-slice-read-next
 slice-read-next c = search needs
 
-sweep-page-requires : tie.Need-sweep-page-requires
-sweep-page-requires c κs = grow-sweepable _ _ _ _ (c .before .before .before .before .before .before .before .before .before .before .before .before .pre .0)
+add-count : tie.Need-add-count
+add-count c = search needs
+
+sweep-requires : tie.Need-sweep-requires
+sweep-requires c κs = grow-sweepable _ _ _ _ _ (c .before .before .before .before .before .before .before .before .before .before .before .before .pre .0) refl
 
 same-length : tie.Need-same-length
 same-length c = search needs
 
 returns : tie.Need-returns
 returns c =
-    let takers = c .before .before .before .before .before .before .before .before in
+    let swept = c .before .before in
+    let takers = swept .before .before .before .before .before .before in
     let masks = takers .before .before in
     let s = masks .before .before .before .before .before in
-    grown-words _ _ _ _ _ _ _ _ _ _ _ (s .pre .0) (s .pre .1)
+    grown-words _ _ _ _ _ _ _ _ _ _ _ _ _ _ (s .pre .0) (s .pre .1)
     (masks-of-pattern _ (s .pre .0 .rules) _ (s .pre .1) _ _ _ _ (masks .put-masks .ensures) (takers .put-takers .ensures))
-    (c .before .before .sweep-page .ensures) refl
+    refl refl refl (swept .sweep .ensures)
 
 pub grow-spec : {M : Type 1} → statement M
 grow-spec =
@@ -55,6 +59,7 @@ grow-spec =
     add-next
     mul-next-2
     slice-read-next
-    sweep-page-requires
+    add-count
+    sweep-requires
     same-length
     returns)
