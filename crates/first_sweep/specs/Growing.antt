@@ -71,10 +71,11 @@ laid-grows f next last held count k (c ∷ w) old e =
 -- so that the buffer holds the words of the definition, from the flag 1 word of the letters held
 pub grown-words :
     (p : Pattern) (next held count : ℕ) (last : Bool) (notes : ℕ) (page old new zs os ts ks : List ℕ) (e : ℕ) → Growable p page held old → Holds p ts
-    → Masks-of (root p) (p .count) zs os ks e → count ≡ held + length page → next ≡ getD old (2 * held + 1) 0 → last ≡ eqb held 0
+    → Masks-of (root p) (p .count) zs os ks e
     → Sweeps (stored-step zs os ts ks) (record { next = next; last = last; count = count; turned = true; notes = notes }) page old new
+    → count ≡ held + length page → next ≡ getD old (2 * held + 1) 0 → last ≡ eqb held 0
     → new ≡ sets old (2 * (held + 1)) (grown p (getD old (2 * held + 1) 0) (eqb held 0) page)
-grown-words p next held count last notes page old new zs os ts ks e g h m k n l w =
+grown-words p next held count last notes page old new zs os ts ks e g h m w k n l =
     w .is ∙ laid-grows (stored-step zs os ts ks) next last held count 0 page old (omega arith)
     ∙ ap (sets old (2 * (held + 1)))
     (ap₂ (λ x y. grown-by (stored-step zs os ts ks) x y page) n l

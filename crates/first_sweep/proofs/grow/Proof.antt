@@ -47,7 +47,7 @@ returns c =
     let s = masks .before .before .before .before .before in
     grown-words _ _ _ _ _ _ _ _ _ _ _ _ _ _ (s .pre .0) (s .pre .1)
     (masks-of-pattern _ (s .pre .0 .rules) _ (s .pre .1) _ _ _ _ (masks .put-masks .ensures) (takers .put-takers .ensures))
-    refl refl refl (swept .sweep .ensures)
+    (swept .sweep .ensures) refl refl refl
 
 pub grow-spec : {M : Type 1} → statement M
 grow-spec =
