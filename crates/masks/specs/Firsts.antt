@@ -63,7 +63,7 @@ pub record First-of (t : Tree) (f : First) : Type 0 where
 pub first-same : {x y : ℕ} {u v : Bool} → x ≡ y → u ≡ v → _≡_ {A = First} (record { leaves = x; nullable = u }) (record { leaves = y; nullable = v })
 first-same e f = ap₂ (λ a b. record { leaves = a; nullable = b }) e f
 
--- what is behind counts where the node comes through
+-- what follows counts where the node is nullable
 pub nowhere-through : (t : Tree) (v : Bool) → reach nowhere t v ≡ (reach nowhere t true && v)
 nowhere-through t true = sym (and-true (reach nowhere t true))
 nowhere-through t false = reach-none t ∙ sym (and-false (reach nowhere t true))
@@ -90,12 +90,12 @@ single-bit i y = test-single i true y ∙ and-true (eqb i y) ∙ eqb-swap i y
 pub nothing-bit : (y : ℕ) → test-bit 0 y ≡ false
 nothing-bit y = test-small 0 y (pow-pos y)
 
--- what a node with these parts comes to behind itself, by what follows it
-pub behind-bit :
+-- the leaves that are reached through a node: its first and, where it is nullable, what follows
+pub follow-bit :
     (g : ℕ → Bool) (t : Tree) (f : First) (k y : ℕ) (v : Bool) → test-bit (f .leaves) y ≡ reach g t false → f .nullable ≡ reach nowhere t true
     → test-bit k y ≡ v
     → test-bit (bitOr (f .leaves) (pick (f .nullable) k)) y ≡ reach g t v
-behind-bit g t f k y v a n b = joined-bit (f .leaves) k y (f .nullable) ∙ ap₂ (λ x z. x || z) a (ap₂ (λ x z. x && z) n b) ∙ sym (reach-through g t v)
+follow-bit g t f k y v a n b = joined-bit (f .leaves) k y (f .nullable) ∙ ap₂ (λ x z. x || z) a (ap₂ (λ x z. x && z) n b) ∙ sym (reach-through g t v)
 
 -- one law for each kind of node
 leaf-first-of : (m : Label) (f : ℕ → Tree) (x : Leaf) → First-of (made m f (Leaf-node x)) (leaf-first (m .index) x)
@@ -105,7 +105,7 @@ leaf-first-of m f (Range a b) = record { leaves = single-bit (m .index); nullabl
 
 in-turn-of : (m : Label) (t u : Tree) (a b : First) → First-of t a → First-of u b → First-of (seq m t u) (in-turn a b)
 in-turn-of m t u a b f g = record {
-  leaves = λ y. behind-bit (eqb y) t a (b .leaves) y (reach (eqb y) u false) (f .leaves y) (f .nullable) (g .leaves y);
+  leaves = λ y. follow-bit (eqb y) t a (b .leaves) y (reach (eqb y) u false) (f .leaves y) (f .nullable) (g .leaves y);
   nullable = ap₂ (λ x z. x && z) (f .nullable) (g .nullable) ∙ sym (nowhere-through t (reach nowhere u true));
 }
 

@@ -1,5 +1,5 @@
--- FOLLOW, Glushkov's set, by a loop over the lines from the last to the first: the leaves that are come to behind a node by empty steps, with flag 0 and with
--- flag 1, and whether the end is with flag 1. A line hands on to its parts.
+-- FOLLOW, Glushkov's set, by a loop over the lines from the last to the first: the leaves that can be reached after a node by empty steps, with flag 0 and
+-- with flag 1, and whether the end is with flag 1. A line hands on to its parts.
 use mathlib.Core.Path.{_≡_, refl, sym, ap, ap₂, subst, _∙_}
 use mathlib.Core.Bool.{Bool, true, false, _&&_, _||_}
 use mathlib.Core.List.{List}
@@ -24,14 +24,14 @@ use Rattle.masks.specs.declared.firsts.First.{First}
 use Rattle.masks.specs.declared.follows.Follow.{Follow}
 use Rattle.masks.specs.Closure.{passes, nowhere, reach-none}
 use Rattle.bits.specs.Unions.{pick}
-use Rattle.masks.specs.Firsts.{first-at, Firsts, nothing-bit, behind-bit, nowhere-through}
+use Rattle.masks.specs.Firsts.{first-at, Firsts, nothing-bit, follow-bit, nowhere-through}
 
 -- what follows the root: the end
 abbrev pub end-follow : Follow
 end-follow = record { zero = 0; one = 0; end = true }
 
 -- what follows a line, from two arrays: in the first, cell 2l is that of flag 0, and cell 2l + 1 that of flag 1
-abbrev pub follow-at : (behind : List ℕ) → (ends : List Bool) → ℕ → Follow
+abbrev pub follow-at : (follows : List ℕ) → (ends : List Bool) → ℕ → Follow
 follow-at ks es l = record { zero = getD ks (2 * l) 0; one = getD ks (2 * l + 1) 0; end = getD es l false }
 
 -- what follows the first part of a sequence: the second, and what follows that where it is nullable
@@ -65,12 +65,12 @@ follow-same e f g = rw (e, f, g) refl
 
 -- ---- the two arrays
 pub record Sized (ks : List ℕ) (es : List Bool) : Type 0 where
-  pub behind : length ks ≡ 128
+  pub follows : length ks ≡ 128
   pub ends : length es ≡ 64
 
 -- what follows line a is stored
 pub record Stored (ks : List ℕ) (es : List Bool) (a : ℕ) (v : Follow) (ys : List ℕ) (fs : List Bool) : Type 0 where
-  pub behind : ys ≡ set (set ks (2 * a) (v .zero)) (2 * a + 1) (v .one)
+  pub follows : ys ≡ set (set ks (2 * a) (v .zero)) (2 * a + 1) (v .one)
   pub ends : fs ≡ set es a (v .end)
 
 module _ {ks : List ℕ} {es : List Bool} {a : ℕ} {v : Follow} {ys : List ℕ} {fs : List Bool} (s : Stored ks es a v ys fs) where
@@ -81,20 +81,20 @@ module _ {ks : List ℕ} {es : List Bool} {a : ℕ} {v : Follow} {ys : List ℕ}
   unfolding zeros
   stored-stores z h = record {
     here = follow-same
-        (ap (λ x. getD x (2 * a) 0) (s .behind) ∙ getD-set-other zeros (2 * a + 1) (2 * a) (v .one) 0 (λ q. omega arith)
-        ∙ getD-set-same ks (2 * a) (v .zero) 0 (omega (arith, z .behind)))
-        (ap (λ x. getD x (2 * a + 1) 0) (s .behind) ∙ getD-set-same zeros (2 * a + 1) (v .one) 0 (simp length-set (omega (arith, z .behind))))
+        (ap (λ x. getD x (2 * a) 0) (s .follows) ∙ getD-set-other zeros (2 * a + 1) (2 * a) (v .one) 0 (λ q. omega arith)
+        ∙ getD-set-same ks (2 * a) (v .zero) 0 (omega (arith, z .follows)))
+        (ap (λ x. getD x (2 * a + 1) 0) (s .follows) ∙ getD-set-same zeros (2 * a + 1) (v .one) 0 (simp length-set (omega (arith, z .follows))))
         (ap (λ x. getD x a false) (s .ends) ∙ getD-set-same es a (v .end) false (omega (arith, z .ends)));
     other = λ l n. follow-same
-        (ap (λ x. getD x (2 * l) 0) (s .behind) ∙ getD-set-other zeros (2 * a + 1) (2 * l) (v .one) 0 (λ q. omega arith)
+        (ap (λ x. getD x (2 * l) 0) (s .follows) ∙ getD-set-other zeros (2 * a + 1) (2 * l) (v .one) 0 (λ q. omega arith)
         ∙ getD-set-other ks (2 * a) (2 * l) (v .zero) 0 (λ q. n (omega arith)))
-        (ap (λ x. getD x (2 * l + 1) 0) (s .behind) ∙ getD-set-other zeros (2 * a + 1) (2 * l + 1) (v .one) 0 (λ q. n (omega arith))
+        (ap (λ x. getD x (2 * l + 1) 0) (s .follows) ∙ getD-set-other zeros (2 * a + 1) (2 * l + 1) (v .one) 0 (λ q. n (omega arith))
         ∙ getD-set-other ks (2 * a) (2 * l + 1) (v .zero) 0 (λ q. omega arith))
         (ap (λ x. getD x l false) (s .ends) ∙ getD-set-other es a l (v .end) false n);
   }
 
   pub stored-sized : Sized ks es → Sized ys fs
-  stored-sized z = record { behind = rw (s .behind) (simp length-set (z .behind)); ends = rw (s .ends) (simp length-set (z .ends)) }
+  stored-sized z = record { follows = rw (s .follows) (simp length-set (z .follows)); ends = rw (s .ends) (simp length-set (z .ends)) }
 
 -- line i has handed on to its parts: to the second what follows the line, then to the first; b is the first of the second part
 pub record Handed (i : ℕ) (k : Node) (b : First) (ks : List ℕ) (es : List Bool) (ys : List ℕ) (fs : List Bool) : Type 0 where
@@ -143,9 +143,9 @@ module _ {f : ℕ → Line} {n : ℕ} (whole : Rooted f n) where
           let g = firsts .right y (omega arith) in (
             record {
               zeros =
-                  λ z. behind-bit (eqb z) (tree-of f y) (first-at xs ns y) (v .zero) z (passes false (eqb z) false s) (g .leaves z) (g .nullable)
+                  λ z. follow-bit (eqb z) (tree-of f y) (first-at xs ns y) (v .zero) z (passes false (eqb z) false s) (g .leaves z) (g .nullable)
                   (q .zeros z);
-              ones = λ z. behind-bit (eqb z) (tree-of f y) (first-at xs ns y) (v .one) z (passes true (eqb z) false s) (g .leaves z) (g .nullable) (q .ones z);
+              ones = λ z. follow-bit (eqb z) (tree-of f y) (first-at xs ns y) (v .one) z (passes true (eqb z) false s) (g .leaves z) (g .nullable) (q .ones z);
               ends = ap₂ (λ a b. a && b) (g .nullable) (q .ends) ∙ sym (nowhere-through (tree-of f y) (passes true nowhere true s));
             },
             record { zeros = q .zeros; ones = q .ones; ends = q .ends },

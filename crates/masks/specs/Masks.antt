@@ -24,7 +24,7 @@ use Rattle.masks.specs.Closure.{passes, reaches, nowhere, leaf-mask, end
 use Rattle.bits.specs.Unions.{pick}
 use Rattle.masks.specs.Planting.{same-node, line-place}
 use Rattle.masks.specs.Leaves.{takes, takers, entry}
-use Rattle.masks.specs.Firsts.{first-at, Firsts, behind-bit, nowhere-through}
+use Rattle.masks.specs.Firsts.{first-at, Firsts, follow-bit, nowhere-through}
 use Rattle.masks.specs.Follows.{follow-at, Follow-of, Down, follow-given}
 
 -- ---- arrays whose cells below i are told by a function
@@ -32,8 +32,8 @@ pub record Filled {A : Type 0} (d : A) (f : ℕ → A) (size i : ℕ) (xs : List
   pub long : length xs ≡ size
   pub cells : (l : ℕ) → l < i → getD xs l d ≡ f l
 
--- ---- rows: for each node the leaves that it comes to with a flag, those inside it and those behind it
-abbrev pub row : (firsts : List ℕ) → (nulls : List Bool) → (behind : List ℕ) → (flag : ℕ) → ℕ → ℕ
+-- ---- rows: for each node the leaves that it reaches with a flag, those of its first and, where it is nullable, those of its follow
+abbrev pub row : (firsts : List ℕ) → (nulls : List Bool) → (follows : List ℕ) → (flag : ℕ) → ℕ → ℕ
 row xs ns ks b l = bitOr (entry xs l) (pick (getD ns l false) (entry ks (2 * l + b)))
 
 -- whether a node comes to the end
@@ -99,19 +99,19 @@ module _ {f : ℕ → Line} {n : ℕ} (whole : Rooted f n) (good : Planted (tree
       (b : Bool) (l y k : ℕ) (h : l < n) → test-bit k y ≡ passes b (eqb y) false (after l h .place)
       → (s : Location (tree-of f (n - 1)) (tree-of f l)) → test-bit (bitOr (entry xs l) (pick (getD ns l false) k)) y ≡ reaches b (eqb y) false (tree-of f l) s
   row-reaches b l y k h e s =
-      behind-bit (eqb y) (tree-of f l) (first-at xs ns l) k y (passes b (eqb y) false (after l h .place)) (firsts .right l h .leaves y)
+      follow-bit (eqb y) (tree-of f l) (first-at xs ns l) k y (passes b (eqb y) false (after l h .place)) (firsts .right l h .leaves y)
       (firsts .right l h .nullable) e
       ∙ same-node good (reaches b (eqb y) false) (tree-of f l) (tree-of f l) (after l h .place) s refl
 
-  behind-says : (b : Bool) (l y : ℕ) (h : l < n) → test-bit (entry ks (2 * l + bit b)) y ≡ passes b (eqb y) false (after l h .place)
-  behind-says false l y h = let e : 2 * l + 0 ≡ 2 * l = omega arith in ap (λ x. test-bit (entry ks x) y) e ∙ after l h .right .zeros y
-  behind-says true l y h = after l h .right .ones y
+  follow-says : (b : Bool) (l y : ℕ) (h : l < n) → test-bit (entry ks (2 * l + bit b)) y ≡ passes b (eqb y) false (after l h .place)
+  follow-says false l y h = let e : 2 * l + 0 ≡ 2 * l = omega arith in ap (λ x. test-bit (entry ks x) y) e ∙ after l h .right .zeros y
+  follow-says true l y h = after l h .right .ones y
 
   pub column-says : (b : Bool) (x : ℕ) → column n (row xs ns ks (bit b)) x ≡ leaf-mask (tree-of f (n - 1)) n b x
   unfolding leaf-mask
   column-says b x =
       word-by-lines whole good (reaches b (eqb x) false) (λ l. test-bit (row xs ns ks (bit b) l) x)
-      (λ l h s. row-reaches b l x (entry ks (2 * l + bit b)) h (behind-says b l x h) s)
+      (λ l h s. row-reaches b l x (entry ks (2 * l + bit b)) h (follow-says b l x h) s)
 
   pub row-ends : word-of n (comes-to-end ns es) ≡ end-mask (tree-of f (n - 1)) n true
   unfolding end-mask

@@ -8,6 +8,7 @@ use native.Mathlib.Omega.{arith}
 use lib.Dec.{eqb, ltb}
 use borrow.Author.Tests.{ltb-true, lt-ltb}
 use Rattle.syntax.specs.Tree.{Tree, nothing, letter, range, seq, alt, star, index}
+use Rattle.syntax.specs.Subpattern.{stands}
 use Rattle.syntax.specs.TreeLaws.{occurrences}
 use Rattle.syntax.specs.TreeLaws as tree-laws
 use Rattle.bits.specs.Bits.{test-bit, word-of}
@@ -16,25 +17,17 @@ use Rattle.semantics.specs.Basics.{or-left, or-right, or-cases, not-both, eqb-s
 use Rattle.semantics.specs.Automaton.{Location, top, fst, snd, lft, rgt, rnd}
 use Rattle.table.specs.Cells.{Node-at}
 
--- whether an index stands in a tree
-abbrev pub has : Tree → ℕ → Bool
-has (nothing m) l = eqb (m .index) l
-has (letter m c) l = eqb (m .index) l
-has (range m a e) l = eqb (m .index) l
-has (seq m t u) l = eqb (m .index) l || (has t l || has u l)
-has (alt m t u) l = eqb (m .index) l || (has t l || has u l)
-has (star m again t) l = eqb (m .index) l || has t l
-
+-- an index that does not stand in a tree
 abbrev pub Out : Tree → ℕ → Type 0
-Out t l = has t l ≡ false
+Out t l = stands t l ≡ false
 
 -- no index twice
 abbrev pub Apart : Tree → Type 0
 Apart (nothing m) = Unit {0}
 Apart (letter m c) = Unit {0}
 Apart (range m a e) = Unit {0}
-Apart (seq m t u) = Out t (m .index) × Out u (m .index) × ((l : ℕ) → has t l ≡ true → Out u l) × Apart t × Apart u
-Apart (alt m t u) = Out t (m .index) × Out u (m .index) × ((l : ℕ) → has t l ≡ true → Out u l) × Apart t × Apart u
+Apart (seq m t u) = Out t (m .index) × Out u (m .index) × ((l : ℕ) → stands t l ≡ true → Out u l) × Apart t × Apart u
+Apart (alt m t u) = Out t (m .index) × Out u (m .index) × ((l : ℕ) → stands t l ≡ true → Out u l) × Apart t × Apart u
 Apart (star m again t) = Out t (m .index) × Apart t
 
 -- a predicate on the nodes of the tree `root`
@@ -60,27 +53,27 @@ or-no true b h = absurd (true≢false h)
 or-no false b h = (refl, h)
 
 -- an index inside is not that of the node above
-other : (t : Tree) (m l : ℕ) → Out t m → has t l ≡ true → eqb m l ≡ false
+other : (t : Tree) (m l : ℕ) → Out t m → stands t l ≡ true → eqb m l ≡ false
 other t m l o h = go (eqb m l) refl
   where
     go : (a : Bool) → eqb m l ≡ a → a ≡ false
-    go true e = absurd (not-both (ap (has t) (eqb-eq m l e) ∙ h) o)
+    go true e = absurd (not-both (ap (stands t) (eqb-eq m l e) ∙ h) o)
     go false e = refl
 
-swap : (t u : Tree) → ((l : ℕ) → has t l ≡ true → Out u l) → (l : ℕ) → has u l ≡ true → Out t l
-swap t u d l h = go (has t l) refl
+swap : (t u : Tree) → ((l : ℕ) → stands t l ≡ true → Out u l) → (l : ℕ) → stands u l ≡ true → Out t l
+swap t u d l h = go (stands t l) refl
   where
-    go : (a : Bool) → has t l ≡ a → a ≡ false
+    go : (a : Bool) → stands t l ≡ a → a ≡ false
     go true e = absurd (not-both h (d l e))
     go false e = refl
 
-pub has-own : (t : Tree) → has t (index t) ≡ true
-has-own (nothing m) = eqb-self (m .index)
-has-own (letter m c) = eqb-self (m .index)
-has-own (range m a e) = eqb-self (m .index)
-has-own (seq m t u) = or-left _ (eqb-self (m .index))
-has-own (alt m t u) = or-left _ (eqb-self (m .index))
-has-own (star m again t) = or-left _ (eqb-self (m .index))
+pub stands-own : (t : Tree) → stands t (index t) ≡ true
+stands-own (nothing m) = eqb-self (m .index)
+stands-own (letter m c) = eqb-self (m .index)
+stands-own (range m a e) = eqb-self (m .index)
+stands-own (seq m t u) = or-left _ (eqb-self (m .index))
+stands-own (alt m t u) = or-left _ (eqb-self (m .index))
+stands-own (star m again t) = or-left _ (eqb-self (m .index))
 
 module _ {root : Tree} (f : Predicate root) where
   -- an index outside has bit 0
@@ -89,15 +82,15 @@ module _ {root : Tree} (f : Predicate root) where
   shut (letter m c) s l h = rw h
   shut (range m a e) s l h = rw h
   shut (seq m t u) s l h =
-      let p = or-no (eqb (m .index) l) (has t l || has u l) h in
-      let q = or-no (has t l) (has u l) (p .1) in
+      let p = or-no (eqb (m .index) l) (stands t l || stands u l) h in
+      let q = or-no (stands t l) (stands u l) (p .1) in
       rw (p .0, shut t (fst s) l (q .0), shut u (snd s) l (q .1))
   shut (alt m t u) s l h =
-      let p = or-no (eqb (m .index) l) (has t l || has u l) h in
-      let q = or-no (has t l) (has u l) (p .1) in
+      let p = or-no (eqb (m .index) l) (stands t l || stands u l) h in
+      let q = or-no (stands t l) (stands u l) (p .1) in
       rw (p .0, shut t (lft s) l (q .0), shut u (rgt s) l (q .1))
   shut (star m again t) s l h =
-      let p = or-no (eqb (m .index) l) (has t l) h in
+      let p = or-no (eqb (m .index) l) (stands t l) h in
       rw (p .0, shut t (rnd s) l (p .1))
 
   -- the bit of the node itself
@@ -119,63 +112,63 @@ module _ {root : Tree} (whole : Apart root) where
   apart-at (rnd s) = (apart-at s) .1
 
   -- the whole says, at the indices of a part, what the part says
-  part : (f : Predicate root) {t : Tree} (s : Location root t) (l : ℕ) → has t l ≡ true → said f root top l ≡ said f t s l
+  part : (f : Predicate root) {t : Tree} (s : Location root t) (l : ℕ) → stands t l ≡ true → said f root top l ≡ said f t s l
   part f top l h = refl
   part f (fst {l = m} {t = t} {u = u} s) l h =
       let a = apart-at s in
-      part f s l (or-right (eqb (m .index) l) (or-left (has u l) h)) ∙ rw (other t (m .index) l (a .0) h, shut f u (snd s) l (a .2 l h)) (or-false _)
+      part f s l (or-right (eqb (m .index) l) (or-left (stands u l) h)) ∙ rw (other t (m .index) l (a .0) h, shut f u (snd s) l (a .2 l h)) (or-false _)
   part f (snd {l = m} {t = t} {u = u} s) l h =
       let a = apart-at s in
-      part f s l (or-right (eqb (m .index) l) (or-right (has t l) h)) ∙ rw (other u (m .index) l (a .1) h, shut f t (fst s) l (swap t u (a .2) l h)) refl
+      part f s l (or-right (eqb (m .index) l) (or-right (stands t l) h)) ∙ rw (other u (m .index) l (a .1) h, shut f t (fst s) l (swap t u (a .2) l h)) refl
   part f (lft {l = m} {t = t} {u = u} s) l h =
       let a = apart-at s in
-      part f s l (or-right (eqb (m .index) l) (or-left (has u l) h)) ∙ rw (other t (m .index) l (a .0) h, shut f u (rgt s) l (a .2 l h)) (or-false _)
+      part f s l (or-right (eqb (m .index) l) (or-left (stands u l) h)) ∙ rw (other t (m .index) l (a .0) h, shut f u (rgt s) l (a .2 l h)) (or-false _)
   part f (rgt {l = m} {t = t} {u = u} s) l h =
       let a = apart-at s in
-      part f s l (or-right (eqb (m .index) l) (or-right (has t l) h)) ∙ rw (other u (m .index) l (a .1) h, shut f t (lft s) l (swap t u (a .2) l h)) refl
+      part f s l (or-right (eqb (m .index) l) (or-right (stands t l) h)) ∙ rw (other u (m .index) l (a .1) h, shut f t (lft s) l (swap t u (a .2) l h)) refl
   part f (rnd {l = m} {t = t} s) l h =
       let a = apart-at s in
       part f s l (or-right (eqb (m .index) l) h) ∙ rw (other t (m .index) l (a .0) h) refl
 
   pub said-at : (f : Predicate root) (t : Tree) (s : Location root t) → said f root top (index t) ≡ f t s
-  said-at f t s = part f s (index t) (has-own t) ∙ own f t s (apart-at s)
+  said-at f t s = part f s (index t) (stands-own t) ∙ own f t s (apart-at s)
 
 -- ---- a tree in which every index below n stands once, and no other
 
 pub record Planted (root : Tree) (n : ℕ) : Type 0 where
   pub apart : Apart root
-  pub under : (l : ℕ) → has root l ≡ true → l < n
-  pub whole : (l : ℕ) → l < n → has root l ≡ true
+  pub under : (l : ℕ) → stands root l ≡ true → l < n
+  pub whole : (l : ℕ) → l < n → stands root l ≡ true
 
-pub find : {root : Tree} (t : Tree) → Location root t → (l : ℕ) → has t l ≡ true → Node-at root l
+pub find : {root : Tree} (t : Tree) → Location root t → (l : ℕ) → stands t l ≡ true → Node-at root l
 find (nothing m) s l h = record { tree = nothing m; place = s; is = eqb-eq (m .index) l h }
 find (letter m c) s l h = record { tree = letter m c; place = s; is = eqb-eq (m .index) l h }
 find (range m a e) s l h = record { tree = range m a e; place = s; is = eqb-eq (m .index) l h }
 find (seq m t u) s l h =
     ⊎-elim (λ e. record { tree = seq m t u; place = s; is = eqb-eq (m .index) l e })
-    (λ o. ⊎-elim (λ e. find t (fst s) l e) (λ e. find u (snd s) l (e .1)) (or-cases (has t l) (has u l) (o .1)))
-    (or-cases (eqb (m .index) l) (has t l || has u l) h)
+    (λ o. ⊎-elim (λ e. find t (fst s) l e) (λ e. find u (snd s) l (e .1)) (or-cases (stands t l) (stands u l) (o .1)))
+    (or-cases (eqb (m .index) l) (stands t l || stands u l) h)
 find (alt m t u) s l h =
     ⊎-elim (λ e. record { tree = alt m t u; place = s; is = eqb-eq (m .index) l e })
-    (λ o. ⊎-elim (λ e. find t (lft s) l e) (λ e. find u (rgt s) l (e .1)) (or-cases (has t l) (has u l) (o .1)))
-    (or-cases (eqb (m .index) l) (has t l || has u l) h)
+    (λ o. ⊎-elim (λ e. find t (lft s) l e) (λ e. find u (rgt s) l (e .1)) (or-cases (stands t l) (stands u l) (o .1)))
+    (or-cases (eqb (m .index) l) (stands t l || stands u l) h)
 find (star m again t) s l h =
     ⊎-elim (λ e. record { tree = star m again t; place = s; is = eqb-eq (m .index) l e })
     (λ o. find t (rnd s) l (o .1))
-    (or-cases (eqb (m .index) l) (has t l) h)
+    (or-cases (eqb (m .index) l) (stands t l) h)
 
 -- an index above a part stands above what the part holds
-inside : {root t : Tree} (s : Location root t) (l : ℕ) → has t l ≡ true → has root l ≡ true
+inside : {root t : Tree} (s : Location root t) (l : ℕ) → stands t l ≡ true → stands root l ≡ true
 inside top l h = h
-inside (fst {l = m} {t = t} {u = u} s) l h = inside s l (or-right (eqb (m .index) l) (or-left (has u l) h))
-inside (snd {l = m} {t = t} {u = u} s) l h = inside s l (or-right (eqb (m .index) l) (or-right (has t l) h))
-inside (lft {l = m} {t = t} {u = u} s) l h = inside s l (or-right (eqb (m .index) l) (or-left (has u l) h))
-inside (rgt {l = m} {t = t} {u = u} s) l h = inside s l (or-right (eqb (m .index) l) (or-right (has t l) h))
+inside (fst {l = m} {t = t} {u = u} s) l h = inside s l (or-right (eqb (m .index) l) (or-left (stands u l) h))
+inside (snd {l = m} {t = t} {u = u} s) l h = inside s l (or-right (eqb (m .index) l) (or-right (stands t l) h))
+inside (lft {l = m} {t = t} {u = u} s) l h = inside s l (or-right (eqb (m .index) l) (or-left (stands u l) h))
+inside (rgt {l = m} {t = t} {u = u} s) l h = inside s l (or-right (eqb (m .index) l) (or-right (stands t l) h))
 inside (rnd {l = m} {t = t} s) l h = inside s l (or-right (eqb (m .index) l) h)
 
 module _ {root : Tree} {n : ℕ} (good : Planted root n) where
   pub index-lt : {t : Tree} (s : Location root t) → index t < n
-  index-lt {t} s = good .under (index t) (inside s (index t) (has-own t))
+  index-lt {t} s = good .under (index t) (inside s (index t) (stands-own t))
 
   pub node-at : (l : ℕ) → l < n → Node-at root l
   node-at l h = find root top l (good .whole l h)
@@ -223,33 +216,33 @@ occurs-none (seq m t u) l h = rw (bit-no (eqb (m .index) l) (omega arith), occur
 occurs-none (alt m t u) l h = rw (bit-no (eqb (m .index) l) (omega arith), occurs-none t l (omega arith), occurs-none u l (omega arith)) refl
 occurs-none (star m again t) l h = rw (bit-no (eqb (m .index) l) (omega arith), occurs-none t l (omega arith)) refl
 
-none-occurs : (t : Tree) (l : ℕ) → has t l ≡ false → occurrences t l ≡ 0
+none-occurs : (t : Tree) (l : ℕ) → stands t l ≡ false → occurrences t l ≡ 0
 none-occurs (nothing m) l h = ap tree-laws.bit h
 none-occurs (letter m c) l h = ap tree-laws.bit h
 none-occurs (range m a e) l h = ap tree-laws.bit h
 none-occurs (seq m t u) l h =
-    let p = or-no (eqb (m .index) l) (has t l || has u l) h in
-    let q = or-no (has t l) (has u l) (p .1) in
+    let p = or-no (eqb (m .index) l) (stands t l || stands u l) h in
+    let q = or-no (stands t l) (stands u l) (p .1) in
     rw (p .0, none-occurs t l (q .0), none-occurs u l (q .1)) refl
 none-occurs (alt m t u) l h =
-    let p = or-no (eqb (m .index) l) (has t l || has u l) h in
-    let q = or-no (has t l) (has u l) (p .1) in
+    let p = or-no (eqb (m .index) l) (stands t l || stands u l) h in
+    let q = or-no (stands t l) (stands u l) (p .1) in
     rw (p .0, none-occurs t l (q .0), none-occurs u l (q .1)) refl
 none-occurs (star m again t) l h =
-    let p = or-no (eqb (m .index) l) (has t l) h in
+    let p = or-no (eqb (m .index) l) (stands t l) h in
     rw (p .0, none-occurs t l (p .1)) refl
 
-has-occurs : (t : Tree) (l : ℕ) → has t l ≡ true → 1 ≤ occurrences t l
-has-occurs t l h = go (occurrences t l) refl
+stands-occurs : (t : Tree) (l : ℕ) → stands t l ≡ true → 1 ≤ occurrences t l
+stands-occurs t l h = go (occurrences t l) refl
   where
     go : (n : ℕ) → occurrences t l ≡ n → 1 ≤ n
     go zero e = absurd (not-both h (occurs-none t l e))
     go (suc n) e = omega arith
 
-occurs-has : (t : Tree) (l : ℕ) → 1 ≤ occurrences t l → has t l ≡ true
-occurs-has t l h = go (has t l) refl
+occurs-stands : (t : Tree) (l : ℕ) → 1 ≤ occurrences t l → stands t l ≡ true
+occurs-stands t l h = go (stands t l) refl
   where
-    go : (b : Bool) → has t l ≡ b → b ≡ true
+    go : (b : Bool) → stands t l ≡ b → b ≡ true
     go true e = refl
     go false e = absurd (omega (arith, none-occurs t l e))
 
@@ -263,14 +256,14 @@ apart-of (range m a e) h = tt
 apart-of (seq m t u) h = (
   occurs-none t (m .index) (omega (arith, h (m .index), own-once (m .index))),
   occurs-none u (m .index) (omega (arith, h (m .index), own-once (m .index))),
-  λ l o. occurs-none u l (omega (arith, h l, has-occurs t l o)),
+  λ l o. occurs-none u l (omega (arith, h l, stands-occurs t l o)),
   apart-of t (λ l. omega (arith, h l)),
   apart-of u (λ l. omega (arith, h l)),
 )
 apart-of (alt m t u) h = (
   occurs-none t (m .index) (omega (arith, h (m .index), own-once (m .index))),
   occurs-none u (m .index) (omega (arith, h (m .index), own-once (m .index))),
-  λ l o. occurs-none u l (omega (arith, h l, has-occurs t l o)),
+  λ l o. occurs-none u l (omega (arith, h l, stands-occurs t l o)),
   apart-of t (λ l. omega (arith, h l)),
   apart-of u (λ l. omega (arith, h l)),
 )
@@ -279,6 +272,6 @@ apart-of (star m again t) h = (occurs-none t (m .index) (omega (arith, h (m .ind
 pub planted : (t : Tree) (n : ℕ) → ((l : ℕ) → occurrences t l ≡ tree-laws.bit (ltb l n)) → Planted t n
 planted t n h = record {
   apart = apart-of t (λ l. omega (arith, h l, bit-le (ltb l n)));
-  under = λ l o. ltb-true l n (bit-yes (ltb l n) (omega (arith, h l, has-occurs t l o)));
-  whole = λ l o. occurs-has t l (omega (arith, h l, ap tree-laws.bit (lt-ltb l n o)));
+  under = λ l o. ltb-true l n (bit-yes (ltb l n) (omega (arith, h l, stands-occurs t l o)));
+  whole = λ l o. occurs-stands t l (omega (arith, h l, ap tree-laws.bit (lt-ltb l n o)));
 }

@@ -1,4 +1,4 @@
-// First and nullable, Glushkov's sets of a node: the leaves that it comes to by empty steps inside itself, and whether it comes through.
+// First and nullable, Glushkov's sets of a node: the leaves inside it that can be reached by empty steps, and whether empty steps lead through it.
 // They go up: a line's are made of its parts'.
 ghost use mathlib.Core.Path.{_≡_};
 ghost use Prim.Native.Nat.{_≤_, _<_};
@@ -41,7 +41,7 @@ fn leaf_first(leaf: Leaf, i: usize) -> First
     }
 }
 
-// One part after the other: the second counts where the first can be empty.
+// One part after the other: the second counts where the first is nullable.
 fn in_turn(a: First, b: First) -> First
     ensures { λ r. ⌜ r ≡ in-turn a b ⌝ }
 {

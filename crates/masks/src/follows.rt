@@ -1,4 +1,4 @@
-// Follow, Glushkov's set of a node: the leaves that are come to behind it by empty steps. It goes down: a line hands on to its parts.
+// Follow, Glushkov's set of a node: the leaves that can be reached after it by empty steps. It goes down: a line hands on to its parts.
 ghost use mathlib.Core.Path.{_≡_};
 ghost use Prim.Native.Nat.{_<_};
 ghost use Rattle.syntax.specs.TreeLaws.{Below};
@@ -15,14 +15,14 @@ use table::first_part;
 use table::node_at;
 use table::second_part;
 
-// The leaves that are come to behind a node with flag 0 and with flag 1, and whether the end is with flag 1.
+// Leaves that can be reached after a node by empty steps, with flag 0 and with flag 1; and whether the end can be, with flag 1.
 pub struct Follow {
     pub zero: u64,
     pub one: u64,
     pub end: bool,
 }
 
-// What follows the first part of a sequence: the second, and what follows that where it is nullable.
+// The follow of the first part of a sequence: the first of the second part, and the follow of that where it is nullable.
 fn before_second(second: First, follow: Follow) -> Follow
     ensures { λ r. ⌜ r ≡ before-second second follow ⌝ }
 {
@@ -33,7 +33,7 @@ fn before_second(second: First, follow: Follow) -> Follow
     }
 }
 
-// What follows the child of a star: the star, with flag 1 only.
+// The follow of a star's child: the star, with flag 1 only.
 fn before_round(child: First, follow: Follow) -> Follow
     ensures { λ r. ⌜ r ≡ before-round child follow ⌝ }
 {
@@ -44,7 +44,7 @@ fn before_round(child: First, follow: Follow) -> Follow
     }
 }
 
-// What follows the first part of a line, from the first of its second part and what follows the line.
+// The follow of the first part of a line, from the first of its second part and the follow of the line.
 fn to_first(node: Node, second: First, follow: Follow) -> Follow
     ensures { λ r. ⌜ r ≡ to-first second node follow ⌝ }
 {
@@ -56,36 +56,36 @@ fn to_first(node: Node, second: First, follow: Follow) -> Follow
     }
 }
 
-// What follows a line. Two cells of `behind` are the line's: flag 0 and flag 1.
-fn follow_at(behind: &[u64; 128], ends: &[bool; 64], l: usize) -> Follow
-    requires { ⌜ (l < 64) × Sized (now behind) (now ends) ⌝ }
-    ensures { λ r. ⌜ r ≡ follow-at (now (behind .entry)) (now (ends .entry)) l ⌝ }
+// The follow of a line, from the two arrays. Two cells of `follows` are the line's: flag 0 and flag 1.
+fn follow_at(follows: &[u64; 128], ends: &[bool; 64], l: usize) -> Follow
+    requires { ⌜ (l < 64) × Sized (now follows) (now ends) ⌝ }
+    ensures { λ r. ⌜ r ≡ follow-at (now (follows .entry)) (now (ends .entry)) l ⌝ }
 {
     Follow {
-        zero: behind[2 * l],
-        one: behind[2 * l + 1],
+        zero: follows[2 * l],
+        one: follows[2 * l + 1],
         end: ends[l],
     }
 }
 
-fn put_follow(behind: &mut [u64; 128], ends: &mut [bool; 64], l: usize, follow: Follow)
-    requires { ⌜ (l < 64) × Sized (now behind) (now ends) ⌝ }
-    ensures { λ _. ⌜ Stored (now (behind .entry)) (now (ends .entry)) l follow (now (behind .exit)) (now (ends .exit)) ⌝ }
+fn put_follow(follows: &mut [u64; 128], ends: &mut [bool; 64], l: usize, follow: Follow)
+    requires { ⌜ (l < 64) × Sized (now follows) (now ends) ⌝ }
+    ensures { λ _. ⌜ Stored (now (follows .entry)) (now (ends .entry)) l follow (now (follows .exit)) (now (ends .exit)) ⌝ }
 {
-    behind[2 * l] = follow.zero;
-    behind[2 * l + 1] = follow.one;
+    follows[2 * l] = follow.zero;
+    follows[2 * l + 1] = follow.one;
     ends[l] = follow.end;
 }
 
 // Line i hands on to its parts, from the first of its second part.
-fn hand_on(node: Node, i: usize, second: First, behind: &mut [u64; 128], ends: &mut [bool; 64])
-    requires { ⌜ (i < 64) × Below i node × Sized (now behind) (now ends) ⌝ }
-    ensures { λ _. ⌜ Handed i node second (now (behind .entry)) (now (ends .entry)) (now (behind .exit)) (now (ends .exit)) ⌝ }
+fn hand_on(node: Node, i: usize, second: First, follows: &mut [u64; 128], ends: &mut [bool; 64])
+    requires { ⌜ (i < 64) × Below i node × Sized (now follows) (now ends) ⌝ }
+    ensures { λ _. ⌜ Handed i node second (now (follows .entry)) (now (ends .entry)) (now (follows .exit)) (now (ends .exit)) ⌝ }
 {
-    let follow = follow_at(behind, ends, i);
+    let follow = follow_at(follows, ends, i);
     let before = to_first(node, second, follow);
-    put_follow(behind, ends, second_part(node, i), follow);
-    put_follow(behind, ends, first_part(node, i), before);
+    put_follow(follows, ends, second_part(node, i), follow);
+    put_follow(follows, ends, first_part(node, i), before);
 }
 
 // What follows each line, into two lent arrays. The end follows the last line.
@@ -94,23 +94,23 @@ pub(crate) fn put_follows(
     count: usize,
     firsts: &[u64; 64],
     nullable: &[bool; 64],
-    behind: &mut [u64; 128],
+    follows: &mut [u64; 128],
     ends: &mut [bool; 64],
 )
-    requires { ⌜ Rooted (line-in (now table)) count × Firsts (line-in (now table)) count (now firsts) (now nullable) × Sized (now behind) (now ends) ⌝ }
-    ensures { λ _. ⌜ Down (line-in (now (table .entry))) count 0 (now (behind .exit)) (now (ends .exit)) ⌝ }
+    requires { ⌜ Rooted (line-in (now table)) count × Firsts (line-in (now table)) count (now firsts) (now nullable) × Sized (now follows) (now ends) ⌝ }
+    ensures { λ _. ⌜ Down (line-in (now (table .entry))) count 0 (now (follows .exit)) (now (ends .exit)) ⌝ }
 {
     let end = Follow {
         zero: 0u64,
         one: 0u64,
         end: true,
     };
-    put_follow(behind, ends, count - 1, end);
+    put_follow(follows, ends, count - 1, end);
     let mut i = count;
     while 0 < i {
         i -= 1;
         let node = node_at(table, i);
         let second = first_at(firsts, nullable, second_part(node, i));
-        hand_on(node, i, second, behind, ends);
+        hand_on(node, i, second, follows, ends);
     }
 }

@@ -10,8 +10,8 @@ ghost use Rattle.table.specs.Cells.{line-in};
 ghost use Rattle.masks.specs.Masks.{Leaf-masks};
 ghost use Rattle.masks.specs.Making.{Maskable, Blank};
 
-mod firsts; // firsts.rt: first and nullable, what each node comes to inside itself
-mod follows; // follows.rt: follow, what each node comes to behind itself
+mod firsts; // firsts.rt: first and nullable of each node
+mod follows; // follows.rt: follow of each node
 pub mod scatter; // scatter.rt: each line's bit, to the leaves and letters it belongs to
 mod word; // word.rt: bits of words
 
@@ -30,11 +30,11 @@ pub fn put_masks(table: &[u64; 64], count: usize, zero: &mut [u64; 64], one: &mu
 {
     let mut firsts = [0u64; 64];
     let mut nullable = [false; 64];
-    let mut behind = [0u64; 128];
+    let mut follows = [0u64; 128];
     let mut ends = [false; 64];
     put_firsts(table, count, &mut firsts, &mut nullable);
-    put_follows(table, count, &firsts, &nullable, &mut behind, &mut ends);
-    put_columns(count, &firsts, &nullable, &behind, 0, zero);
-    put_columns(count, &firsts, &nullable, &behind, 1, one);
+    put_follows(table, count, &firsts, &nullable, &mut follows, &mut ends);
+    put_columns(count, &firsts, &nullable, &follows, 0, zero);
+    put_columns(count, &firsts, &nullable, &follows, 1, one);
     ends_of(count, &nullable, &ends)
 }

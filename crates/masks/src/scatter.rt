@@ -35,23 +35,23 @@ fn put_row(cells: &mut [u64; 64], row: u64, i: usize)
     }
 }
 
-// For each leaf the nodes that come to it with a flag, 0 or 1: each line's bit goes to the leaves that the line comes to, those inside it
-// and, where it can be empty, those behind it with that flag.
+// For each leaf the nodes that reach it by empty steps when entered with a flag, 0 or 1: each line's bit goes to the leaves of its first and,
+// where it is nullable, to those of its follow with that flag.
 pub(crate) fn put_columns(
     count: usize,
     firsts: &[u64; 64],
     nullable: &[bool; 64],
-    behind: &[u64; 128],
+    follows: &[u64; 128],
     flag: usize,
     cells: &mut [u64; 64],
 )
     requires { ⌜ (count ≤ 64) × (flag ≤ 1) × Filled 0 (λ x. 0) 64 64 (now cells) ⌝ }
     ensures { λ _.
-        ⌜ Filled 0 (column count (row (now (firsts .entry)) (now (nullable .entry)) (now (behind .entry)) flag)) 64 count (now (cells .exit)) ⌝ }
+        ⌜ Filled 0 (column count (row (now (firsts .entry)) (now (nullable .entry)) (now (follows .entry)) flag)) 64 count (now (cells .exit)) ⌝ }
 {
     let mut i = 0;
     while i < count {
-        let line = join(firsts[i], behind[2 * i + flag], nullable[i]);
+        let line = join(firsts[i], follows[2 * i + flag], nullable[i]);
         put_row(cells, line, i);
         i += 1;
     }
@@ -86,7 +86,7 @@ fn put_between(cells: &mut [u64; LETTER_CELLS], low: u8, high: u8, i: usize)
     }
 }
 
-// Joins the bit of line i to the cells of the letters from low to high: those up to the gap, then those behind it.
+// Joins the bit of line i to the cells of the letters from low to high: those up to the gap, then those after it.
 fn put_range(cells: &mut [u64; LETTER_CELLS], low: u8, high: u8, i: usize)
     requires { ⌜ (i < 64) × (length (now cells) ≡ letter-cells) × (is-letter low ≡ true) × (is-letter high ≡ true) ⌝ }
     ensures { λ _. ⌜ Marked (in-range low high) i (now (cells .entry)) (now (cells .exit)) ⌝ }

@@ -35,7 +35,7 @@ use Rattle.semantics.specs.SecondSweepLaws.{wrote}
 use Rattle.semantics.specs.GreedyLaws.{greedy-canonical, canonical-greedy, readable-iff}
 use Rattle.steps.specs.StateSets.{state-set, words}
 use Rattle.steps.specs.StateLaws.{state-bit}
-use Rattle.steps.specs.Steps.{behind-node, place-lt}
+use Rattle.steps.specs.Steps.{next-node, place-lt}
 use Rattle.first_sweep.specs.Meaning.{words-length, words-at}
 use Rattle.first_sweep.specs.Fill.{Fillable}
 use Rattle.second_sweep.specs.declared.Swept.{Swept}
@@ -191,7 +191,7 @@ module _ (p : Pattern) (tape ws : List ℕ) (h : First-swept p tape ws) where
     behind t s i l b =
         ap₂ (λ x y. (not (loops-in table (index t)) || b) && cond (ltb (follower-in table (index t)) 64) (test-bit x (follower-in table (index t))) y)
         (h .filled i l b) (ended b i l)
-        ∙ behind-node p rules b (drop i tape) (follower-in table (index t)) (loops-in table (index t)) t s (held .follows (index t) (place-lt p rules s))
+        ∙ next-node p rules b (drop i tape) (follower-in table (index t)) (loops-in table (index t)) t s (held .follows (index t) (place-lt p rules s))
 
     pub knows : (t : Tree) (s : Location (root p) t) → Knows table ws tape t (after s)
     knows (nothing m) s = tt

@@ -37,7 +37,7 @@ use Rattle.masks.specs.Masks.{Masks-of}
 use Rattle.masks.specs.Nodes.{word-past-last}
 use Rattle.steps.specs.StateSets.{state-set}
 use Rattle.steps.specs.StateLaws.{state-bit}
-use Rattle.steps.specs.Steps.{behind, live, behind-node, stepped-right, step-stepped}
+use Rattle.steps.specs.Steps.{open-next, live, next-node, stepped-right, step-stepped}
 use Rattle.reach.specs.FrontWords.{has-any, matched-leaves, state-word, following, root-word, reach-from, reach-words}
 
 -- ---- whether some number passes
@@ -170,7 +170,7 @@ module _ (p : Pattern) (r : Rules p) (zs os ts ks : List ℕ) (e : ℕ) (held : 
 
     nodes-leaves : (z : List ℕ)
         → any-to 64 (λ x. test-bit n x && test-bit (state-set p true (c ∷ z)) x) ≡ any-to 64
-        (λ y. test-bit leaves y && behind (state-set p true z) (at-end true z) (follower-in ts y))
+        (λ y. test-bit leaves y && open-next (state-set p true z) (at-end true z) (follower-in ts y))
     unfolding leaves
     nodes-leaves z =
         any-same 64 (λ x. test-bit n x && test-bit (state-set p true (c ∷ z)) x)
@@ -178,10 +178,10 @@ module _ (p : Pattern) (r : Rules p) (zs os ts ks : List ℕ) (e : ℕ) (held : 
         (λ x l. ap (λ v. test-bit n x && v) (ap (λ v. test-bit v x) (open-word c z h) ∙ union-bit 64 here (entry os) x))
         ∙ any-across 64 64 (test-bit n) here (λ y x. test-bit (entry os y) x)
         ∙ any-same 64 (λ y. here y && any-to 64 (λ x. test-bit n x && test-bit (entry os y) x))
-        (λ y. test-bit leaves y && behind (state-set p true z) (at-end true z) (follower-in ts y))
+        (λ y. test-bit leaves y && open-next (state-set p true z) (at-end true z) (follower-in ts y))
         (λ y l. ap (λ v. here y && v) (sym (meets-bit (entry os y) n few))
-        ∙ turn (test-bit (entry ks c) y) (behind (state-set p true z) (at-end true z) (follower-in ts y)) (has-any (bitAnd (entry os y) n))
-        ∙ ap (λ v. v && behind (state-set p true z) (at-end true z) (follower-in ts y)) (sym (matched-bit os n (entry ks c) y l)))
+        ∙ turn (test-bit (entry ks c) y) (open-next (state-set p true z) (at-end true z) (follower-in ts y)) (has-any (bitAnd (entry os y) n))
+        ∙ ap (λ v. v && open-next (state-set p true z) (at-end true z) (follower-in ts y)) (sym (matched-bit os n (entry ks c) y l)))
       where
         here : ℕ → Bool
         here = live (entry ks c) (state-set p true z) (at-end true z) (follower-in ts)
@@ -192,11 +192,11 @@ module _ (p : Pattern) (r : Rules p) (zs os ts ks : List ℕ) (e : ℕ) (held : 
 
     -- and after one letter more, by one of their followers
     leaves-nodes : (d : ℕ) (z : List ℕ)
-        → any-to 64 (λ y. test-bit leaves y && behind (state-set p true (d ∷ z)) false (follower-in ts y)) ≡ any-to 64
+        → any-to 64 (λ y. test-bit leaves y && open-next (state-set p true (d ∷ z)) false (follower-in ts y)) ≡ any-to 64
         (λ x. test-bit (following ts leaves) x && test-bit (state-set p true (d ∷ z)) x)
     unfolding following
     leaves-nodes d z =
-        any-same 64 (λ y. test-bit leaves y && behind next false (follower-in ts y))
+        any-same 64 (λ y. test-bit leaves y && open-next next false (follower-in ts y))
         (λ y. test-bit leaves y && any-to 64 (λ x. test-bit next x && test-bit (state-word (follower-in ts y)) x))
         (λ y l. ap (λ v. test-bit leaves y && v) (sym (state-any (test-bit next) (follower-in ts y))))
         ∙ any-across 64 64 (test-bit leaves) (test-bit next) (λ x y. test-bit (state-word (follower-in ts y)) x)
@@ -210,7 +210,7 @@ module _ (p : Pattern) (r : Rules p) (zs os ts ks : List ℕ) (e : ℕ) (held : 
 
     -- after a leaf that is matched some letters can be read
     leaf-onward : (y : ℕ) → y < 64 → test-bit leaves y ≡ true
-        → (z : List ℕ) × (behind (state-set p true z) (at-end true z) (follower-in ts y) ≡ true)
+        → (z : List ℕ) × (open-next (state-set p true z) (at-end true z) (follower-in ts y) ≡ true)
     unfolding leaves takers
     leaf-onward y l b = go (decLt y (p .count))
       where
@@ -220,16 +220,16 @@ module _ (p : Pattern) (r : Rules p) (zs os ts ks : List ℕ) (e : ℕ) (held : 
             ∙ and-fst (test-bit (entry ks c) y) (has-any (bitAnd (entry os y) n)) (sym (matched-bit os n (entry ks c) y l) ∙ b)
 
         line : Followed (root p) y (follower-in ts y) (loops-in ts y)
-            → (z : List ℕ) × (behind (state-set p true z) (at-end true z) (follower-in ts y) ≡ true)
+            → (z : List ℕ) × (open-next (state-set p true z) (at-end true z) (follower-in ts y) ≡ true)
         line q =
             let o = onward (root-stocked p r) (q .node .place) in (
               o .0,
-              and-snd (not (loops-in ts y) || true) (behind (state-set p true (o .0)) (at-end true (o .0)) (follower-in ts y))
-                  (behind-node p r true (o .0) (follower-in ts y) (loops-in ts y) (q .node .tree) (q .node .place)
+              and-snd (not (loops-in ts y) || true) (open-next (state-set p true (o .0)) (at-end true (o .0)) (follower-in ts y))
+                  (next-node p r true (o .0) (follower-in ts y) (loops-in ts y) (q .node .tree) (q .node .place)
                   (record { node = record { tree = q .node .tree; place = q .node .place; is = refl }; is = q .is; above = q .above }) ∙ o .1),
             )
 
-        go : Dec (y < p .count) → (z : List ℕ) × (behind (state-set p true z) (at-end true z) (follower-in ts y) ≡ true)
+        go : Dec (y < p .count) → (z : List ℕ) × (open-next (state-set p true z) (at-end true z) (follower-in ts y) ≡ true)
         go (yes k) = line (held .follows y k)
         go (no k) = absurd (not-both takes-it (word-past-last (root p) (p .count) (λ t s. takes t c) y (omega arith)))
 
@@ -269,7 +269,7 @@ module _ (p : Pattern) (r : Rules p) (zs os ts ks : List ℕ) (e : ℕ) (held : 
   module _ (n : ℕ) (u : List ℕ) (c : ℕ) (h : is-letter c ≡ true) (i : Nodes-behind n u) where
     reads-leaves : (z : List ℕ)
         → readable (root p) ((u ++ (c ∷ [])) ++ z) ≡ any-to 64
-        (λ y. test-bit (leaves n (i .few) c h) y && behind (state-set p true z) (at-end true z) (follower-in ts y))
+        (λ y. test-bit (leaves n (i .few) c h) y && open-next (state-set p true z) (at-end true z) (follower-in ts y))
     reads-leaves z = ap (readable (root p)) (append-assoc u (c ∷ []) z) ∙ i .reads c z h ∙ nodes-leaves n (i .few) c h z
 
     leaves-on : has-any (matched-leaves os n (entry ks c)) ≡ true → Nodes-behind (following ts (matched-leaves os n (entry ks c))) (u ++ (c ∷ []))
@@ -288,7 +288,7 @@ module _ (p : Pattern) (r : Rules p) (zs os ts ks : List ℕ) (e : ℕ) (held : 
               o .0,
               reads-leaves (o .0)
                   ∙ any-in 64
-                  (λ y. test-bit (matched-leaves os n (entry ks c)) y && behind (state-set p true (o .0)) (at-end true (o .0)) (follower-in ts y)) y l
+                  (λ y. test-bit (matched-leaves os n (entry ks c)) y && open-next (state-set p true (o .0)) (at-end true (o .0)) (follower-in ts y)) y l
                   (and-intro b (o .1)),
             )
 
@@ -297,12 +297,12 @@ module _ (p : Pattern) (r : Rules p) (zs os ts ks : List ℕ) (e : ℕ) (held : 
     leaves-none a b =
         let q = (begins-iff (root p) (u ++ (c ∷ []))) .0 b in
         let (y, l, g) = any-out 64
-        (λ y. test-bit (matched-leaves os n (entry ks c)) y && behind (state-set p true (q .0)) (at-end true (q .0)) (follower-in ts y))
+        (λ y. test-bit (matched-leaves os n (entry ks c)) y && open-next (state-set p true (q .0)) (at-end true (q .0)) (follower-in ts y))
         (sym (reads-leaves (q .0)) ∙ q .1) in
         not-both
         (any-bit (matched-leaves os n (entry ks c)) (matched-lt os n (entry ks c))
         ∙ any-in 64 (test-bit (matched-leaves os n (entry ks c))) y l
-        (and-fst (test-bit (matched-leaves os n (entry ks c)) y) (behind (state-set p true (q .0)) (at-end true (q .0)) (follower-in ts y)) g)) a
+        (and-fst (test-bit (matched-leaves os n (entry ks c)) y) (open-next (state-set p true (q .0)) (at-end true (q .0)) (follower-in ts y)) g)) a
 
     -- which letters may follow u: those by which some leaf is matched
     pub allowed-words-iff : (has-any (matched-leaves os n (entry ks c)) ≡ true) ↔ Begins (root p) (u ++ (c ∷ []))

@@ -29,18 +29,18 @@ use Rattle.bits.specs.Unions.{pick, union, union-same}
 use Rattle.steps.specs.StateSets.{state-set}
 use Rattle.steps.specs.StateLaws.{state-bit, state-reached, reached-masks}
 
--- whether a state is open behind a letter with flag 1: a node by its bit in the state set there, the end if that is the tape's end
-abbrev pub behind : (next : ℕ) → (last : Bool) → (state : ℕ) → Bool
-behind next last f = cond (ltb f 64) (test-bit next f) last
+-- whether a state is open after a letter, with flag 1: a node by its bit in the state set there, the end if that is the tape's end
+abbrev pub open-next : (next : ℕ) → (last : Bool) → (state : ℕ) → Bool
+open-next next last f = cond (ltb f 64) (test-bit next f) last
 
--- the leaves that are open: they take the letter here, and their followers are open behind it
+-- the leaves that are open: they take the letter here, and their followers are open after it
 abbrev pub live : (takers next : ℕ) → (last : Bool) → (followers : ℕ → ℕ) → (leaf : ℕ) → Bool
-live k next last f x = test-bit k x && behind next last (f x)
+live k next last f x = test-bit k x && open-next next last (f x)
 
 -- the leaves that are open before a letter, by the tree: they take it, and their followers are open behind it. Behind it may stand any word,
 -- a state set or not: 02, Job 6, "If before a call the marks are those of the joined letters under its table, they are so after it".
 unfoldable pub open-leaves : Pattern → (letter next : ℕ) → (last : Bool) → ℕ
-open-leaves p c next last = node-word (root p) (p .count) (λ t s. takes t c && behind next last (state-index (follower s)))
+open-leaves p c next last = node-word (root p) (p .count) (λ t s. takes t c && open-next next last (state-index (follower s)))
 
 -- THE STEP: the word of a position that has a letter, from the flag 1 word of the next. The nodes that come to an open leaf by empty steps;
 -- to the end none comes, since a letter stands before it.
@@ -56,27 +56,27 @@ module _ (p : Pattern) (r : Rules p) where
   pub place-lt : {t : Tree} (s : Location (root p) t) → index t < p .count
   place-lt s = index-lt (root-planted p r) s
 
-  behind-state : (b : Bool) (w : List ℕ) (q : State (root p)) → behind (state-set p b w) (at-end b w) (state-index q) ≡ can-from q b w
-  behind-state b w end = ap (λ z. cond z (test-bit (state-set p b w) 64) (at-end b w)) (le-ltb 64 64 (omega arith))
-  behind-state b w (at t s) =
+  next-state : (b : Bool) (w : List ℕ) (q : State (root p)) → open-next (state-set p b w) (at-end b w) (state-index q) ≡ can-from q b w
+  next-state b w end = ap (λ z. cond z (test-bit (state-set p b w) 64) (at-end b w)) (le-ltb 64 64 (omega arith))
+  next-state b w (at t s) =
       ap (λ z. cond z (test-bit (state-set p b w) (index t)) (at-end b w)) (lt-ltb (index t) 64 (omega (arith, index-lt (root-planted p r) s, r .few)))
       ∙ state-bit p r b w t s
 
   -- a node's follower is open exactly if the rest can be read behind the node; to a star above it is stepped with flag 1 only
-  pub behind-node :
+  pub next-node :
       (b : Bool) (w : List ℕ) (f : ℕ) (above : Bool) (t : Tree) (s : Location (root p) t) → Followed (root p) (index t) f above
-      → ((not above || b) && behind (state-set p b w) (at-end b w) f) ≡ after s b w
-  behind-node b w f above t s q =
+      → ((not above || b) && open-next (state-set p b w) (at-end b w) f) ≡ after s b w
+  next-node b w f above t s q =
       ap₂ (λ g y. (not g || b) && y) (q .above)
-      (ap (behind (state-set p b w) (at-end b w)) (q .is) ∙ behind-state b w (follower (q .node .place)))
+      (ap (open-next (state-set p b w) (at-end b w)) (q .is) ∙ next-state b w (follower (q .node .place)))
       ∙ sym (after-follower (q .node .place) b w)
       ∙ same-node (root-planted p r) (λ t s. after s b w) (q .node .tree) t (q .node .place) s (q .node .is)
 
   -- a letter leaf steps with flag 1
-  behind-leaf : (w : List ℕ) (t : Tree) (s : Location (root p) t) → behind (state-set p true w) (at-end true w) (state-index (follower s)) ≡ after s true w
-  behind-leaf w t s =
-      ap (λ g. g && behind (state-set p true w) (at-end true w) (state-index (follower s))) (sym (or-true (not (loops s))))
-      ∙ behind-node true w (state-index (follower s)) (loops s) t s (record { node = record { tree = t; place = s; is = refl }; is = refl; above = refl })
+  next-leaf : (w : List ℕ) (t : Tree) (s : Location (root p) t) → open-next (state-set p true w) (at-end true w) (state-index (follower s)) ≡ after s true w
+  next-leaf w t s =
+      ap (λ g. g && open-next (state-set p true w) (at-end true w) (state-index (follower s))) (sym (or-true (not (loops s))))
+      ∙ next-node true w (state-index (follower s)) (loops s) t s (record { node = record { tree = t; place = s; is = refl }; is = refl; above = refl })
 
   -- THE TAPE'S END: 01, "The end accepts with flag 1." With flag 0 nothing is open there.
   pub state-end : (b : Bool) → state-set p b [] ≡ pick b (end-mask (root p) (p .count) b)
@@ -87,13 +87,13 @@ module _ (p : Pattern) (r : Rules p) where
 
   module _ (c next : ℕ) (last : Bool) where
     open-says :
-        (t : Tree) (s : Location (root p) t) → test-bit (open-leaves p c next last) (index t) ≡ (takes t c && behind next last (state-index (follower s)))
+        (t : Tree) (s : Location (root p) t) → test-bit (open-leaves p c next last) (index t) ≡ (takes t c && open-next next last (state-index (follower s)))
     unfolding open-leaves
-    open-says t s = word-says (root-planted p r) (λ t s. takes t c && behind next last (state-index (follower s))) t s
+    open-says t s = word-says (root-planted p r) (λ t s. takes t c && open-next next last (state-index (follower s))) t s
 
     open-past : (x : ℕ) → p .count ≤ x → test-bit (open-leaves p c next last) x ≡ false
     unfolding open-leaves
-    open-past x h = word-past-last (root p) (p .count) (λ t s. takes t c && behind next last (state-index (follower s))) x h
+    open-past x h = word-past-last (root p) (p .count) (λ t s. takes t c && open-next next last (state-index (follower s))) x h
 
     open-inside : (x : ℕ) → test-bit (open-leaves p c next last) x ≡ true → x < p .count
     open-inside x h = go (decLt x (p .count))
@@ -111,7 +111,7 @@ module _ (p : Pattern) (r : Rules p) where
     where
       leaf :
           (t : Tree) (s : Location (root p) t) → test-bit (open-leaves p c (state-set p true w) (at-end true w)) (index t) ≡ (takes t c && after s true w)
-      leaf t s = open-says c (state-set p true w) (at-end true w) t s ∙ ap (λ y. takes t c && y) (behind-leaf w t s)
+      leaf t s = open-says c (state-set p true w) (at-end true w) t s ∙ ap (λ y. takes t c && y) (next-leaf w t s)
 
 -- ---- over what is stored
 -- the step over the masks as they are stored and the followers of a packed table
@@ -141,13 +141,13 @@ module _ (p : Pattern) (r : Rules p) (zs os ts ks : List ℕ) (e : ℕ) (held : 
             ap₂ (λ y z. y && z)
             (ap (test-bit (takers (root p) (p .count) c)) (sym (q .node .is))
             ∙ word-says (root-planted p r) (λ t s. takes t c) (q .node .tree) (q .node .place))
-            (ap (behind next last) (q .is))
+            (ap (open-next next last) (q .is))
             ∙ sym (open-says p r c next last (q .node .tree) (q .node .place)) ∙ ap (test-bit (open-leaves p c next last)) (q .node .is)
 
         go : Dec (x < p .count) → live (takers (root p) (p .count) c) next last (follower-in ts) x ≡ test-bit (open-leaves p c next last) x
         go (yes h) = line (held .follows x h)
         go (no h) =
-            ap (λ z. z && behind next last (follower-in ts x)) (word-past-last (root p) (p .count) (λ t s. takes t c) x (omega arith))
+            ap (λ z. z && open-next next last (follower-in ts x)) (word-past-last (root p) (p .count) (λ t s. takes t c) x (omega arith))
             ∙ sym (open-past p r c next last x (omega arith))
 
     by-masks :

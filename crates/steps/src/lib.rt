@@ -12,7 +12,7 @@ ghost use lib.Dec.{eqb};
 ghost use Prim.Native.Nat.{_*_, _≤_, _<_};
 ghost use lib.ListN.{length};
 ghost use Rattle.bits.specs.Bits.{bit};
-ghost use Rattle.steps.specs.Steps.{behind, step-of};
+ghost use Rattle.steps.specs.Steps.{open-next, step-of};
 ghost use Rattle.masks.specs.Leaves.{entry};
 ghost use Rattle.steps.specs.Memo.{Knows, Extends, Found, Numbers, Claims, Notes, Learns, Goes};
 use table::follower_at;
@@ -35,7 +35,7 @@ pub struct Words {
 
 // 1 if a state, a node or 64 for the end, is open at the next position with flag 1, else 0.
 fn open_bit(state: u8, next: u64, last: bool) -> u64
-    ensures { λ r. ⌜ (r ≡ bit (behind next last state)) × (r ≤ 1) ⌝ }
+    ensures { λ r. ⌜ (r ≡ bit (open-next next last state)) × (r ≤ 1) ⌝ }
 {
     if state < 64 {
         return (next >> state) % 2;

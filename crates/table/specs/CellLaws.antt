@@ -26,7 +26,7 @@ use Rattle.table.specs.declared.Numbers.{Numbers}
 use Rattle.table.specs.HandDown.{equal, first-part, second-part, Parts-inside, parts-inside, Rooted, rules-rooted, Known, made-has-index}
 use Rattle.table.specs.HandDown.{Stores, stores-same, Given, All-given, Hands, given-start, given-next, given-end}
 use Rattle.table.specs.Cells.{row-of, node-from, cell-node, cell-account, cell-line, node-in, account-in, line-in, tree-in}
-use Rattle.table.specs.Cells.{cell-behind, behind-in, follower-in, loops-in, state-index, Followed, Holds, Good}
+use Rattle.table.specs.Cells.{cell-follower, cell-follower-in, follower-in, loops-in, state-index, Followed, Holds, Good}
 
 -- ── a cell ──
 -- the numbers of a node say which node it is
@@ -100,14 +100,14 @@ filled-end p table i f h =
 
 -- ── followers ──
 -- what follows line l is written into its cell, and lines stay
-pub record Behind-put (table : List ℕ) (l v : ℕ) (now : List ℕ) : Type 0 where
+pub record Follower-put (table : List ℕ) (l v : ℕ) (now : List ℕ) : Type 0 where
   pub long : length now ≡ length table
   pub lines : (k : ℕ) → line-in now k ≡ line-in table k
-  pub stores : Stores (behind-in table) l v (behind-in now)
+  pub stores : Stores (cell-follower-in table) l v (cell-follower-in now)
 
-pub behind-put : (table : List ℕ) (l v : ℕ) → l < length table → Behind-put table l v (set table l (getD table l 0 % 4294967296 + v * 4294967296))
-unfolding cell-node cell-account cell-behind
-behind-put table l v h = record {
+pub follower-put : (table : List ℕ) (l v : ℕ) → l < length table → Follower-put table l v (set table l (getD table l 0 % 4294967296 + v * 4294967296))
+unfolding cell-node cell-account cell-follower
+follower-put table l v h = record {
   long = length-set table l cell;
   lines = λ k. line k (equal k l);
   stores = record {
@@ -145,20 +145,20 @@ behind-put table l v h = record {
     line k (no n) = ap cell-line (getD-set-other table l k cell 0 n)
 
 -- what follows the first part of a line, from what follows the line: 256 more stands for a star above
-abbrev pub first-behind : (line : ℕ) → Node → ℕ → ℕ
-first-behind i (Leaf-node x) v = v
-first-behind i (Sequence p q) v = q
-first-behind i (Alternative p q) v = v
-first-behind i (Star again p) v = i + 256
+abbrev pub first-follower : (line : ℕ) → Node → ℕ → ℕ
+first-follower i (Leaf-node x) v = v
+first-follower i (Sequence p q) v = q
+first-follower i (Alternative p q) v = v
+first-follower i (Star again p) v = i + 256
 
 -- the number of what follows a node
-pub record Behind (root : Tree) (t : Tree) (s : Location root t) (v : ℕ) : Type 0 where
+pub record Follower-is (root : Tree) (t : Tree) (s : Location root t) (v : ℕ) : Type 0 where
   pub state : v % 256 ≡ state-index (follower s)
   pub above : v / 256 ≡ bit (loops s)
 
 module _ {f : ℕ → Line} {n : ℕ} (whole : Rooted f n) where
-  behind-hands : (i : ℕ) → i < n → Hands f n (Behind (tree-of f (n - 1))) i (first-behind i)
-  behind-hands i h = record {
+  follower-hands : (i : ℕ) → i < n → Hands f n (Follower-is (tree-of f (n - 1))) i (first-follower i)
+  follower-hands i h = record {
     leaf = λ x v. refl;
     sequence = λ x y a b s v q. (
       record {
@@ -177,15 +177,17 @@ pub record Following (start : List ℕ) (n i : ℕ) (table : List ℕ) : Type 0 
   pub inside : i ≤ n
   pub long : length table ≡ 64
   pub lines : (l : ℕ) → line-in table l ≡ line-in start l
-  pub given : All-given (line-in start) n (Behind (tree-of (line-in start) (n - 1))) i (behind-in table)
+  pub given : All-given (line-in start) n (Follower-is (tree-of (line-in start) (n - 1))) i (cell-follower-in table)
 
 module _ (start : List ℕ) (n : ℕ) (whole : Rooted (line-in start) n) where
-  pub following-start : length start ≡ 64 → behind-in start (n - 1) ≡ 64 → Following start n n start
+  pub following-start : length start ≡ 64 → cell-follower-in start (n - 1) ≡ 64 → Following start n n start
   following-start h e = record {
     inside = omega arith;
     long = h;
     lines = λ l. refl;
-    given = given-start (line-in start) n (Behind (tree-of (line-in start) (n - 1))) (behind-in start) (rw e (record { state = refl; above = refl }));
+    given =
+        given-start (line-in start) n (Follower-is (tree-of (line-in start) (n - 1))) (cell-follower-in start)
+        (rw e (record { state = refl; above = refl }));
   }
 
   module _ (i : ℕ) (table : List ℕ) (d : Following start n i table) (o : 0 < i) (k : Node) (e : k ≡ node-in table (i - 1)) where
@@ -197,17 +199,18 @@ module _ (start : List ℕ) (n : ℕ) (whole : Rooted (line-in start) n) where
     following-inside = parts-inside (i - 1) k (rw node-is (whole .lower (i - 1) (omega (arith, d .inside))))
 
     pub following-next :
-        (a b v w : ℕ) (mid new : List ℕ) → a ≡ second-part (i - 1) k → b ≡ first-part (i - 1) k → v ≡ behind-in table (i - 1) → w ≡ first-behind (i - 1) k v
-        → Behind-put table a v mid → Behind-put mid b w new → Following start n (i - 1) new
+        (a b v w : ℕ) (mid new : List ℕ) → a ≡ second-part (i - 1) k → b ≡ first-part (i - 1) k → v ≡ cell-follower-in table (i - 1)
+        → w ≡ first-follower (i - 1) k v
+        → Follower-put table a v mid → Follower-put mid b w new → Following start n (i - 1) new
     following-next a b v w mid new ea eb ev ew s t = record {
       inside = omega (arith, d .inside);
       long = t .long ∙ s .long ∙ d .long;
       lines = λ l. t .lines l ∙ s .lines l ∙ d .lines l;
-      given = given-next (line-in start) n (Behind (tree-of (line-in start) (n - 1))) whole (i - 1) (omega (arith, d .inside)) (first-behind (i - 1))
-          (behind-hands whole (i - 1) (omega (arith, d .inside))) (behind-in table) (behind-in mid) (behind-in new)
+      given = given-next (line-in start) n (Follower-is (tree-of (line-in start) (n - 1))) whole (i - 1) (omega (arith, d .inside)) (first-follower (i - 1))
+          (follower-hands whole (i - 1) (omega (arith, d .inside))) (cell-follower-in table) (cell-follower-in mid) (cell-follower-in new)
           (λ l h m. d .given l h (subst (λ j. Known (line-in start) n j l) (let q : suc (i - 1) ≡ i = omega arith in q) m))
           (stores-same (ea ∙ ap (second-part (i - 1)) node-is) ev (s .stores))
-          (stores-same (eb ∙ ap (first-part (i - 1)) node-is) (ew ∙ ap₂ (first-behind (i - 1)) node-is ev) (t .stores));
+          (stores-same (eb ∙ ap (first-part (i - 1)) node-is) (ew ∙ ap₂ (first-follower (i - 1)) node-is ev) (t .stores));
     }
 
 -- every line has its follower
@@ -219,17 +222,17 @@ pub record Follows (start : List ℕ) (n : ℕ) (table : List ℕ) : Type 0 wher
 pub following-end : (start : List ℕ) (n : ℕ) → Rooted (line-in start) n → (i : ℕ) (table : List ℕ) → i ≡ 0 → Following start n i table → Follows start n table
 following-end start n whole i table z d = record { long = d .long; lines = d .lines; followed = λ l h. at l h (given l h) }
   where
-    given : (l : ℕ) → l < n → Given (line-in start) n (Behind (tree-of (line-in start) (n - 1))) (tree-of (line-in start) l) (behind-in table l)
+    given : (l : ℕ) → l < n → Given (line-in start) n (Follower-is (tree-of (line-in start) (n - 1))) (tree-of (line-in start) l) (cell-follower-in table l)
     given =
-        given-end (line-in start) n (Behind (tree-of (line-in start) (n - 1))) whole (behind-in table)
-        (subst (λ j. All-given (line-in start) n (Behind (tree-of (line-in start) (n - 1))) j (behind-in table)) z (d .given))
+        given-end (line-in start) n (Follower-is (tree-of (line-in start) (n - 1))) whole (cell-follower-in table)
+        (subst (λ j. All-given (line-in start) n (Follower-is (tree-of (line-in start) (n - 1))) j (cell-follower-in table)) z (d .given))
 
     bit-is : (b : Bool) → eqb (bit b % 2) 1 ≡ b
     bit-is true = refl
     bit-is false = refl
 
     at :
-        (l : ℕ) → l < n → Given (line-in start) n (Behind (tree-of (line-in start) (n - 1))) (tree-of (line-in start) l) (behind-in table l)
+        (l : ℕ) → l < n → Given (line-in start) n (Follower-is (tree-of (line-in start) (n - 1))) (tree-of (line-in start) l) (cell-follower-in table l)
         → Followed (tree-of (line-in start) (n - 1)) l (follower-in table l) (loops-in table l)
     at l h g = record {
       node = record { tree = tree-of (line-in start) l; place = g .place; is = made-has-index whole l h };
@@ -237,7 +240,7 @@ following-end start n whole i table z d = record { long = d .long; lines = d .li
       above = ap (λ x. eqb (x % 2) 1) (g .right .above) ∙ bit-is (loops (g .place));
     }
 
-pub put-filled : (p : Pattern) (table : List ℕ) (i l v : ℕ) (now : List ℕ) → Filled p table i → Behind-put table l v now → Filled p now i
+pub put-filled : (p : Pattern) (table : List ℕ) (i l v : ℕ) (now : List ℕ) → Filled p table i → Follower-put table l v now → Filled p now i
 put-filled p table i l v now f b = record {
   low = f .low;
   long = b .long ∙ f .long;

@@ -72,19 +72,19 @@ unfoldable pub tree-in : (table : List ℕ) → (l : ℕ) → Tree
 tree-in table l = tree-of (line-in table) l
 
 -- ── followers: above those 32 bits, the follower in 8 bits and a bit that is 1 where it is a star above ──
-unfoldable pub cell-behind : (cell : ℕ) → ℕ
-cell-behind c = c / 4294967296
+unfoldable pub cell-follower : (cell : ℕ) → ℕ
+cell-follower c = c / 4294967296
 
-abbrev pub behind-in : (table : List ℕ) → (l : ℕ) → ℕ
-behind-in table l = cell-behind (getD table l 0)
+abbrev pub cell-follower-in : (table : List ℕ) → (l : ℕ) → ℕ
+cell-follower-in table l = cell-follower (getD table l 0)
 
 -- 01's follower of a line by its number: a node's index, and 64 for the end
 abbrev pub follower-in : (table : List ℕ) → (l : ℕ) → ℕ
-follower-in table l = behind-in table l % 256
+follower-in table l = cell-follower-in table l % 256
 
 -- whether the follower is a star above
 abbrev pub loops-in : (table : List ℕ) → (l : ℕ) → Bool
-loops-in table l = eqb (behind-in table l / 256 % 2) 1
+loops-in table l = eqb (cell-follower-in table l / 256 % 2) 1
 
 -- a state's number
 abbrev pub state-index : {root : Tree} → State root → ℕ

@@ -9,8 +9,8 @@ ghost use lib.ListN.{length, replicate};
 ghost use Rattle.syntax.specs.TreeLaws.{Rules};
 ghost use Rattle.table.specs.HandDown.{first-part, second-part, Rooted};
 ghost use Rattle.table.specs.Cells.{row, leaf-row, star-kind, row-of, node-from, cell-line, line-in, node-in, account-in, Holds};
-ghost use Rattle.table.specs.Cells.{cell-behind, behind-in, follower-in, loops-in};
-ghost use Rattle.table.specs.CellLaws.{Filled, Behind-put, first-behind, Follows};
+ghost use Rattle.table.specs.Cells.{cell-follower, cell-follower-in, follower-in, loops-in};
+ghost use Rattle.table.specs.CellLaws.{Filled, Follower-put, first-follower, Follows};
 use syntax::Leaf;
 use syntax::Line;
 use syntax::Node;
@@ -200,16 +200,16 @@ pub fn second_part(node: Node, i: usize) -> usize
 }
 
 // What a cell says of the follower: its number, and 256 more where it is a star above.
-fn behind(cell: u64) -> u64
-    ensures { λ r. ⌜ (r ≡ cell-behind cell) × (r < 4294967296) ⌝ }
+fn follower(cell: u64) -> u64
+    ensures { λ r. ⌜ (r ≡ cell-follower cell) × (r < 4294967296) ⌝ }
 {
     cell / 4294967296
 }
 
-// The same for the first part of line i, from what is said of the line: the second part of a sequence follows, and the star itself.
-fn first_behind(node: Node, i: usize, line: u64) -> u64
+// The same for the first part of line i, from that of the line: the second part of a sequence follows, and the star itself.
+fn first_follower(node: Node, i: usize, line: u64) -> u64
     requires { ⌜ (i < 64) × (line < 4294967296) ⌝ }
-    ensures { λ r. ⌜ (r ≡ first-behind i node line) × (r < 4294967296) ⌝ }
+    ensures { λ r. ⌜ (r ≡ first-follower i node line) × (r < 4294967296) ⌝ }
 {
     match node {
         Node::Leaf(_) => line,
@@ -219,25 +219,25 @@ fn first_behind(node: Node, i: usize, line: u64) -> u64
     }
 }
 
-fn put_behind(table: &mut [u64], l: usize, follower: u64)
+fn put_follower(table: &mut [u64], l: usize, follower: u64)
     requires { ⌜ (l < length (now table)) × (follower < 4294967296) ⌝ }
-    ensures { λ _. ⌜ Behind-put (now (table .entry)) l follower (now (table .exit)) ⌝ }
+    ensures { λ _. ⌜ Follower-put (now (table .entry)) l follower (now (table .exit)) ⌝ }
 {
     table[l] = table[l] % 4294967296 + follower * 4294967296;
 }
 
 // The followers of all lines, from that of the last: each line hands on to its parts.
 fn put_followers(table: &mut [u64; 64], count: usize)
-    requires { ⌜ Rooted (line-in (now table)) count × (length (now table) ≡ 64) × (behind-in (now table) (count - 1) ≡ 64) ⌝ }
+    requires { ⌜ Rooted (line-in (now table)) count × (length (now table) ≡ 64) × (cell-follower-in (now table) (count - 1) ≡ 64) ⌝ }
     ensures { λ _. ⌜ Follows (now (table .entry)) count (now (table .exit)) ⌝ }
 {
     let mut i = count;
     while 0 < i {
         i -= 1;
         let node = node_at(table, i);
-        let line = behind(table[i]);
-        put_behind(table, second_part(node, i), line);
-        put_behind(table, first_part(node, i), first_behind(node, i, line));
+        let line = follower(table[i]);
+        put_follower(table, second_part(node, i), line);
+        put_follower(table, first_part(node, i), first_follower(node, i, line));
     }
 }
 
@@ -248,7 +248,7 @@ pub fn table_of(p: Pattern) -> [u64; 64]
 {
     let mut table = [0u64; 64];
     put_lines(p, &mut table);
-    put_behind(&mut table, p.count - 1, 64);
+    put_follower(&mut table, p.count - 1, 64);
     put_followers(&mut table, p.count);
     table
 }

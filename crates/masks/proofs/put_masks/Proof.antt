@@ -12,7 +12,7 @@ put-follows-requires : tie.Need-put-follows-requires
 put-follows-requires c κs = (
   c .before .before .before .before .before .before .before .pre .0 .whole,
   c .before .before .before .before .put-firsts .ensures,
-  record { behind = refl; ends = refl },
+  record { follows = refl; ends = refl },
 )
 
 put-columns-requires : tie.Need-put-columns-requires

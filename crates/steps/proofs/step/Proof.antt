@@ -2,7 +2,7 @@ use Prim.Native.Nat.{_-_}
 use native.Mathlib.Omega.{arith}
 use mathlib.Core.Path.{refl, ap, _∙_}
 use Rattle.bits.specs.Bits.{bit}
-use Rattle.steps.specs.Steps.{behind}
+use Rattle.steps.specs.Steps.{open-next}
 use Rattle.table.specs.Cells.{follower-in}
 use Rattle.steps.specs.Stepping.{Stepping, stepping-start, stepping-next, stepping-end}
 use Rattle.bits.specs.Lowest.{Lowest, lowest}
@@ -11,7 +11,7 @@ use Rattle.steps.proofs.step.Statement.{statement}
 use Rattle.steps.proofs.step.Tie as tie
 
 abbrev Inv-loop : tie.InvT-loop
-Inv-loop zero one table takers next last rest₀ a₀ b₀ rest a b = Stepping zero one takers (λ x. behind next last (follower-in table x)) rest a b
+Inv-loop zero one table takers next last rest₀ a₀ b₀ rest a b = Stepping zero one takers (λ x. open-next next last (follower-in table x)) rest a b
 
 abbrev μ-loop : tie.MeasureT-loop
 μ-loop zero one table takers next last rest₀ a₀ b₀ rest a b = rest
@@ -62,7 +62,7 @@ loop-again c =
     let s = l .before in
     let o = c .before .before .before .before in
     stepping-next _ _ _ _ _ _ _ _ _ _ _ (l .loop .inv) (omega (arith, c .before .before .before .before .before .before .loop-test .taken)) refl
-    (o .open-bit .ensures .0 ∙ ap (λ f. bit (behind (s .args .next) (s .args .last) f)) (o .before .follower-at .ensures))
+    (o .open-bit .ensures .0 ∙ ap (λ f. bit (open-next (s .args .next) (s .args .last) f)) (o .before .follower-at .ensures))
     (c .before .before .times .ensures) (c .times2 .ensures)
 
 returns : tie.Need-returns Inv-loop μ-loop

@@ -1,5 +1,5 @@
 -- `table::follower_at` meets its contract.
-use Rattle.table.specs.Cells.{cell-behind}
+use Rattle.table.specs.Cells.{cell-follower}
 use borrow.Author.Needs.{needs}
 use Rattle.table.proofs.follower_at.Statement.{statement}
 use Rattle.table.proofs.follower_at.Tie as tie
@@ -14,7 +14,7 @@ cast-result : tie.Need-cast-result
 cast-result c = search needs
 
 returns : tie.Need-returns
-unfolding cell-behind
+unfolding cell-follower
 returns c = search needs
 
 pub follower-at-spec : {M : Type 1} → statement M

@@ -1,5 +1,5 @@
 -- `table::loops_at` meets its contract.
-use Rattle.table.specs.Cells.{cell-behind}
+use Rattle.table.specs.Cells.{cell-follower}
 use borrow.Author.Needs.{needs}
 use Rattle.table.proofs.loops_at.Statement.{statement}
 use Rattle.table.proofs.loops_at.Tie as tie
@@ -11,7 +11,7 @@ element-copy-out-result : tie.Need-element-copy-out-result
 element-copy-out-result c = search needs
 
 returns : tie.Need-returns
-unfolding cell-behind
+unfolding cell-follower
 returns c = search needs
 
 pub loops-at-spec : {M : Type 1} → statement M

@@ -32,34 +32,34 @@ sub-i c = search needs
 node-at-requires : tie.Need-node-at-requires Inv-loop μ-loop
 node-at-requires c κs = line (c .before)
 
-mul-behind : tie.Need-mul-behind Inv-loop μ-loop
-mul-behind c = omega (arith, line (c .before .before))
+mul-follower : tie.Need-mul-follower Inv-loop μ-loop
+mul-follower c = omega (arith, line (c .before .before))
 
-element-copy-out-behind : tie.Need-element-copy-out-behind Inv-loop μ-loop
-element-copy-out-behind c = omega (arith, line (c .before .before))
+element-copy-out-follower : tie.Need-element-copy-out-follower Inv-loop μ-loop
+element-copy-out-follower c = omega (arith, line (c .before .before))
 
-behind-requires : tie.Need-behind-requires Inv-loop μ-loop
-behind-requires c κs = search needs
+follower-requires : tie.Need-follower-requires Inv-loop μ-loop
+follower-requires c κs = search needs
 
 second-part-requires : tie.Need-second-part-requires Inv-loop μ-loop
 second-part-requires c κs = search needs
 
-put-behind-requires : tie.Need-put-behind-requires Inv-loop μ-loop
-put-behind-requires c κs =
+put-follower-requires : tie.Need-put-follower-requires Inv-loop μ-loop
+put-follower-requires c κs =
     let n = c .before .before .before .before in (
       omega (arith, c .second-part .ensures, inside n .second, line (n .before .before), n .before .before .before .loop .inv .1 .long),
-      c .before .before .behind .ensures .1,
+      c .before .before .follower .ensures .1,
     )
 
 first-part-requires : tie.Need-first-part-requires Inv-loop μ-loop
 first-part-requires c κs = search needs
 
-first-behind-requires : tie.Need-first-behind-requires Inv-loop μ-loop
-first-behind-requires c κs =
-    (line (c .before .before .before .before .before .before .before .before .before), c .before .before .before .before .before .behind .ensures .1)
+first-follower-requires : tie.Need-first-follower-requires Inv-loop μ-loop
+first-follower-requires c κs =
+    (line (c .before .before .before .before .before .before .before .before .before), c .before .before .before .before .before .follower .ensures .1)
 
-put-behind-requires-2 : tie.Need-put-behind-requires-2 Inv-loop μ-loop
-put-behind-requires-2 c κs =
+put-follower-requires-2 : tie.Need-put-follower-requires-2 Inv-loop μ-loop
+put-follower-requires-2 c κs =
     let n = c .before .before .before .before .before .before .before .before in (
       omega (
         arith,
@@ -67,9 +67,9 @@ put-behind-requires-2 c κs =
         inside n .first,
         line (n .before .before),
         n .before .before .before .loop .inv .1 .long,
-        c .before .before .before .put-behind .ensures .long,
+        c .before .before .before .put-follower .ensures .long,
       ),
-      c .first-behind .ensures .1,
+      c .first-follower .ensures .1,
     )
 
 loop-less : tie.Need-loop-less Inv-loop μ-loop
@@ -82,9 +82,9 @@ loop-again c =
     let l = n .before .before .before in (
       l .loop .inv .0,
       following-next _ _ (l .loop .inv .0) _ _ (l .loop .inv .1) (n .before .before .loop-test .taken) _ (n .node-at .ensures) _ _ _ _ _ _
-          (c .before .before .before .before .before .second-part .ensures) (c .before .before .first-part .ensures) (m .behind .ensures .0)
-          (c .before .first-behind .ensures .0)
-          (c .before .before .before .before .put-behind .ensures) (c .put-behind2 .ensures),
+          (c .before .before .before .before .before .second-part .ensures) (c .before .before .first-part .ensures) (m .follower .ensures .0)
+          (c .before .first-follower .ensures .0)
+          (c .before .before .before .before .put-follower .ensures) (c .put-follower2 .ensures),
     )
 
 returns : tie.Need-returns Inv-loop μ-loop
@@ -99,14 +99,14 @@ put-followers-spec =
     loop-holds
     sub-i
     node-at-requires
-    mul-behind
-    element-copy-out-behind
-    behind-requires
+    mul-follower
+    element-copy-out-follower
+    follower-requires
     second-part-requires
-    put-behind-requires
+    put-follower-requires
     first-part-requires
-    first-behind-requires
-    put-behind-requires-2
+    first-follower-requires
+    put-follower-requires-2
     loop-less
     loop-again
     returns)

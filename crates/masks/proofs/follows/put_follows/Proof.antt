@@ -12,11 +12,11 @@ use Rattle.masks.proofs.follows.put_follows.Statement.{statement}
 use Rattle.masks.proofs.follows.put_follows.Tie as tie
 
 abbrev Inv-loop : tie.InvT-loop
-Inv-loop table count firsts nullable behind₀ ends₀ i₀ behind ends i =
-    Rooted (line-in table) count × Firsts (line-in table) count firsts nullable × Down (line-in table) count i behind ends
+Inv-loop table count firsts nullable follows₀ ends₀ i₀ follows ends i =
+    Rooted (line-in table) count × Firsts (line-in table) count firsts nullable × Down (line-in table) count i follows ends
 
 abbrev μ-loop : tie.MeasureT-loop
-μ-loop table count firsts nullable behind₀ ends₀ i₀ behind ends i = i
+μ-loop table count firsts nullable follows₀ ends₀ i₀ follows ends i = i
 
 -- the line lies inside the table, and its parts stand below it
 line : (c : tie.In-loop Inv-loop μ-loop) → c .before .loop .i - 1 < 64

@@ -9,10 +9,10 @@ use Rattle.masks.proofs.scatter.put_columns.Statement.{statement}
 use Rattle.masks.proofs.scatter.put_columns.Tie as tie
 
 abbrev Inv-loop : tie.InvT-loop
-Inv-loop count firsts nullable behind flag cells₀ i₀ cells i = (i ≤ count) × Scattered (λ l. test-bit (row firsts nullable behind flag l)) 64 i cells
+Inv-loop count firsts nullable follows flag cells₀ i₀ cells i = (i ≤ count) × Scattered (λ l. test-bit (row firsts nullable follows flag l)) 64 i cells
 
 abbrev μ-loop : tie.MeasureT-loop
-μ-loop count firsts nullable behind flag cells₀ i₀ cells i = count - i
+μ-loop count firsts nullable follows flag cells₀ i₀ cells i = count - i
 
 loop-holds : tie.Need-loop-holds Inv-loop μ-loop
 loop-holds c = (omega arith, scattered-start _ 64 _ (c .pre .2))
@@ -58,14 +58,14 @@ loop-again c =
     let s = c .before .before .before .before .before .before .before .before in (
       omega (arith, c .before .before .before .before .before .before .loop-test .taken),
       columns-next
-          (row (s .args .firsts .now) (s .args .nullable .now) (s .args .behind .now) (s .args .flag)) _ _ _ _
+          (row (s .args .firsts .now) (s .args .nullable .now) (s .args .follows .now) (s .args .flag)) _ _ _ _
           (c .before .before .before .before .before .before .before .loop .inv .1) (c .before .before .join .ensures) (c .put-row .ensures),
     )
 
 returns : tie.Need-returns Inv-loop μ-loop
 returns c =
     let s = c .before .before in
-    columns-end (row (s .args .firsts .now) (s .args .nullable .now) (s .args .behind .now) (s .args .flag)) _ _ _ (s .pre .0)
+    columns-end (row (s .args .firsts .now) (s .args .nullable .now) (s .args .follows .now) (s .args .flag)) _ _ _ (s .pre .0)
     (omega (arith, c .before .loop .inv .0, c .loop-test .left)) (c .before .loop .inv .1)
 
 pub put-columns-spec : {M : Type 1} → statement M

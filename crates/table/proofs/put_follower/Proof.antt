@@ -1,8 +1,8 @@
--- `table::put_behind` meets its contract.
-use Rattle.table.specs.CellLaws.{behind-put}
+-- `table::put_follower` meets its contract.
+use Rattle.table.specs.CellLaws.{follower-put}
 use borrow.Author.Needs.{needs}
-use Rattle.table.proofs.put_behind.Statement.{statement}
-use Rattle.table.proofs.put_behind.Tie as tie
+use Rattle.table.proofs.put_follower.Statement.{statement}
+use Rattle.table.proofs.put_follower.Tie as tie
 
 mul-table : tie.Need-mul-table
 mul-table c = search needs
@@ -26,10 +26,10 @@ same-length : tie.Need-same-length
 same-length c = search needs
 
 returns : tie.Need-returns
-returns c = behind-put _ _ _ (c .before .pre .0)
+returns c = follower-put _ _ _ (c .before .pre .0)
 
-pub put-behind-spec : {M : Type 1} → statement M
-put-behind-spec =
+pub put-follower-spec : {M : Type 1} → statement M
+put-follower-spec =
     tie.close
     (tie.spec
     mul-table

@@ -1,9 +1,9 @@
--- `table::first_behind` meets its contract.
+-- `table::first_follower` meets its contract.
 use mathlib.Core.Path.{refl}
 use native.Mathlib.Omega.{arith}
 use borrow.Author.Needs.{needs}
-use Rattle.table.proofs.first_behind.Statement.{statement}
-use Rattle.table.proofs.first_behind.Tie as tie
+use Rattle.table.proofs.first_follower.Statement.{statement}
+use Rattle.table.proofs.first_follower.Tie as tie
 
 enum-told : tie.Need-enum-told
 enum-told c = search needs
@@ -35,8 +35,8 @@ returns-3 c = search needs
 returns-4 : tie.Need-returns-4
 returns-4 c = (rw (c .enum-told3 .given .1) refl, omega (arith, c .before .before .pre .0))
 
-pub first-behind-spec : {M : Type 1} → statement M
-first-behind-spec =
+pub first-follower-spec : {M : Type 1} → statement M
+first-follower-spec =
     tie.close
     (tie.spec
     enum-told
