@@ -26,6 +26,7 @@ use Rattle.table.specs.declared.Numbers.{Numbers}
 use Rattle.table.specs.HandDown.{equal, first-part, second-part, Parts-inside, parts-inside, Rooted, rules-rooted, Known, made-has-index}
 use Rattle.table.specs.HandDown.{Stores, stores-same, Given, All-given, Hands, given-start, given-next, given-end}
 use Rattle.table.specs.Cells.{row-of, node-from, cell-node, cell-account, cell-line, node-in, account-in, line-in, tree-in}
+use Rattle.table.specs.Cells.{field, first-place, second-place, account-place, half, above-place}
 use Rattle.table.specs.Cells.{cell-follower, cell-follower-in, follower-in, loops-in, state-index, Followed, Holds, Good}
 
 -- ── a cell ──
@@ -40,8 +41,8 @@ row-node (Star false p) = refl
 row-node (Star true p) = refl
 
 pub cell-packed :
-    (x : Line) (r : Numbers) (c : ℕ) → r ≡ row-of (x .node) → c % 256 ≡ r .kind → c / 256 % 256 ≡ r .first → c / 65536 % 256 ≡ r .second
-    → c / 16777216 % 256 ≡ x .account → cell-line c ≡ x
+    (x : Line) (r : Numbers) (c : ℕ) → r ≡ row-of (x .node) → c % field ≡ r .kind → c / first-place % field ≡ r .first → c / second-place % field ≡ r .second
+    → c / account-place % field ≡ x .account → cell-line c ≡ x
 unfolding cell-node cell-account
 cell-packed x r c er ek ea eb eo = rw (ek, ea, eb, eo, er, row-node (x .node))
 
@@ -105,14 +106,14 @@ pub record Follower-put (table : List ℕ) (l v : ℕ) (now : List ℕ) : Type 0
   pub lines : (k : ℕ) → line-in now k ≡ line-in table k
   pub stores : Stores (cell-follower-in table) l v (cell-follower-in now)
 
-pub follower-put : (table : List ℕ) (l v : ℕ) → l < length table → Follower-put table l v (set table l (getD table l 0 % 4294967296 + v * 4294967296))
+pub follower-put : (table : List ℕ) (l v : ℕ) → l < length table → Follower-put table l v (set table l (getD table l 0 % half + v * half))
 unfolding cell-node cell-account cell-follower
 follower-put table l v h = record {
   long = length-set table l cell;
   lines = λ k. line k (equal k l);
   stores = record {
-    here = ap (λ c. c / 4294967296) same ∙ put-above 32 old v;
-    other = λ k n. ap (λ c. c / 4294967296) (getD-set-other table l k cell 0 n);
+    here = ap (λ c. c / half) same ∙ put-above 32 old v;
+    other = λ k n. ap (λ c. c / half) (getD-set-other table l k cell 0 n);
   };
 }
   where
@@ -120,21 +121,21 @@ follower-put table l v h = record {
     old = getD table l 0
 
     cell : ℕ
-    cell = old % 4294967296 + v * 4294967296
+    cell = old % half + v * half
 
     same : getD (set table l cell) l 0 ≡ cell
     same = getD-set-same table l cell 0 h
 
-    kind : cell % 256 ≡ old % 256
+    kind : cell % field ≡ old % field
     kind = kept-low 32 old v 8 (omega arith)
 
-    first : cell / 256 % 256 ≡ old / 256 % 256
+    first : cell / first-place % field ≡ old / first-place % field
     first = kept-field 32 old v 8 8 (omega arith)
 
-    second : cell / 65536 % 256 ≡ old / 65536 % 256
+    second : cell / second-place % field ≡ old / second-place % field
     second = kept-field 32 old v 8 16 (omega arith)
 
-    account : cell / 16777216 % 256 ≡ old / 16777216 % 256
+    account : cell / account-place % field ≡ old / account-place % field
     account = kept-field 32 old v 8 24 (omega arith)
 
     kept : cell-line cell ≡ cell-line old
@@ -149,12 +150,12 @@ abbrev pub first-follower : (line : ℕ) → Node → ℕ → ℕ
 first-follower i (Leaf-node x) v = v
 first-follower i (Sequence p q) v = q
 first-follower i (Alternative p q) v = v
-first-follower i (Star again p) v = i + 256
+first-follower i (Star again p) v = i + above-place
 
 -- the number of what follows a node
 pub record Follower-is (root : Tree) (t : Tree) (s : Location root t) (v : ℕ) : Type 0 where
-  pub state : v % 256 ≡ state-index (follower s)
-  pub above : v / 256 ≡ bit (loops s)
+  pub state : v % field ≡ state-index (follower s)
+  pub above : v / above-place ≡ bit (loops s)
 
 module _ {f : ℕ → Line} {n : ℕ} (whole : Rooted f n) where
   follower-hands : (i : ℕ) → i < n → Hands f n (Follower-is (tree-of f (n - 1))) i (first-follower i)
@@ -162,7 +163,7 @@ module _ {f : ℕ → Line} {n : ℕ} (whole : Rooted f n) where
     leaf = λ x v. refl;
     sequence = λ x y a b s v q. (
       record {
-        state = (let e : y % 256 ≡ y = omega (arith, whole .few) in e)
+        state = (let e : y % field ≡ y = omega (arith, whole .few) in e)
             ∙ sym (made-has-index whole y (omega arith));
         above = omega (arith, whole .few);
       },

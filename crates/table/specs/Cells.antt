@@ -48,12 +48,24 @@ node-from (suc (suc (suc (suc zero)))) a b = Alternative a b
 node-from (suc (suc (suc (suc (suc zero))))) a b = Star false a
 node-from (suc (suc (suc (suc (suc (suc k)))))) a b = Star true a
 
--- a cell is one number, its parts from the lowest: kind, first, second, account, each in 8 bits
+-- a cell is one number, its parts from the lowest: kind, first, second, account, each a field of 8 bits; what 1 in each of them is worth
+abbrev pub field : ℕ
+field = 256
+
+abbrev pub first-place : ℕ
+first-place = 256
+
+abbrev pub second-place : ℕ
+second-place = 65536
+
+abbrev pub account-place : ℕ
+account-place = 16777216
+
 unfoldable pub cell-node : (cell : ℕ) → Node
-cell-node c = node-from (c % 256) (c / 256 % 256) (c / 65536 % 256)
+cell-node c = node-from (c % field) (c / first-place % field) (c / second-place % field)
 
 unfoldable pub cell-account : (cell : ℕ) → ℕ
-cell-account c = c / 16777216 % 256
+cell-account c = c / account-place % field
 
 abbrev pub node-in : (table : List ℕ) → (l : ℕ) → Node
 node-in table l = cell-node (getD table l 0)
@@ -72,19 +84,26 @@ unfoldable pub tree-in : (table : List ℕ) → (l : ℕ) → Tree
 tree-in table l = tree-of (line-in table) l
 
 -- ── followers: above those 32 bits, the follower in 8 bits and a bit that is 1 where it is a star above ──
+abbrev pub half : ℕ
+half = 4294967296
+
+-- 1 more in the mark of a star above
+abbrev pub above-place : ℕ
+above-place = 256
+
 unfoldable pub cell-follower : (cell : ℕ) → ℕ
-cell-follower c = c / 4294967296
+cell-follower c = c / half
 
 abbrev pub cell-follower-in : (table : List ℕ) → (l : ℕ) → ℕ
 cell-follower-in table l = cell-follower (getD table l 0)
 
 -- 01's follower of a line by its number: a node's index, and 64 for the end
 abbrev pub follower-in : (table : List ℕ) → (l : ℕ) → ℕ
-follower-in table l = cell-follower-in table l % 256
+follower-in table l = cell-follower-in table l % field
 
 -- whether the follower is a star above
 abbrev pub loops-in : (table : List ℕ) → (l : ℕ) → Bool
-loops-in table l = eqb (cell-follower-in table l / 256 % 2) 1
+loops-in table l = eqb (cell-follower-in table l / above-place % 2) 1
 
 -- a state's number
 abbrev pub state-index : {root : Tree} → State root → ℕ

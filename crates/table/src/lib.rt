@@ -9,12 +9,27 @@ ghost use lib.ListN.{length, replicate};
 ghost use Rattle.syntax.specs.TreeLaws.{Rules};
 ghost use Rattle.table.specs.HandDown.{first-part, second-part, Rooted};
 ghost use Rattle.table.specs.Cells.{row, leaf-row, star-kind, row-of, node-from, cell-line, line-in, node-in, account-in, Holds};
+ghost use Rattle.table.specs.Cells.{field, first-place, second-place, account-place, half};
 ghost use Rattle.table.specs.Cells.{cell-follower, cell-follower-in, follower-in, loops-in};
 ghost use Rattle.table.specs.CellLaws.{Filled, Follower-put, first-follower, Follows};
 use syntax::Leaf;
 use syntax::Line;
 use syntax::Node;
 use syntax::Pattern;
+
+// A cell's fields of 8 bits. Kind is the lowest; of each other, what 1 in it is worth in the cell.
+const FIELD: u64 = 256;
+
+const FIRST: u64 = 256;
+
+const SECOND: u64 = 65536;
+
+const ACCOUNT: u64 = 16777216;
+
+// The upper half of a cell has the follower, with the mark of a star above.
+const HALF: u64 = 4294967296;
+
+const ABOVE: u64 = 256;
 
 // A node as three numbers. Which of them a kind uses, and for what, `node_of` says.
 pub struct Numbers {
@@ -82,16 +97,16 @@ fn row_of(node: Node) -> Numbers
 }
 
 fn wide(x: u8) -> u64
-    ensures { λ r. ⌜ (r ≡ x) × (r < 256) ⌝ }
+    ensures { λ r. ⌜ (r ≡ x) × (r < field) ⌝ }
 {
     x as u64
 }
 
 fn pack(kind: u8, first: u8, second: u8, account: u8) -> u64
     ensures { λ r.
-        ⌜ (r % 256 ≡ kind) × (r / 256 % 256 ≡ first) × (r / 65536 % 256 ≡ second) × (r / 16777216 % 256 ≡ account) ⌝ }
+        ⌜ (r % field ≡ kind) × (r / first-place % field ≡ first) × (r / second-place % field ≡ second) × (r / account-place % field ≡ account) ⌝ }
 {
-    wide(kind) + wide(first) * 256 + wide(second) * 65536 + wide(account) * 16777216
+    wide(kind) + wide(first) * FIRST + wide(second) * SECOND + wide(account) * ACCOUNT
 }
 
 fn cell_of(line: Line) -> u64
@@ -146,9 +161,9 @@ pub fn node_at(table: &[u64; 64], l: usize) -> Node
     ensures { λ r. ⌜ r ≡ node-in (now (table .entry)) l ⌝ }
 {
     let cell = table[l];
-    let kind = (cell % 256) as u8;
-    let first = (cell / 256 % 256) as u8;
-    let second = (cell / 65536 % 256) as u8;
+    let kind = (cell % FIELD) as u8;
+    let first = (cell / FIRST % FIELD) as u8;
+    let second = (cell / SECOND % FIELD) as u8;
     node_of(kind, first, second)
 }
 
@@ -157,7 +172,7 @@ pub fn account_at(table: &[u64; 64], l: usize) -> u8
     requires { ⌜ l < 64 ⌝ }
     ensures { λ r. ⌜ r ≡ account-in (now (table .entry)) l ⌝ }
 {
-    (table[l] / 16777216 % 256) as u8
+    (table[l] / ACCOUNT % FIELD) as u8
 }
 
 // The node that follows a line (01: its follower), 64 for the end.
@@ -165,7 +180,7 @@ pub fn follower_at(table: &[u64; 64], l: usize) -> u8
     requires { ⌜ l < 64 ⌝ }
     ensures { λ r. ⌜ r ≡ follower-in (now (table .entry)) l ⌝ }
 {
-    (table[l] / 4294967296 % 256) as u8
+    (table[l] / HALF % FIELD) as u8
 }
 
 // Whether the node that follows a line is a star above it.
@@ -173,7 +188,7 @@ pub fn loops_at(table: &[u64; 64], l: usize) -> bool
     requires { ⌜ l < 64 ⌝ }
     ensures { λ r. ⌜ r ≡ loops-in (now (table .entry)) l ⌝ }
 {
-    table[l] / 4294967296 / 256 % 2 == 1
+    table[l] / HALF / ABOVE % 2 == 1
 }
 
 // The parts of line i: a star has one, and a leaf stands for its own.
@@ -201,29 +216,29 @@ pub fn second_part(node: Node, i: usize) -> usize
 
 // What a cell says of the follower: its number, and 256 more where it is a star above.
 fn follower(cell: u64) -> u64
-    ensures { λ r. ⌜ (r ≡ cell-follower cell) × (r < 4294967296) ⌝ }
+    ensures { λ r. ⌜ (r ≡ cell-follower cell) × (r < half) ⌝ }
 {
-    cell / 4294967296
+    cell / HALF
 }
 
 // The same for the first part of line i, from that of the line: the second part of a sequence follows, and the star itself.
 fn first_follower(node: Node, i: usize, line: u64) -> u64
-    requires { ⌜ (i < 64) × (line < 4294967296) ⌝ }
-    ensures { λ r. ⌜ (r ≡ first-follower i node line) × (r < 4294967296) ⌝ }
+    requires { ⌜ (i < 64) × (line < half) ⌝ }
+    ensures { λ r. ⌜ (r ≡ first-follower i node line) × (r < half) ⌝ }
 {
     match node {
         Node::Leaf(_) => line,
         Node::Sequence(_, q) => wide(q),
         Node::Alternative(_, _) => line,
-        Node::Star(_, _) => i as u64 + 256,
+        Node::Star(_, _) => i as u64 + ABOVE,
     }
 }
 
 fn put_follower(table: &mut [u64], l: usize, follower: u64)
-    requires { ⌜ (l < length (now table)) × (follower < 4294967296) ⌝ }
+    requires { ⌜ (l < length (now table)) × (follower < half) ⌝ }
     ensures { λ _. ⌜ Follower-put (now (table .entry)) l follower (now (table .exit)) ⌝ }
 {
-    table[l] = table[l] % 4294967296 + follower * 4294967296;
+    table[l] = table[l] % HALF + follower * HALF;
 }
 
 // The followers of all lines, from that of the last: each line hands on to its parts.
