@@ -22,7 +22,8 @@ letter-line c = line 0 (Leaf-node (Letter c))
 -- `K` over (`K` over 0 to 9, then `Z` over x): 0 `L` x, 1 `R` 0 9 of account 3, 2 `K` 1, 3 `Z` 0, 4 `S` 2 3, 5 `K` 4 of account 9
 abbrev pub mixed : Pattern
 mixed =
-    table (letter-line 120 ∷ line 3 (Leaf-node (Range 48 57)) ∷ line 0 (Star false 1) ∷ line 0 (Star true 0) ∷ line 0 (Sequence 2 3) ∷ line 9 (Star false 4) ∷ [])
+    table (letter-line 120 ∷ line 3 (Leaf-node (Range 48 57)) ∷ line 0 (Star false 1) ∷ line 0 (Star true 0) ∷ line 0 (Sequence 2 3)
+    ∷ line 9 (Star false 4) ∷ [])
 
 pub obeys-mixed : obeys mixed ≡ true
 unfolding table obeys line-good wrongly-names unnamed tree-fault is-letter

@@ -92,7 +92,8 @@ letter-plain c h = go (plain-byte c) refl (decLt c 11)
     go : (b : Bool) → plain-byte c ≡ b → Dec (c < 11) → b ≡ true
     go true e d = refl
     go false e (yes l) =
-        let t : not (true && not false) ≡ true = sym (ap₂ (λ x y. not (x && not y)) h e) ∙ below-each (λ b. not (is-letter b && not (plain-byte b))) 11 c letter-tried l in
+        let t : not (true && not false) ≡ true =
+        sym (ap₂ (λ x y. not (x && not y)) h e) ∙ below-each (λ b. not (is-letter b && not (plain-byte b))) 11 c letter-tried l in
         absurd (true≢false (sym t))
     go false e (no l) = absurd (true≢false (sym (ap₂ (λ x y. not x && not y) (ne-eqb c 10 (λ z. omega arith)) (ne-eqb c 9 (λ z. omega arith))) ∙ e))
 
@@ -184,7 +185,13 @@ module _ (i : ℕ) (x : Line) (g : Good-line i x) where
   line-back : row-line i (row-of (fields-of i x)) ≡ some x
   unfolding row-line line-of single
   line-back =
-      rw (place-back i (g .few), eq-eqb i i refl, account-back (x .account) account-low, node-back (x .node) placed, le-leb (x .account) account-limit account-low)
+      rw (
+        place-back i (g .few),
+        eq-eqb i i refl,
+        account-back (x .account) account-low,
+        node-back (x .node) placed,
+        le-leb (x .account) account-limit account-low,
+      )
 
 -- ── the lines of a text ──
 abbrev Good-lines : (i : ℕ) → List Line → Type 0

@@ -187,7 +187,8 @@ all-hold (r ∷ rs) e = (holds r (head-eq-of-cons-eq e), all-hold rs (tail-eq-of
 rows-compute : map seen rows ≡ map expected rows
 unfolding rows P1 P2 P3 P4 P5 Listing Z1 Z2 Z3 Z4 Z5 Z6 Z7 H1 text-rows digit one-digit two-digits place single all-digits decimal account-number
     account node-of-none node-of-one range-of parts-of node-of-two node-of line-of row-line forms table load-answer load-table is-letter in-range
-    first-bad line-good wrongly-names unnamed tree-fault root tree-of readable greedy is-code value-of spelled bits-of pack held exact handed-good whole-code letters-of
+    first-bad line-good wrongly-names unnamed tree-fault root tree-of readable greedy is-code value-of spelled bits-of pack held exact handed-good
+    whole-code letters-of
 rows-compute = refl
 
 -- 01: "C1 to C11 stand as a table and one theorem proves the definitions on every row." The rows for 02's kind `Z` and
