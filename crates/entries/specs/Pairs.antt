@@ -1,9 +1,13 @@
 -- Laws of the entries in front of two arrays.
 use mathlib.Core.Path.{_≡_, refl, ap}
+use mathlib.Core.Bool.{Bool, true, false}
 use mathlib.Core.List.{List, [], _∷_, _++_}
 use Prim.Native.Nat.{ℕ, zero, suc, _+_, _≤_, _<_}
 use native.Mathlib.Omega.{arith}
-use lib.ListN.{length, length-append, take, getD}
+use lib.Dec.{eqb}
+use lib.ListN.{length, length-append, length-set, take, getD, set}
+use lib.Seq.{getD-set-same, getD-set-other}
+use borrow.Author.Tests.{eqb-true, eqb-false}
 use Rattle.syntax.specs.Table.{account-limit}
 use Rattle.semantics.specs.AccountLaws.{letters}
 use Rattle.semantics.specs.VisitLaws.{All}
@@ -41,3 +45,19 @@ pairs-letters zero xs ys h k = refl
 pairs-letters (suc n) [] ys h k = absurd (omega arith)
 pairs-letters (suc n) (x ∷ xs) [] h k = absurd (omega arith)
 pairs-letters (suc n) (x ∷ xs) (y ∷ ys) h k = ap (λ w. x ∷ w) (pairs-letters n xs ys (omega arith) (omega arith))
+
+-- ── an entry put behind the first n ──
+pub pairs-put : (n : ℕ) (xs ys : List ℕ) (x y : ℕ) → n < length xs → n < length ys → pairs (suc n) (set xs n x) (set ys n y) ≡ pairs n xs ys ++ ((x, y) ∷ [])
+pairs-put n [] ys x y h k = absurd (omega arith)
+pairs-put n (c ∷ xs) [] x y h k = absurd (omega arith)
+pairs-put zero (c ∷ xs) (a ∷ ys) x y h k = refl
+pairs-put (suc n) (c ∷ xs) (a ∷ ys) x y h k = ap (λ fs. (c, a) ∷ fs) (pairs-put n xs ys x y (omega arith) (omega arith))
+
+pub owned-put : (ys : List ℕ) (n k y : ℕ) → Owned ys n → y ≤ account-limit → Owned (set ys k y) n
+owned-put ys n k y o h = record { wide = omega (arith, o .wide, length-set ys k y); own = λ i l. go i l (eqb i k) refl }
+  where
+    go : (i : ℕ) → i < n → (b : Bool) → eqb i k ≡ b → getD (set ys k y) i 0 ≤ account-limit
+    go i l true e =
+        let f = eqb-true i k e in
+        omega (arith, ap (λ j. getD (set ys k y) j 0) f, getD-set-same ys k y 0 (omega (arith, f, l, o .wide)))
+    go i l false e = omega (arith, getD-set-other ys k i y 0 (eqb-false i k e), o .own i l)

@@ -15,7 +15,6 @@ use Rattle.entries.specs.Entries.{Entries}
 use Rattle.terms.specs.declared.Term.{Term}
 use Rattle.terms.specs.Terms.{day-end, after-letter, Dated, dated, in-term}
 use Rattle.terms.specs.Days.{date-behind}
-use Rattle.terms.specs.Adding.{dated-append}
 
 abbrev pub entry-list : List Dated → Entries
 entry-list xs = map (λ x. x .entry) xs
@@ -43,6 +42,10 @@ behind-steps (c ∷ w) d = go (eqb c day-end) (behind-steps w (next-date d)) (be
         → date-behind (cond b (next-date d) d) w ≡ steps (cond b (suc (day-ends-in w)) (day-ends-in w)) d
     go true e f = e
     go false e f = f
+
+dated-append : (es fs : Entries) (d : Date) → dated d (es ++ fs) ≡ dated d es ++ dated (date-behind d (letters es)) fs
+dated-append [] fs d = refl
+dated-append (e ∷ es) fs d = ap (λ xs. record { entry = e; date = d } ∷ xs) (dated-append es fs (after-letter (e .0) d))
 
 pub letter-date : (es : Entries) (e : ℕ × ℕ) (fs : Entries) (d : Date)
     → dated d (es ++ (e ∷ fs))

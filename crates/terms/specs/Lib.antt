@@ -1,6 +1,6 @@
 pub mod Terms
 pub mod Days
-pub mod Adding
+pub mod Selection
 pub mod Unique
 pub mod TermWays
 pub mod Orders

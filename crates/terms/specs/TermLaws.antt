@@ -24,8 +24,7 @@ use Rattle.entries.specs.EntryAccounts.{root-accounts, entries-few}
 use Rattle.totals.specs.declared.Totalled.{Totalled}
 use Rattle.totals.specs.declared.TotalsOutcome.the-variants.{Added as All-added}
 use Rattle.totals.specs.Totals.{totals-answer, totals-litres, no-litres, Totals}
-use Rattle.totals.specs.Sums.{charge-totals}
-use Rattle.totals.specs.TotalsLaws.{totals-added, many-or-none, sum-list, sum-totals}
+use Rattle.totals.specs.TotalsLaws.{totals-added, no-entries, many-or-none, sum-list, sum-totals}
 use Rattle.totals.specs.Unique.{totals-one}
 use Rattle.terms.specs.declared.Term.{Term}
 use Rattle.terms.specs.declared.TermOutcome.the-variants.{Added}
@@ -133,10 +132,6 @@ pub term-litres-many : (p : Pattern) (code : List ℕ) (count : ℕ) (start : Da
 unfolding terms-litres
 term-litres-many p code count start term =
     many-or-none (eqb (terms-answer p code count start term .number) 0) (within term (dated start (entries-of (root p) code count)))
-
--- the litres of no letters
-no-entries : totals [] ≡ no-litres
-no-entries = sym (charge-totals [])
 
 zeros : (b : Bool) → cond b (totals []) no-litres ≡ no-litres
 zeros true = no-entries

@@ -30,7 +30,7 @@ use Rattle.terms.specs.Terms.{day-end, after-letter, dated, in-term, wit
 use Rattle.terms.specs.Terms.{term-number, term-refused, dates-order, terms-order, terms-answer, terms-litres, refused-term, Term-totals}
 use Rattle.terms.specs.Unique.{term-number-positive}
 
--- ── `after_letter`, `next_day` ──
+-- ── `after_letter`, and the day along `select_term` ──
 pub same-day : (c : ℕ) (d : Date) → (c ≡ day-end → ⊥) → d ≡ after-letter c d
 unfolding after-letter
 same-day c d h = rw (ne-eqb c day-end h)

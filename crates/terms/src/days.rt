@@ -11,7 +11,7 @@ use calendar::is_date;
 use calendar::next_date;
 
 // The letter that ends a day.
-const DAY_END: u8 = b'D';
+pub(crate) const DAY_END: u8 = b'D';
 
 // The date behind a letter. The letter that ends a day still belongs to that day.
 fn after_letter(c: u8, date: Date) -> Date
@@ -72,16 +72,4 @@ pub(crate) fn day_of(term: Term, date: Date) -> Day
         date,
         inside: in_term(term, date),
     }
-}
-
-// The day behind a letter.
-pub(crate) fn next_day(term: Term, day: Day, c: u8) -> Day
-    requires { ⌜ day ≡ day-of term (day .date) ⌝ }
-    ensures { λ r. ⌜ r ≡ day-of term (after-letter c (day .date)) ⌝ }
-{
-    if c != DAY_END {
-        return day;
-    }
-    let date = next_date(day.date);
-    day_of(term, date)
 }

@@ -9,7 +9,7 @@ ghost use Rattle.entries.specs.Gather.{pairs, Owned};
 ghost use Rattle.terms.specs.Terms.{term-number, term-value, refused-term, Dates-totals, Term-totals};
 
 mod days; // days.rt: the dates of letters, and which of them lie in a term
-mod sums; // sums.rt: adding up the entries of a term
+mod selection; // selection.rt: selecting the entries of a term
 
 use calendar::Date;
 use calendar::is_date;
@@ -20,8 +20,9 @@ use entries::gather;
 use refusals::Refusal;
 use refusals::number_of;
 use refusals::value_of;
-use sums::add_term;
+use selection::select_term;
 use syntax::Pattern;
+use totals::add_up;
 
 // A billing term: its first and its last day, both included. Any two dates, of which `is_term` says whether they are those of a term.
 pub struct Term {
@@ -80,7 +81,13 @@ fn no_term_totals(why: TermRefusal) -> TermTotalled
 }
 
 // The totals of the first n entries within a term, once their dates and the term's are tested.
-fn total_dates(letters: &[u8], accounts: &[u8], n: usize, start: Date, term: Term) -> TermTotalled
+fn total_dates(
+    letters: &mut [u8],
+    accounts: &mut [u8],
+    n: usize,
+    start: Date,
+    term: Term,
+) -> TermTotalled
     requires { ⌜ (n ≤ length (now letters)) × (n ≤ letter-limit) × Owned (now accounts) n ⌝ }
     ensures { λ r. ⌜ Dates-totals start term (pairs n (now (letters .entry)) (now (accounts .entry))) r ⌝ }
 {
@@ -92,9 +99,10 @@ fn total_dates(letters: &[u8], accounts: &[u8], n: usize, start: Date, term: Ter
     if !known {
         return no_term_totals(TermRefusal::NotATerm);
     }
+    let kept = select_term(letters, accounts, n, start, term);
     TermTotalled {
         outcome: TermOutcome::Added,
-        litres: add_term(letters, accounts, n, start, term),
+        litres: add_up(letters, accounts, kept),
     }
 }
 
@@ -107,6 +115,6 @@ pub fn term_totals(p: Pattern, code: &[u8], count: u32, start: Date, term: Term)
     let gathered = gather(p, code, count, &mut letters, &mut accounts);
     match gathered {
         Gathered::Refused(why) => no_term_totals(TermRefusal::Base(why)),
-        Gathered::Entries(n) => total_dates(&letters, &accounts, n, start, term),
+        Gathered::Entries(n) => total_dates(&mut letters, &mut accounts, n, start, term),
     }
 }

@@ -27,7 +27,7 @@ abbrev pub charge : (sums : List ℕ) → Entries → List ℕ
 charge s [] = s
 charge s (e ∷ es) = charge (charge-one s (e .1) (e .0)) es
 
-pub charge-append : (es fs : Entries) (s : List ℕ) → charge s (es ++ fs) ≡ charge (charge s es) fs
+charge-append : (es fs : Entries) (s : List ℕ) → charge s (es ++ fs) ≡ charge (charge s es) fs
 charge-append [] fs s = refl
 charge-append (e ∷ es) fs s = charge-append es fs (charge-one s (e .1) (e .0))
 
@@ -35,7 +35,7 @@ one-length : (s : List ℕ) (a c : ℕ) → length (charge-one s a c) ≡ length
 unfolding charge-one
 one-length s a c = length-set s a (getD s a 0 + litres c)
 
-pub charge-length : (es : Entries) (s : List ℕ) → length (charge s es) ≡ length s
+charge-length : (es : Entries) (s : List ℕ) → length (charge s es) ≡ length s
 charge-length [] s = refl
 charge-length (e ∷ es) s = charge-length es (charge-one s (e .1) (e .0)) ∙ one-length s (e .1) (e .0)
 
@@ -73,12 +73,12 @@ module _ (n : ℕ) (es : Entries) where
       ext-getD 0 sums (totals-to n es) (sums-length ∙ sym (totals-length n es))
       (λ a h. let k : a < n = omega (arith, sums-length) in sum-of a k ∙ sym (getD-totals n a es k))
 
-pub charge-totals : (es : Entries) → charge no-litres es ≡ totals es
+charge-totals : (es : Entries) → charge no-litres es ≡ totals es
 unfolding totals
 charge-totals es = sums-totals (account-limit + 1) es
 
 -- no sum passes nine litres a letter
-pub charge-room : (es : Entries) (a c : ℕ) → length es < letter-limit → a ≤ account-limit
+charge-room : (es : Entries) (a c : ℕ) → length es < letter-limit → a ≤ account-limit
     → getD (charge no-litres es) a 0 + litres c ≤ 9 * letter-limit
 charge-room es a c h o = omega (arith, sum-of (account-limit + 1) es a (omega arith), total-small a es, litres-small c)
 

@@ -1,11 +1,11 @@
 -- Totalling a whole code: what is refused, what is added up, and that the totals add up to the tape's digits.
-use mathlib.Core.Path.{_≡_, sym, ap, _∙_}
+use mathlib.Core.Path.{_≡_, refl, sym, ap, _∙_}
 use mathlib.Core.Bool.{Bool, true, false, cond}
 use mathlib.Core.List.{List, [], _∷_, map}
 use Prim.Native.Nat.{ℕ, zero, suc, _+_}
 use native.Mathlib.Omega.{arith}
 use lib.Dec.{eqb}
-use lib.ListN.{length, length-replicate}
+use lib.ListN.{length, replicate, length-replicate}
 use borrow.Author.Tests.{ne-eqb}
 use Rattle.syntax.specs.declared.Pattern.{Pattern}
 use Rattle.refusals.specs.declared.Refusal.{Refusal}
@@ -48,6 +48,16 @@ module _ (p : Pattern) (code : List ℕ) (count : ℕ) where
         answers = sym a;
         gives = e ∙ sym (ap (λ x. cond (eqb (x .number) 0) (totals (entries-of (root p) code count)) no-litres) a);
       }
+
+-- the litres of no letters
+none-from : (i n : ℕ) → map (λ a. total a []) (count-from i n) ≡ replicate n 0
+unfolding total
+none-from i zero = refl
+none-from i (suc n) = ap (λ xs. 0 ∷ xs) (none-from (suc i) n)
+
+pub no-entries : totals [] ≡ no-litres
+unfolding totals totals-to
+no-entries = none-from 0 (account-limit + 1)
 
 -- 02, Job 7: "There are 201 totals", refused or not
 pub many-or-none : (b : Bool) (es : List (ℕ × ℕ)) → length (cond b (totals es) no-litres) ≡ account-limit + 1

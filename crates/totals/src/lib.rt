@@ -25,7 +25,7 @@ fn litres_of(c: u8) -> u32
 }
 
 // Adds a letter's litres to the sum of its account. No sum passes nine litres a letter.
-pub fn charge_letter(sums: &mut [u32], account: u8, c: u8)
+fn charge_letter(sums: &mut [u32], account: u8, c: u8)
     requires { ⌜ (account < length (now sums)) × (getD (now sums) account 0 + litres c ≤ 9 * letter-limit) ⌝ }
     ensures { λ _. ⌜ now (sums .exit) ≡ charge-one (now (sums .entry)) account c ⌝ }
 {
@@ -34,8 +34,8 @@ pub fn charge_letter(sums: &mut [u32], account: u8, c: u8)
     sums[a] = sums[a] + litres;
 }
 
-// The totals of the first n entries.
-fn add_up(letters: &[u8], accounts: &[u8], n: usize) -> [u32; Pattern::ACCOUNTS]
+// The totals of the first n entries. Public for terms, which select before they add.
+pub fn add_up(letters: &[u8], accounts: &[u8], n: usize) -> [u32; Pattern::ACCOUNTS]
     requires { ⌜ (n ≤ length (now letters)) × (n ≤ letter-limit) × Owned (now accounts) n ⌝ }
     ensures { λ r. ⌜ r ≡ totals (pairs n (now (letters .entry)) (now (accounts .entry))) ⌝ }
 {

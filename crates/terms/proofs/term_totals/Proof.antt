@@ -41,9 +41,10 @@ returns c =
 
 returns-2 : tie.Need-returns-2
 returns-2 c =
-    let told = c .before .before .before .before in
+    let called = c .before .before in
+    let told = called .before .before .before .before in
     let held = told .before .before .before .before .gather .ensures .holds _ (told .gathered2 .given .1) in
-    term-totals-dated _ _ _ _ _ (held .clear) _ (held .entries) _ (c .total-dates .ensures)
+    term-totals-dated _ _ _ _ _ (held .clear) _ (held .entries) _ (called .total-dates .ensures)
 
 pub term-totals-spec : {M : Type 1} → statement M
 term-totals-spec =
