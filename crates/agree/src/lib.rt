@@ -4,10 +4,10 @@ ghost use mathlib.Core.Path.{_≡_};
 ghost use mathlib.Core.Bool.{true};
 ghost use mathlib.Core.Logic.{_↔_};
 ghost use Prim.Native.Nat.{_≤_};
-ghost use Rattle.bits.specs.Bits.{cell-count};
 ghost use Rattle.canonical.specs.Canonicalize.{canonicalized-answer};
 ghost use Rattle.canonical.specs.Demand.{Equal};
 ghost use Rattle.agree.specs.Agree.{Unsettled, concluded, worked, Comes-back, Agrees};
+use bits::bytes_for;
 use canonical::Canonicalized;
 use canonical::canonicalize;
 use check::same;
@@ -30,13 +30,6 @@ fn why_unsettled(answer: Canonicalized) -> Refusal
         return Refusal::NotACode;
     };
     why
-}
-
-// How many bytes a code of so many bits has.
-fn bytes_for(count: u32) -> usize
-    ensures { λ r. ⌜ r ≡ cell-count 8 count ⌝ }
-{
-    (count as usize + 7) / 8
 }
 
 // Whether two codes are equal, in bit count and in every byte.

@@ -83,7 +83,7 @@ fn bit_value(b: bool) -> u8
 }
 
 // How many bytes so many bits need.
-fn byte_count(count: u32) -> usize
+pub fn bytes_for(count: u32) -> usize
     ensures { λ r. ⌜ r ≡ cell-count 8 count ⌝ }
 {
     (count as usize + 7) / 8
@@ -97,7 +97,7 @@ pub fn handed_good(code: &[u8], count: u32) -> bool
     if n > Pattern::MAX_CODE_BYTES {
         return false;
     }
-    if n != byte_count(count) {
+    if n != bytes_for(count) {
         return false;
     }
     let r = count % 8;

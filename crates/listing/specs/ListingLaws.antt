@@ -174,13 +174,13 @@ unfolding in-front
 front-long new old n e = simp length-append (omega arith)
 
 -- what a refusal, and what a bit count, is to be followed by
-pub record Got (p : Pattern) (tape words-now code-now : List ℕ) (n : ℕ) : Type 0 where
-  pub read : Read p tape words-now (take (cell-count 8 n) code-now) n
+pub record Got (p : Pattern) (tape words-now code-now : List ℕ) (n bytes : ℕ) : Type 0 where
+  pub read : Read p tape words-now (take bytes code-now) n
   pub lists : listing p tape (greedy (root p) tape) ≡ pattern-listing p tape
-  pub fits : cell-count 8 n ≤ length code-now
+  pub fits : bytes ≤ length code-now
 
 abbrev Follows : Pattern → (tape us ys : List ℕ) → Parsed → Type 0
-Follows p tape us ys (Bits n) = Got p tape us ys n
+Follows p tape us ys (Bits n) = Got p tape us ys n (cell-count 8 n)
 Follows p tape us ys (Refused why) = refused-line (refused why) ≡ pattern-listing p tape
 
 module _ (p : Pattern) (tape ws us xs ys : List ℕ) (lw : length ws ≡ word-limit) (lx : length xs ≡ byte-limit) where
@@ -248,8 +248,8 @@ module _ (p : Pattern) (tape ws us xs ys : List ℕ) (lw : length ws ≡ word-li
   pub parse-refused : (r : Parsed) (why : Refusal) → r ≡ Refused why → Parses p tape ws us xs ys r → refused-line (refused why) ≡ pattern-listing p tape
   parse-refused r why e w = follows (Refused why) (subst (Parses p tape ws us xs ys) e w)
 
-  pub parse-bits : (r : Parsed) (n : ℕ) → r ≡ Bits n → Parses p tape ws us xs ys r → Got p tape us ys n
-  parse-bits r n e w = follows (Bits n) (subst (Parses p tape ws us xs ys) e w)
+  pub parse-bits : (r : Parsed) (n : ℕ) → r ≡ Bits n → Parses p tape ws us xs ys r → (bytes : ℕ) → bytes ≡ cell-count 8 n → Got p tape us ys n bytes
+  parse-bits r n e w bytes f = subst (Got p tape us ys n) (sym f) (follows (Bits n) (subst (Parses p tape ws us xs ys) e w))
 
 -- ── one closing byte 10 is dropped ──
 pub record Letters (file : List ℕ) (n : ℕ) : Type 0 where

@@ -6,6 +6,7 @@ ghost use Rattle.listing.specs.Listing.{listing, pattern-listing, listin
 ghost use Rattle.listing.specs.ListingLaws.{Read, Shows, Letters};
 ghost use Rattle.semantics.specs.Sweeps.{greedy};
 ghost use Rattle.syntax.specs.Trees.{root};
+use bits::bytes_for;
 use listing_lines::put_accounts;
 use listing_lines::put_open;
 use listing_lines::put_tape;
@@ -60,7 +61,7 @@ fn list_with(p: Pattern, tape: &[u8], words: &mut [u64], code: &mut [u8], out: &
     match parsed {
         Parsed::Refused(why) => put_refused(out, 0, number_of(why), value_of(why)),
         Parsed::Bits(count) => {
-            let n = (count as usize + 7) / 8;
+            let n = bytes_for(count);
             list_read(p, tape, words, &code[..n], count, out)
         }
     }

@@ -1,6 +1,5 @@
 // Answers for callers from C, each one number: the cause's number (0: none) in its upper 32 bits, the value beside it in the lower 32.
 ghost use mathlib.Core.Path.{_≡_};
-ghost use Prim.Native.Nat.{min};
 ghost use lib.ListN.{getD};
 ghost use Rattle.refusals.specs.Refusals.{answer};
 ghost use Rattle.loading.specs.Load.{outcome-answer};
@@ -34,6 +33,7 @@ use syntax::Pattern;
 use terms::TermOutcome;
 use terms::term_number_of;
 use terms::term_value_of;
+use text::least;
 use totals::TotalsOutcome;
 
 // The one cause that is the calls' own: an account without a cell has litres.
@@ -137,12 +137,6 @@ pub fn litres_of(litres: &[u32], account: u32) -> u32
         return 0;
     }
     litres[i]
-}
-
-fn least(a: usize, b: usize) -> usize
-    ensures { λ r. ⌜ r ≡ min a b ⌝ }
-{
-    if a < b { a } else { b }
 }
 
 // As many totals as there are cells, from account 0 on. The cells behind them are left as they are.

@@ -113,15 +113,15 @@ module _ {table words tape : List ℕ} {l : ℕ} (s : Writable table words tape 
   unfolding missing
   missing-none h = let b = s .bound in rw (le-ltb size (cell-count 8 needed-bits) (omega arith))
 
-  pub missing-some : (at : ℕ) → at ≡ 0 + needed-bits → size < (at + 7) / 8 → (at + 7) / 8 ≡ missing needed-bits size
+  pub missing-some : (at : ℕ) → at ≡ 0 + needed-bits → (m : ℕ) → m ≡ cell-count 8 at → size < m → m ≡ missing needed-bits size
   unfolding missing
-  missing-some at e h =
+  missing-some at e m f h =
       let q : at ≡ needed-bits = omega arith in
-      rw q (rw (lt-ltb size (cell-count 8 needed-bits) (omega arith)))
+      f ∙ rw q (rw (lt-ltb size (cell-count 8 needed-bits) (omega arith)))
 
-  pub missing-enough : (at : ℕ) → at ≡ 0 + needed-bits → (at + 7) / 8 ≤ size → 0 ≡ missing needed-bits size
+  pub missing-enough : (at : ℕ) → at ≡ 0 + needed-bits → (m : ℕ) → m ≡ cell-count 8 at → m ≤ size → 0 ≡ missing needed-bits size
   unfolding missing
-  missing-enough at e h = rw (le-ltb size (cell-count 8 needed-bits) (omega arith))
+  missing-enough at e m f h = rw (le-ltb size (cell-count 8 needed-bits) (omega arith))
 
 missing-is : (k size m : ℕ) → m ≡ missing k size → 0 < m → (size < cell-count 8 k) × (m ≡ cell-count 8 k)
 unfolding missing

@@ -5,6 +5,7 @@ ghost use Rattle.table.specs.Cells.{Good};
 ghost use Rattle.checks.specs.TapeLaws.{Is-taken};
 ghost use Rattle.parser.specs.Parse.{Parses};
 ghost use Rattle.parser.specs.Writing.{Writable, Misses, Writes-all};
+use bits::bytes_for;
 use bits::is_open;
 use checks::TapeCheck;
 use checks::check_tape;
@@ -31,7 +32,7 @@ pub fn bytes_missing(table: &[u64; 64], words: &[u64], tape: &[u8], l: usize, si
     }
     let mut none: [u8; 1] = [0; 1];
     let count = sweep(table, words, tape, l, 0, true, &mut none, 0);
-    let needed = (count.at as usize + 7) / 8;
+    let needed = bytes_for(count.at);
     if size < needed {
         return needed;
     }

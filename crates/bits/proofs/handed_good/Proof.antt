@@ -13,14 +13,14 @@ use Rattle.bits.proofs.handed_good.Tie as tie
 returns : tie.Need-returns
 returns c = sym (handed-over (c .before .before .args .code .now) (c .before .before .args .count) (omega arith))
 
-byte-count-requires : tie.Need-byte-count-requires
-byte-count-requires c κs = search needs
+bytes-for-requires : tie.Need-bytes-for-requires
+bytes-for-requires c κs = search needs
 
 returns-2 : tie.Need-returns-2
 returns-2 c =
     let s = c .before .before .before .before in
     let xs = s .args .code .now in
-    sym (handed-within xs (s .args .count) (omega arith) ∙ exact-wrong 8 xs (s .args .count) (λ e. c .if2 .taken (e ∙ sym (c .before .byte-count .ensures))))
+    sym (handed-within xs (s .args .count) (omega arith) ∙ exact-wrong 8 xs (s .args .count) (λ e. c .if2 .taken (e ∙ sym (c .before .bytes-for .ensures))))
 
 returns-3 : tie.Need-returns-3
 returns-3 c =
@@ -51,7 +51,7 @@ handed-good-spec =
     tie.close
     (tie.spec
     returns
-    byte-count-requires
+    bytes-for-requires
     returns-2
     returns-3
     cast-q

@@ -24,39 +24,39 @@ put-refused-requires c κs = search needs
 enum-known-parsed-2 : tie.Need-enum-known-parsed-2
 enum-known-parsed-2 c = search needs
 
-cast-n : tie.Need-cast-n
-cast-n c = search needs
-
-add-n : tie.Need-add-n
-add-n c = search needs
+bytes-for-requires : tie.Need-bytes-for-requires
+bytes-for-requires c κs = search needs
 
 slice-reshare-prefix-list-read : tie.Need-slice-reshare-prefix-list-read
 slice-reshare-prefix-list-read c =
-    let parsed = c .before .before in
+    let counted = c .before in
+    let parsed = counted .before .before in
     let parse = parsed .before .before .before .before .before .before in
     let start = parse .before .before .before .before .before .before .before in
     let given = start .args in
     parse-bits (given .p) (given .tape .now) (given .words .now) _ (given .code .now) _ (start .pre .0) (start .pre .1) _ _
-    (parsed .parsed2 .given .1) (parse .parse .ensures) .fits
+    (parsed .parsed2 .given .1) (parse .parse .ensures) _ (counted .bytes-for .ensures) .fits
 
 slice-aggregate-list-read : tie.Need-slice-aggregate-list-read
 slice-aggregate-list-read c =
-    let parsed = c .before .before .before in
+    let counted = c .before .before in
+    let parsed = counted .before .before in
     let parse = parsed .before .before .before .before .before .before in
     let start = parse .before .before .before .before .before .before .before in
     let given = start .args in
     sym (length-take-le _ _
     (parse-bits (given .p) (given .tape .now) (given .words .now) _ (given .code .now) _ (start .pre .0) (start .pre .1) _ _
-    (parsed .parsed2 .given .1) (parse .parse .ensures) .fits))
+    (parsed .parsed2 .given .1) (parse .parse .ensures) _ (counted .bytes-for .ensures) .fits))
 
 list-read-requires : tie.Need-list-read-requires
 list-read-requires c κs =
-    let parsed = c .before .before .before .before in
+    let counted = c .before .before .before in
+    let parsed = counted .before .before in
     let parse = parsed .before .before .before .before .before .before in
     let start = parse .before .before .before .before .before .before .before in
     let given = start .args in
     parse-bits (given .p) (given .tape .now) (given .words .now) _ (given .code .now) _ (start .pre .0) (start .pre .1) _ _
-    (parsed .parsed2 .given .1) (parse .parse .ensures) .read
+    (parsed .parsed2 .given .1) (parse .parse .ensures) _ (counted .bytes-for .ensures) .read
 
 same-length : tie.Need-same-length
 same-length c = search needs
@@ -92,13 +92,14 @@ same-length-6 c = search needs
 
 returns-2 : tie.Need-returns-2
 returns-2 c =
-    let parsed = c .before .before .before .before .before .before .before in
+    let counted = c .before .before .before .before .before .before in
+    let parsed = counted .before .before in
     let parse = parsed .before .before .before .before .before .before in
     let start = parse .before .before .before .before .before .before .before in
     let given = start .args in
     shows-as _ _ _ _ _
     (parse-bits (given .p) (given .tape .now) (given .words .now) _ (given .code .now) _ (start .pre .0) (start .pre .1) _ _
-    (parsed .parsed2 .given .1) (parse .parse .ensures) .lists) (c .before .before .list-read .ensures)
+    (parsed .parsed2 .given .1) (parse .parse .ensures) _ (counted .bytes-for .ensures) .lists) (c .before .before .list-read .ensures)
 
 pub list-with-spec : {M : Type 1} → statement M
 list-with-spec =
@@ -110,8 +111,7 @@ list-with-spec =
     value-of-requires
     put-refused-requires
     enum-known-parsed-2
-    cast-n
-    add-n
+    bytes-for-requires
     slice-reshare-prefix-list-read
     slice-aggregate-list-read
     list-read-requires

@@ -21,17 +21,14 @@ sweep-requires c κs =
     let pre = c .before .before .before .before .pre in
     (pre .0, pre .1, pre .2 .ready)
 
-cast-needed : tie.Need-cast-needed
-cast-needed c = search needs
-
-add-needed : tie.Need-add-needed
-add-needed c = search needs
+bytes-for-requires : tie.Need-bytes-for-requires
+bytes-for-requires c κs = search needs
 
 returns-2 : tie.Need-returns-2
-returns-2 c = λ s. missing-some s _ _ (c .before .before .before .sweep .ensures (s .ready) .at-is) (c .if2 .taken)
+returns-2 c = λ s. missing-some s _ _ (c .before .before .before .sweep .ensures (s .ready) .at-is) _ (c .before .bytes-for .ensures) (c .if2 .taken)
 
 returns-3 : tie.Need-returns-3
-returns-3 c = λ s. missing-enough s _ _ (c .before .before .before .sweep .ensures (s .ready) .at-is) (c .if2 .left)
+returns-3 c = λ s. missing-enough s _ _ (c .before .before .before .sweep .ensures (s .ready) .at-is) _ (c .before .bytes-for .ensures) (c .if2 .left)
 
 pub bytes-missing-spec : {M : Type 1} → statement M
 bytes-missing-spec =
@@ -42,7 +39,6 @@ bytes-missing-spec =
     returns
     slice-aggregate-sweep
     sweep-requires
-    cast-needed
-    add-needed
+    bytes-for-requires
     returns-2
     returns-3)
