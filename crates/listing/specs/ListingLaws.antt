@@ -12,7 +12,7 @@ use lib.Seq.{take-at, take-length}
 use Rattle.syntax.specs.Letter.{letter-limit}
 use Rattle.syntax.specs.declared.Pattern.{Pattern}
 use Rattle.loading.specs.declared.Loaded.{Loaded}
-use Rattle.loading.specs.declared.Outcome.the-variants.{Lines, Refused as Not-loaded}
+use Rattle.loading.specs.declared.LoadOutcome.the-variants.{Lines, Refused as Not-loaded}
 use Rattle.refusals.specs.declared.Refusal.{Refusal}
 use Rattle.refusals.specs.declared.Refusal.the-variants.{Unreadable}
 use Rattle.refusals.specs.Refusals.{number, value, answer, refused}

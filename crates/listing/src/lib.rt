@@ -10,7 +10,7 @@ use bits::bytes_for;
 use listing_lines::put_accounts;
 use listing_lines::put_open;
 use listing_lines::put_tape;
-use loading::Outcome;
+use loading::LoadOutcome;
 use loading::load;
 use parser::Parsed;
 use parser::parse;
@@ -98,8 +98,8 @@ fn list_text(text: &[u8], tape: &[u8], out: &mut [u8]) -> usize
     let p = loaded.pattern;
     let outcome = loaded.outcome;
     match outcome {
-        Outcome::Refused(why) => put_refused(out, 0, number_of(why), value_of(why)),
-        Outcome::Lines(_) => {
+        LoadOutcome::Refused(why) => put_refused(out, 0, number_of(why), value_of(why)),
+        LoadOutcome::Lines(_) => {
             let n = letters_of(tape);
             list_tape(p, &tape[..n], out)
         }

@@ -8,8 +8,8 @@ use lib.Dec.{eqb}
 use Rattle.syntax.specs.declared.Pattern.{Pattern}
 use Rattle.refusals.specs.declared.Refusal.{Refusal}
 use Rattle.refusals.specs.declared.Refusal.the-variants.{LineForm, Tree}
-use Rattle.loading.specs.declared.Outcome.{Outcome}
-use Rattle.loading.specs.declared.Outcome.the-variants.{Lines, Refused}
+use Rattle.loading.specs.declared.LoadOutcome.{LoadOutcome}
+use Rattle.loading.specs.declared.LoadOutcome.the-variants.{Lines, Refused}
 use Rattle.loading.specs.declared.Loaded.{Loaded}
 use Rattle.refusals.specs.Refusals.{Answer, answer, refused}
 use Rattle.refusals.specs.Checks.{Check, first-cause}
@@ -17,7 +17,7 @@ use Rattle.fields.specs.Text.{rows, Forms, good, fault, forms}
 use Rattle.syntax.specs.Table.{table, no-lines, tree-fault, is-none}
 
 -- loading answers 0 and the line count, or a refusal's number and line
-abbrev pub outcome-answer : Outcome → Answer
+abbrev pub outcome-answer : LoadOutcome → Answer
 outcome-answer (Lines n) = answer 0 n
 outcome-answer (Refused r) = refused r
 

@@ -10,7 +10,7 @@ use lib.Dec.{ltb}
 use lib.ListN.{length}
 use Rattle.syntax.specs.declared.Line.{Line}
 use Rattle.refusals.specs.declared.Refusal.the-variants.{LineForm, Tree}
-use Rattle.loading.specs.declared.Outcome.the-variants.{Lines}
+use Rattle.loading.specs.declared.LoadOutcome.the-variants.{Lines}
 use Rattle.loading.specs.declared.lines.Read.{Read}
 use Rattle.fields.specs.Text.{Row, rows, row-line, Forms, good, fault, line-front, forms}
 use Rattle.syntax.specs.Table.{table, tree-fault}

@@ -11,7 +11,7 @@ use Rattle.refusals.specs.Refusals.{answer}
 use Rattle.refusals.specs.Checks.{numbers, First, here, past}
 use Rattle.refusals.specs.CheckLaws.{refused-first}
 use Rattle.fields.specs.Text.{rows, forms}
-use Rattle.loading.specs.declared.Outcome.the-variants.{Refused}
+use Rattle.loading.specs.declared.LoadOutcome.the-variants.{Refused}
 use Rattle.loading.specs.declared.Loaded.{Loaded}
 use Rattle.loading.specs.Load.{form-fault, written, line-at-fault, load-order, load-answer, outcome-answer, refused-load, Loads}
 use Rattle.loading.specs.LoadLaws.{load-refused}

@@ -5,12 +5,12 @@ use Prim.Native.Nat.{ℕ}
 use native.Mathlib.Omega.{arith}
 use Rattle.refusals.specs.Refusals.{refused}
 use Rattle.refusals.specs.RefusalLaws.{refused-same, number-positive}
-use Rattle.loading.specs.declared.Outcome.{Outcome}
-use Rattle.loading.specs.declared.Outcome.the-variants.{Lines, Refused}
+use Rattle.loading.specs.declared.LoadOutcome.{LoadOutcome}
+use Rattle.loading.specs.declared.LoadOutcome.the-variants.{Lines, Refused}
 use Rattle.loading.specs.declared.Loaded.{Loaded}
 use Rattle.loading.specs.Load.{outcome-answer, Loads}
 
-outcome-same : (r s : Outcome) → outcome-answer r ≡ outcome-answer s → r ≡ s
+outcome-same : (r s : LoadOutcome) → outcome-answer r ≡ outcome-answer s → r ≡ s
 outcome-same (Lines n) (Lines m) e = ap (λ a. Lines (a .value)) e
 outcome-same (Lines n) (Refused s) e = let z : 0 ≡ refused s .number = ap (λ a. a .number) e in absurd (omega (arith, number-positive s))
 outcome-same (Refused r) (Lines m) e = let z : refused r .number ≡ 0 = ap (λ a. a .number) e in absurd (omega (arith, number-positive r))

@@ -13,14 +13,14 @@ use syntax::naming::TreeFault;
 use syntax::naming::tree_fault_of;
 
 // What loading answers: the line count, or why the text is refused.
-pub enum Outcome {
+pub enum LoadOutcome {
     Lines(u32),
     Refused(Refusal),
 }
 
 pub struct Loaded {
     pub pattern: Pattern,
-    pub outcome: Outcome,
+    pub outcome: LoadOutcome,
 }
 
 // A refused load gives a table of no lines.
@@ -30,7 +30,7 @@ fn refuse(why: Refusal) -> Loaded
     let pattern = Pattern::new();
     Loaded {
         pattern,
-        outcome: Outcome::Refused(why),
+        outcome: LoadOutcome::Refused(why),
     }
 }
 
@@ -52,7 +52,7 @@ pub fn load(text: &[u8]) -> Loaded
         TreeFault::Line(line) => refuse(Refusal::Tree(line as u32)),
         TreeFault::Nothing => Loaded {
             pattern,
-            outcome: Outcome::Lines(count as u32),
+            outcome: LoadOutcome::Lines(count as u32),
         },
     }
 }

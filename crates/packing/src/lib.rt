@@ -24,7 +24,7 @@ pub use desks::DESK_BYTES;
 pub use desks::desk_of;
 pub use desks::of_other_length;
 pub use desks::put_desk;
-use loading::Outcome;
+use loading::LoadOutcome;
 use parser::Parsed;
 use reach::Located;
 use refusals::number_of;
@@ -39,19 +39,25 @@ use totals::TotalsOutcome;
 // The one cause that is the calls' own: an account without a cell has litres.
 pub const CELLS_TOO_FEW: u32 = 20;
 
+// What 1 in the upper 32 bits of an answer is worth.
+const UPPER_32: u64 = 4294967296;
+
+// What 1 in the upper 16 bits of a value is worth.
+pub const UPPER_16: u32 = 65536;
+
 // A cause of any enum is packed by its number and value.
 pub fn packed(number: u32, value: u32) -> u64
     ensures { λ r. ⌜ unpacked r ≡ answer number value ⌝ }
 {
-    number as u64 * 4294967296 + value as u64
+    number as u64 * UPPER_32 + value as u64
 }
 
-pub fn of_outcome(outcome: Outcome) -> u64
+pub fn of_outcome(outcome: LoadOutcome) -> u64
     ensures { λ r. ⌜ unpacked r ≡ outcome-answer outcome ⌝ }
 {
     match outcome {
-        Outcome::Lines(n) => packed(0, n),
-        Outcome::Refused(why) => packed(number_of(why), value_of(why)),
+        LoadOutcome::Lines(n) => packed(0, n),
+        LoadOutcome::Refused(why) => packed(number_of(why), value_of(why)),
     }
 }
 
@@ -87,7 +93,7 @@ pub fn of_located(located: Located) -> u64
     ensures { λ r. ⌜ unpacked r ≡ located-answer located ⌝ }
 {
     match located {
-        Located::Positions(reach, resume) => packed(0, reach as u32 * 65536 + resume as u32),
+        Located::Positions(reach, resume) => packed(0, reach as u32 * UPPER_16 + resume as u32),
         Located::Refused(why) => packed(number_of(why), value_of(why)),
     }
 }

@@ -19,7 +19,7 @@ use Rattle.syntax.specs.Table.{account-limit}
 use Rattle.fields.specs.Text.{place, single, account, when, node-of-none, node-of-one, range-of, parts-of, node-of-two, node-of, with-account, line-of}
 use Rattle.fields.specs.Fields.{word}
 use Rattle.fields.specs.AccountLaws.{account-long}
-use Rattle.scanning.specs.Scans.{first-fields, first-closed, first-size, parsed, finished, scan-of, scan-by, scanned}
+use Rattle.scanning.specs.Scans.{first-fields, first-closed, first-size, scanned-node, finished, scan-of, scan-by, scanned}
 use Rattle.scanning.specs.Scans.{parts-say, account-says, parts-scanned, account-scanned}
 use Rattle.scanning.specs.Cuts.{tab, newline, unclosed, Reads-to, cut, long, Reads, Reads-account, some-field}
 
@@ -140,7 +140,7 @@ pub big-account : (a : ℕ) (o : Option Node) → account-limit < a → with-acc
 big-account a none h = refl
 big-account a (some n) h = rw (lt-leb a account-limit h)
 
-pub finish-law : (a n : ℕ) (o : Option Node) → a ≤ account-limit → finished a (parsed o) n ≡ scan-of (with-account a o) n
+pub finish-law : (a n : ℕ) (o : Option Node) → a ≤ account-limit → finished a (scanned-node o) n ≡ scan-of (with-account a o) n
 finish-law a n none h = refl
 finish-law a n (some x) h = rw (le-leb a account-limit h)
 
@@ -258,7 +258,7 @@ module _ (s : List ℕ) (at : ℕ) (f : AccountField) (r : Reads-account (drop a
 
   pub account-last :
       f .account ≤ account-limit → f .stop ≡ 10
-      → finished (f .account) (parsed (node-of-none k)) (at + f .size + 1) ≡ account-scanned k at (drop at s)
+      → finished (f .account) (scanned-node (node-of-none k)) (at + f .size + 1) ≡ account-scanned k at (drop at s)
   unfolding account-says parts-say node-of
   account-last l h =
       finish-law (f .account) (at + f .size + 1) (node-of-none k) l
@@ -275,7 +275,7 @@ module _ (s : List ℕ) (at : ℕ) (f : AccountField) (r : Reads-account (drop a
 
 module _ (s : List ℕ) (at : ℕ) (f : Field) (r : Reads (drop at s) f) where
   module _ (a k : ℕ) where
-    pub parts-one : a ≤ account-limit → f .stop ≡ 10 → finished a (parsed (node-of-one k (word f))) (at + f .size + 1) ≡ parts-scanned a k at (drop at s)
+    pub parts-one : a ≤ account-limit → f .stop ≡ 10 → finished a (scanned-node (node-of-one k (word f))) (at + f .size + 1) ≡ parts-scanned a k at (drop at s)
     unfolding parts-say node-of
     parts-one l h = finish-law a (at + f .size + 1) (node-of-one k (word f)) l ∙ scan-newline (parts-say a k) s at (word f) r h
 
@@ -289,7 +289,7 @@ module _ (s : List ℕ) (at : ℕ) (f : Field) (r : Reads (drop at s) f) where
           (parts-no-second a k (word f))
           ∙ scan-tab (parts-say a k) s at (word f) r t
 
-      pub parts-two : a ≤ account-limit → g .stop ≡ 10 → finished a (parsed (node-of-two k (word f) (word g))) (at + f .size + 1 + g .size + 1)
+      pub parts-two : a ≤ account-limit → g .stop ≡ 10 → finished a (scanned-node (node-of-two k (word f) (word g))) (at + f .size + 1 + g .size + 1)
           ≡ parts-scanned a k at (drop at s)
       unfolding parts-say node-of
       parts-two l h =

@@ -6,8 +6,8 @@ use Prim.Native.Nat.{ℕ, suc, _+_}
 use lib.Dec.{eqb}
 use Rattle.syntax.specs.declared.Node.{Node}
 use Rattle.syntax.specs.declared.Line.{Line}
-use Rattle.scanning.specs.declared.Parsed.{Parsed}
-use Rattle.scanning.specs.declared.Parsed.the-variants.{Node as Parsed-node, Fault as No-node}
+use Rattle.scanning.specs.declared.ScannedNode.{ScannedNode}
+use Rattle.scanning.specs.declared.ScannedNode.the-variants.{Node as Is-node, Fault as No-node}
 use Rattle.scanning.specs.declared.Scanned.{Scanned}
 use Rattle.scanning.specs.declared.Scanned.the-variants.{Line as Scan-line, Fault as No-line}
 use Rattle.fields.specs.Text.{byte-front, account, node-of, with-account, line-of}
@@ -25,13 +25,13 @@ unfoldable pub first-size : List ℕ → ℕ
 first-size [] = 0
 first-size (b ∷ bs) = cond (eqb b 10) 0 (suc (first-size bs))
 
-abbrev pub parsed : Option Node → Parsed
-parsed none = No-node
-parsed (some n) = Parsed-node n
+abbrev pub scanned-node : Option Node → ScannedNode
+scanned-node none = No-node
+scanned-node (some n) = Is-node n
 
-abbrev pub finished : ℕ → Parsed → ℕ → Scanned
+abbrev pub finished : ℕ → ScannedNode → ℕ → Scanned
 finished a No-node next = No-line
-finished a (Parsed-node n) next = Scan-line (record { account = a; node = n }) next
+finished a (Is-node n) next = Scan-line (record { account = a; node = n }) next
 
 abbrev pub scan-of : Option Line → ℕ → Scanned
 scan-of none next = No-line

@@ -6,7 +6,7 @@ ghost use Rattle.syntax.specs.Letter.{is-letter};
 ghost use Rattle.syntax.specs.Table.{account-limit};
 ghost use Rattle.fields.specs.Text.{place, node-of-none, star-of, node-of-one, range-of, node-of-two};
 ghost use Rattle.fields.specs.Fields.{word};
-ghost use Rattle.scanning.specs.Scans.{parsed, finished, parts-scanned, account-scanned, scanned};
+ghost use Rattle.scanning.specs.Scans.{scanned-node, finished, parts-scanned, account-scanned, scanned};
 use fields::Field;
 use fields::NEWLINE;
 use fields::NO_PLACE;
@@ -37,7 +37,7 @@ const STAR: u16 = b'K' as u16;
 const LAZY_STAR: u16 = b'Z' as u16;
 
 // What a kind and the fields after the account say.
-pub enum Parsed {
+pub enum ScannedNode {
     Node(Node),
     Fault,
 }
@@ -58,35 +58,35 @@ fn is_field_letter(b: u16) -> bool
     is_letter(b as u8)
 }
 
-fn parse_none(kind: u16) -> Parsed
-    ensures { λ r. ⌜ r ≡ parsed (node-of-none kind) ⌝ }
+fn parse_none(kind: u16) -> ScannedNode
+    ensures { λ r. ⌜ r ≡ scanned-node (node-of-none kind) ⌝ }
 {
     if kind == NOTHING {
-        return Parsed::Node(Node::Leaf(Leaf::Nothing));
+        return ScannedNode::Node(Node::Leaf(Leaf::Nothing));
     }
-    Parsed::Fault
+    ScannedNode::Fault
 }
 
 // A star that takes another round for the bit `again`, and its part.
-fn parse_star(again: bool, x: Field) -> Parsed
-    ensures { λ r. ⌜ r ≡ parsed (star-of again (place (word x))) ⌝ }
+fn parse_star(again: bool, x: Field) -> ScannedNode
+    ensures { λ r. ⌜ r ≡ scanned-node (star-of again (place (word x))) ⌝ }
 {
     let p = place_of(x);
     if p < NO_PLACE {
-        return Parsed::Node(Node::Star(again, p as u8));
+        return ScannedNode::Node(Node::Star(again, p as u8));
     }
-    Parsed::Fault
+    ScannedNode::Fault
 }
 
-fn parse_one(kind: u16, x: Field) -> Parsed
-    ensures { λ r. ⌜ r ≡ parsed (node-of-one kind (word x)) ⌝ }
+fn parse_one(kind: u16, x: Field) -> ScannedNode
+    ensures { λ r. ⌜ r ≡ scanned-node (node-of-one kind (word x)) ⌝ }
 {
     if kind == LETTER {
         let c = single_of(x);
         if is_field_letter(c) {
-            return Parsed::Node(Node::Leaf(Leaf::Letter(c as u8)));
+            return ScannedNode::Node(Node::Leaf(Leaf::Letter(c as u8)));
         }
-        return Parsed::Fault;
+        return ScannedNode::Fault;
     }
     if kind == STAR {
         return parse_star(false, x);
@@ -94,26 +94,26 @@ fn parse_one(kind: u16, x: Field) -> Parsed
     if kind == LAZY_STAR {
         return parse_star(true, x);
     }
-    Parsed::Fault
+    ScannedNode::Fault
 }
 
-fn parse_range(a: u16, b: u16) -> Parsed
-    ensures { λ r. ⌜ r ≡ parsed (range-of a b) ⌝ }
+fn parse_range(a: u16, b: u16) -> ScannedNode
+    ensures { λ r. ⌜ r ≡ scanned-node (range-of a b) ⌝ }
 {
     if !is_field_letter(a) {
-        return Parsed::Fault;
+        return ScannedNode::Fault;
     }
     if !is_field_letter(b) {
-        return Parsed::Fault;
+        return ScannedNode::Fault;
     }
     if a <= b {
-        return Parsed::Node(Node::Leaf(Leaf::Range(a as u8, b as u8)));
+        return ScannedNode::Node(Node::Leaf(Leaf::Range(a as u8, b as u8)));
     }
-    Parsed::Fault
+    ScannedNode::Fault
 }
 
-fn parse_two(kind: u16, x: Field, y: Field) -> Parsed
-    ensures { λ r. ⌜ r ≡ parsed (node-of-two kind (word x) (word y)) ⌝ }
+fn parse_two(kind: u16, x: Field, y: Field) -> ScannedNode
+    ensures { λ r. ⌜ r ≡ scanned-node (node-of-two kind (word x) (word y)) ⌝ }
 {
     if kind == RANGE {
         return parse_range(single_of(x), single_of(y));
@@ -121,26 +121,26 @@ fn parse_two(kind: u16, x: Field, y: Field) -> Parsed
     let p = place_of(x);
     let q = place_of(y);
     if NO_PLACE <= p {
-        return Parsed::Fault;
+        return ScannedNode::Fault;
     }
     if NO_PLACE <= q {
-        return Parsed::Fault;
+        return ScannedNode::Fault;
     }
     if kind == SEQUENCE {
-        return Parsed::Node(Node::Sequence(p as u8, q as u8));
+        return ScannedNode::Node(Node::Sequence(p as u8, q as u8));
     }
     if kind == ALTERNATIVE {
-        return Parsed::Node(Node::Alternative(p as u8, q as u8));
+        return ScannedNode::Node(Node::Alternative(p as u8, q as u8));
     }
-    Parsed::Fault
+    ScannedNode::Fault
 }
 
-fn finish(account: u8, what: Parsed, next: usize) -> Scanned
+fn finish(account: u8, what: ScannedNode, next: usize) -> Scanned
     ensures { λ r. ⌜ r ≡ finished account what next ⌝ }
 {
     match what {
-        Parsed::Node(node) => Scanned::Line(Line { account, node }, next),
-        Parsed::Fault => Scanned::Fault,
+        ScannedNode::Node(node) => Scanned::Line(Line { account, node }, next),
+        ScannedNode::Fault => Scanned::Fault,
     }
 }
 

@@ -149,11 +149,11 @@ fn find_inside(
                     return Found::Passed(next, j, left);
                 }
                 let one = find(table, p as usize, code, count, next, j, node, left);
-                let Found::Passed(stop, behind, others) = one else {
+                let Found::Passed(stop, end, others) = one else {
                     return one;
                 };
                 here = stop;
-                j = behind;
+                j = end;
                 left = others;
             }
         }

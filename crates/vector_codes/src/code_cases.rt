@@ -226,15 +226,15 @@ fn run_lent(p: Pattern, code: &[u8], count: u32, most: Lent) {
 
 // Behind the bit count: how many tape cells, words and code bytes are lent.
 fn run_sizes(p: Pattern, code: &[u8], count: u32, line: &[u8]) {
-    let behind = rest(line);
-    let last = rest(behind);
-    if last.len() == 0 {
+    let second = rest(line);
+    let third = rest(second);
+    if third.len() == 0 {
         say_bad();
         return;
     }
     let letters = number(field(line)) as usize;
-    let words = number(field(behind)) as usize;
-    let bytes = number(last) as usize;
+    let words = number(field(second)) as usize;
+    let bytes = number(third) as usize;
     let most = Lent {
         letters,
         words,
@@ -251,6 +251,6 @@ pub fn run_code(p: Pattern, line: &[u8]) {
         say_bad();
         return;
     }
-    let behind = rest(line);
-    run_sizes(p, &code[..size], number(field(behind)), rest(behind));
+    let second = rest(line);
+    run_sizes(p, &code[..size], number(field(second)), rest(second));
 }

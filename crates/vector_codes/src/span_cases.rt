@@ -60,9 +60,9 @@ fn run_visit(p: Pattern, tape: &[u8], code: &[u8], count: u32, node: u32, visit:
 }
 
 fn run_numbers(p: Pattern, tape: &[u8], code: &[u8], line: &[u8]) {
-    let behind = rest(line);
-    let last = rest(behind);
-    if last.len() == 0 {
+    let second = rest(line);
+    let third = rest(second);
+    if third.len() == 0 {
         say_bad();
         return;
     }
@@ -71,8 +71,8 @@ fn run_numbers(p: Pattern, tape: &[u8], code: &[u8], line: &[u8]) {
         tape,
         code,
         number(field(line)),
-        number(field(behind)),
-        number(last),
+        number(field(second)),
+        number(third),
     );
 }
 

@@ -56,12 +56,12 @@ fn print_totalled(totalled: TermTotalled) {
 fn date_at(line: &[u8]) -> Date
     ensures { λ r. ⌜ r ≡ date-read (now (line .entry)) ⌝ }
 {
-    let behind = rest(line);
-    let last = rest(behind);
+    let second = rest(line);
+    let third = rest(second);
     Date {
         year: number(field(line)),
-        month: number(field(behind)),
-        day: number(field(last)),
+        month: number(field(second)),
+        day: number(field(third)),
     }
 }
 
@@ -95,6 +95,6 @@ pub fn run_term(p: Pattern, line: &[u8]) {
         say_bad();
         return;
     }
-    let behind = rest(line);
-    run_dates(p, &code[..size], number(field(behind)), rest(behind));
+    let second = rest(line);
+    run_dates(p, &code[..size], number(field(second)), rest(second));
 }

@@ -1,8 +1,8 @@
 // What loading a text answers: the outcome's number and value, and after them the table's nodes, one a line, fields parted
 // by tabs, numbers in decimal. Each `put_` function puts its bytes into `out` from `at` on and answers where they end. What
 // does not fit is left out.
+use loading::LoadOutcome;
 use loading::Loaded;
-use loading::Outcome;
 use syntax::Leaf;
 use syntax::Line;
 use syntax::Node;
@@ -39,10 +39,10 @@ fn row_of(line: Line) -> Row {
     }
 }
 
-fn put_outcome(out: &mut [u8], outcome: Outcome) -> usize {
+fn put_outcome(out: &mut [u8], outcome: LoadOutcome) -> usize {
     match outcome {
-        Outcome::Lines(count) => put_pair(out, 0, 0, count as u64),
-        Outcome::Refused(why) => put_refusal(out, 0, why),
+        LoadOutcome::Lines(count) => put_pair(out, 0, 0, count as u64),
+        LoadOutcome::Refused(why) => put_refusal(out, 0, why),
     }
 }
 

@@ -16,6 +16,7 @@ use desk::put_page;
 use desk::withdraw_page;
 use loading::load;
 use packing::DESK_BYTES;
+use packing::UPPER_16;
 use packing::desk_of;
 use packing::give_totals;
 use packing::litres_of;
@@ -120,7 +121,7 @@ pub extern "C" fn wumbyra_span(
     let spanned = span(loaded.pattern, tape, code, count, node, visit);
     let outcome = spanned.outcome;
     match outcome {
-        SpanOutcome::Shown => packed(0, spanned.start * 65536 + spanned.length),
+        SpanOutcome::Shown => packed(0, spanned.start * UPPER_16 + spanned.length),
         SpanOutcome::Refused(why) => packed(number_of(why), value_of(why)),
     }
 }

@@ -1,6 +1,6 @@
 -- `scanning::parse_two` meets its contract.
 use Rattle.fields.specs.Text.{range-of}
-use Rattle.scanning.specs.Scans.{parsed}
+use Rattle.scanning.specs.Scans.{scanned-node}
 use mathlib.Core.Path.{ap₂, _∙_}
 use Rattle.scanning.specs.Parsing.{two-range, two-no-first, two-no-second, two-sequence, two-alternative, two-other}
 use borrow.Author.Needs.{needs}
@@ -19,7 +19,7 @@ parse-range-requires c κs = search needs
 returns : tie.Need-returns
 returns c =
     c .parse-range .ensures
-    ∙ ap₂ (λ x y. parsed (range-of x y)) (c .before .before .single-of .ensures) (c .before .single-of2 .ensures)
+    ∙ ap₂ (λ x y. scanned-node (range-of x y)) (c .before .before .single-of .ensures) (c .before .single-of2 .ensures)
     ∙ two-range _ _ _ (c .before .before .before .if1 .taken)
 
 place-of-requires : tie.Need-place-of-requires
