@@ -3,7 +3,7 @@ use Rattle.bits.specs.Bits.{bit-at}
 use Rattle.semantics.specs.Accounts.{handed-down}
 use Rattle.semantics.specs.Code.{code-limit}
 use Rattle.table.specs.Cells.{tree-in}
-use Rattle.entries.specs.Entering.{At-line, line-known, first-below, second-below, side-below, star-below}
+use Rattle.entries.specs.Entering.{Parts, At-line, line-known, first-below, second-below, side-below, star-below}
 use Rattle.entries.specs.Entering.{leaf-is, seq-is, side-is, stop-is, round-is, alt-none-is, star-none-is}
 use Rattle.entries.specs.Entering.{ready-at, enters-stays, enters-ready, not-entered, none-entered, first-failed, both-charged, same-entered}
 use Rattle.entries.specs.Entering.{Turns, turns-start, turn-ready, turns-failed, turns-more}
@@ -98,6 +98,19 @@ side-there t d = omega (arith, d .if2 .left, d .before .bits-in .ensures)
 bit-there : (t : ℕ) (d : lts.In-loop (given t) (called t) reads.Post Inv μ-loop)
     → d .before .loop .here < length (start t (d .before .before .before .before .before .before) .args .code .now) * 8
 bit-there t d = omega (arith, d .loop-test .taken, d .before .before .bits-in2 .ensures)
+
+-- the parts of a round that is begun
+round : (t : ℕ) (d : lts.Else3 (given t) (called t) reads.Post Inv μ-loop)
+    → let turn = d .before .before .before in
+    let star = turn .before .before .before in
+    let from = start t (star .before .before) in
+    Parts (from .args .code .now) (tree-in (from .args .table .now) (from .args .l)) (from .args .above) (turn .loop .here)
+    (tree-in (from .args .table .now) (star .again .given .0 .1 .0)) (star .before .before .before .handed-down .result) (turn .loop .here + 1)
+    (tree-in (from .args .table .now) (from .args .l)) (from .args .above)
+round t d =
+    let inside = d .before .before in
+    let star = inside .before .before .before .before in
+    round-is (line t (star .before .before)) _ _ _ _ (star .again .given .1) (bit-there t inside) _ (d .before .stops-at .ensures) (d .if3 .left)
 
 account-at-requires : (t : ℕ) → lts.Need-account-at-requires (given t) (called t) reads.Post Inv μ-loop
 account-at-requires t c κs = search needs
@@ -294,18 +307,14 @@ add-put-entries-2 t c =
 put-entries-requires-4 : (t : ℕ) → lts.Need-put-entries-requires-4 (given t) (called t) reads.Post Inv μ-loop
 put-entries-requires-4 t c κs =
     let at-else3 = c .before .before in
-    let at-stops-at = at-else3 .before in
-    let inside = at-stops-at .before in
-    let turn = inside .before in
+    let turn = at-else3 .before .before .before in
     let at-star = turn .before .before .before in
     let d = at-star .before .before in
     let known = line t d in
-    let begin = start t d in
-    let e = at-star .again .given .1 in
-    let there = bit-there t inside in
-    let parts = round-is known _ _ _ _ e there _ (at-stops-at .stops-at .ensures) (at-else3 .if3 .left) in
-    let h = star-below known _ _ e in
-    (omega (arith, h, turn .loop .inv .low, begin .pre .0), ((known .good, omega (arith, h, known .below)), turn-ready (turn .loop .inv) parts))
+    let h = star-below known _ _ (at-star .again .given .1) in (
+      omega (arith, h, turn .loop .inv .low, start t d .pre .0),
+      ((known .good, omega (arith, h, known .below)), turn-ready (turn .loop .inv) (round t at-else3)),
+    )
 
 same-length-5 : (t : ℕ) → lts.Need-same-length-5 (given t) (called t) reads.Post Inv μ-loop
 same-length-5 t c =
@@ -323,46 +332,26 @@ returns-4 : (t : ℕ) → lts.Need-returns-4 (given t) (called t) reads.Post Inv
 returns-4 t c =
     let at-put-entries4 = c .before .before .before .before .before .before in
     let at-else3 = at-put-entries4 .before .before .before in
-    let at-stops-at = at-else3 .before in
-    let inside = at-stops-at .before in
-    let turn = inside .before in
-    let at-star = turn .before .before .before in
-    let d = at-star .before .before in
-    let known = line t d in
-    let e = at-star .again .given .1 in
-    let there = bit-there t inside in
-    let parts = round-is known _ _ _ _ e there _ (at-stops-at .stops-at .ensures) (at-else3 .if3 .left) in
-    turns-failed (turn .loop .inv) parts (at-put-entries4 .put-entries4 .ensures) (not-true _ (c .if4 .taken))
+    let turn = at-else3 .before .before .before in
+    turns-failed (turn .loop .inv) (round t at-else3) (at-put-entries4 .put-entries4 .ensures) (not-true _ (c .if4 .taken))
 
 loop-less : (t : ℕ) → lts.Need-loop-less (given t) (called t) reads.Post Inv μ-loop
 loop-less t c =
     let at-put-entries4 = c .before .before .before .before .before .before in
     let at-else3 = at-put-entries4 .before .before .before in
-    let at-stops-at = at-else3 .before in
-    let inside = at-stops-at .before in
-    let turn = inside .before in
-    let at-star = turn .before .before .before in
-    let d = at-star .before .before in
-    let known = line t d in
-    let e = at-star .again .given .1 in
-    let there = bit-there t inside in
-    let parts = round-is known _ _ _ _ e there _ (at-stops-at .stops-at .ensures) (at-else3 .if3 .left) in
-    omega (arith, turn .loop .inv .ready .short, enters-stays (at-put-entries4 .put-entries4 .ensures) (not-false _ (c .if4 .left)) (parts .within))
+    let turn = at-else3 .before .before .before in
+    omega (
+      arith,
+      turn .loop .inv .ready .short,
+      enters-stays (at-put-entries4 .put-entries4 .ensures) (not-false _ (c .if4 .left)) (round t at-else3 .within),
+    )
 
 loop-again : (t : ℕ) → lts.Need-loop-again (given t) (called t) reads.Post Inv μ-loop
 loop-again t c =
     let at-put-entries4 = c .before .before .before .before .before .before in
     let at-else3 = at-put-entries4 .before .before .before in
-    let at-stops-at = at-else3 .before in
-    let inside = at-stops-at .before in
-    let turn = inside .before in
-    let at-star = turn .before .before .before in
-    let d = at-star .before .before in
-    let known = line t d in
-    let e = at-star .again .given .1 in
-    let there = bit-there t inside in
-    let parts = round-is known _ _ _ _ e there _ (at-stops-at .stops-at .ensures) (at-else3 .if3 .left) in
-    turns-more (turn .loop .inv) parts (at-put-entries4 .put-entries4 .ensures) (not-false _ (c .if4 .left))
+    let turn = at-else3 .before .before .before in
+    turns-more (turn .loop .inv) (round t at-else3) (at-put-entries4 .put-entries4 .ensures) (not-false _ (c .if4 .left))
 
 failed-requires-2 : (t : ℕ) → lts.Need-failed-requires-2 (given t) (called t) reads.Post Inv μ-loop
 failed-requires-2 t c κs = search needs
