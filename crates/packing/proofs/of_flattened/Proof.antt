@@ -1,7 +1,8 @@
 -- `packing::of_flattened` meets its contract.
-use mathlib.Core.Path.{sym, ap, ap₂, _∙_}
+use mathlib.Core.Path.{_≡_, sym, ap, ap₂, _∙_}
 use Rattle.refusals.specs.Refusals.{answer}
 use Rattle.codes.specs.Flatten.{flattened-answer}
+use Rattle.packing.specs.Packing.{unpacked}
 use borrow.Author.Needs.{needs}
 use Rattle.packing.proofs.of_flattened.Statement.{statement}
 use Rattle.packing.proofs.of_flattened.Tie as tie
@@ -25,7 +26,10 @@ packed-requires-2 : tie.Need-packed-requires-2
 packed-requires-2 c κs = search needs
 
 returns : tie.Need-returns
-returns c = c .packed .ensures ∙ sym (ap flattened-answer (c .before .before .flattened .given .1))
+returns c =
+    let told = c .before .before in
+    let said : unpacked (c .packed .result) ≡ answer 0 (told .flattened .given .0 .0) = c .packed .ensures in
+    said ∙ sym (ap flattened-answer (told .flattened .given .1))
 
 returns-2 : tie.Need-returns-2
 returns-2 c =

@@ -1,7 +1,9 @@
 -- `packing::of_located` meets its contract.
-use mathlib.Core.Path.{sym, ap, ap₂, _∙_}
+use mathlib.Core.Path.{_≡_, sym, ap, ap₂, _∙_}
+use Prim.Native.Nat.{_+_, _*_}
 use Rattle.refusals.specs.Refusals.{answer}
 use Rattle.reach.specs.Locate.{located-answer}
+use Rattle.packing.specs.Packing.{unpacked}
 use borrow.Author.Needs.{needs}
 use Rattle.packing.proofs.of_located.Statement.{statement}
 use Rattle.packing.proofs.of_located.Tie as tie
@@ -37,7 +39,11 @@ packed-requires-2 : tie.Need-packed-requires-2
 packed-requires-2 c κs = search needs
 
 returns : tie.Need-returns
-returns c = c .packed .ensures ∙ sym (ap located-answer (c .before .before .located .given .1))
+returns c =
+    let told = c .before .before in
+    let at = told .located .given .0 in
+    let said : unpacked (c .packed .result) ≡ answer 0 (at .0 * 65536 + at .1 .0) = c .packed .ensures in
+    said ∙ sym (ap located-answer (told .located .given .1))
 
 returns-2 : tie.Need-returns-2
 returns-2 c =
