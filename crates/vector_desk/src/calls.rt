@@ -1,6 +1,14 @@
 // The steps of a run. `line` is what stands behind the step's letter; how many bytes are left of it is answered. Asked for more cells than
-// there are, a step lends all of them.
+// there are, a step lends all of them. A text that does not load has a table that every call refuses with 2, as from C.
+use crate::own::open_own;
+use crate::own::put_own;
+use crate::own::withdraw_own;
 use crate::shown::print_call;
+use desk::Changed;
+use loading::load;
+use packing::desk_of;
+use packing::of_desked;
+use packing::put_desk;
 use text::least;
 use text::put_byte;
 use text::put_bytes;
@@ -10,9 +18,6 @@ use vector_text::field;
 use vector_text::number;
 use vector_text::rest;
 use vector_text::say_bad;
-use wumbyra::wumbyra_desk_open;
-use wumbyra::wumbyra_desk_put;
-use wumbyra::wumbyra_desk_withdraw;
 
 // What is left to do: bytes of the line; and bytes of the pattern's text.
 pub(crate) struct Next {
@@ -20,10 +25,18 @@ pub(crate) struct Next {
     pub(crate) size: usize,
 }
 
+// Stores the desk that a call left, and prints the call's line.
+fn print_changed(changed: Changed, desk: &mut [u8], letters: &[u8], words: &[u64]) {
+    let answer = changed.answer;
+    put_desk(changed.desk, desk);
+    print_call(of_desked(answer), desk, letters, words);
+}
+
 fn run_open(text: &[u8], line: &[u8], desk: &mut [u8], letters: &[u8], words: &mut [u64]) -> usize {
+    let loaded = load(text);
     let lent = least(number(field(line)) as usize, words.len());
-    let answer = wumbyra_desk_open(text, desk, &mut words[..lent]);
-    print_call(answer, desk, letters, words);
+    let changed = open_own(desk_of(desk), loaded.pattern, &mut words[..lent]);
+    print_changed(changed, desk, letters, words);
     rest(line).len()
 }
 
@@ -39,8 +52,11 @@ fn put_lent(
     let last = rest(line);
     let cells = least(number(field(line)) as usize, letters.len());
     let lent = least(number(field(last)) as usize, words.len());
-    let answer = wumbyra_desk_put(text, desk, page, &mut letters[..cells], &mut words[..lent]);
-    print_call(answer, desk, letters, words);
+    let loaded = load(text);
+    let p = loaded.pattern;
+    let held = desk_of(desk);
+    let changed = put_own(held, p, page, &mut letters[..cells], &mut words[..lent]);
+    print_changed(changed, desk, letters, words);
     rest(last).len()
 }
 
@@ -58,8 +74,9 @@ fn run_put(
 
 fn run_withdraw(text: &[u8], line: &[u8], desk: &mut [u8], letters: &[u8], words: &[u64]) -> usize {
     let cells = least(number(field(line)) as usize, letters.len());
-    let answer = wumbyra_desk_withdraw(text, desk, &letters[..cells]);
-    print_call(answer, desk, letters, words);
+    let loaded = load(text);
+    let changed = withdraw_own(desk_of(desk), loaded.pattern, &letters[..cells]);
+    print_changed(changed, desk, letters, words);
     rest(line).len()
 }
 

@@ -5,15 +5,18 @@
 //   w cells                     withdraws a page, with so many cells lent
 //   h count lengths bytes at    is no call: writes a desk, and bytes into the letters from a cell on
 //   t text                      is no call: the pattern's text for the calls behind it
-// Each call prints a line. The calls are those from C, so that what they make of texts and of the desk's bytes is run too.
+// Each call prints a line. The calls are crate desk's own `open`, `put` and `withdraw`, on a desk that is lent, the form that 01 names. Those from C,
+// and what they make of texts and of the desk's bytes, are run from C: tests/differential, tests/guard and the tests of the bindings.
 // Totals in lent cells have a module of their own, since only these calls have cells that can be too few.
 mod calls; // calls.rt: the steps
 mod litres; // litres.rt: totals in lent cells
+mod own; // own.rt: the calls of crate desk
 mod shown; // shown.rt: the line of a call
 
 use calls::Next;
 use calls::run_step;
 pub use litres::run_litres;
+use packing::DESK_BYTES;
 use text::least;
 use vector_text::ALL_WORDS;
 use vector_text::BYTE_BEFORE;
@@ -21,10 +24,8 @@ use vector_text::MAX_TEXT;
 use vector_text::WORD_BEFORE;
 use vector_text::decode;
 
-// Cells of the array whose start is lent for letters, and bytes of a desk.
+// Cells of the array whose start is lent for letters.
 const ALL_LETTERS: usize = 3700;
-
-const DESK_BYTES: usize = 31;
 
 // Runs the steps of a line. Each takes at least a byte, so there are no more steps than bytes.
 fn run_steps(

@@ -32,23 +32,29 @@ cast-least-2 c = search needs
 least-requires-2 : tie.Need-least-requires-2
 least-requires-2 c κs = search needs
 
-slice-relend-prefix-wumbyra-desk-put : tie.Need-slice-relend-prefix-wumbyra-desk-put
-slice-relend-prefix-wumbyra-desk-put c = search needs
+load-requires : tie.Need-load-requires
+load-requires c κs = search needs
 
-slice-aggregate-wumbyra-desk-put : tie.Need-slice-aggregate-wumbyra-desk-put
-slice-aggregate-wumbyra-desk-put c = simp length-take (omega arith)
+desk-of-requires : tie.Need-desk-of-requires
+desk-of-requires c κs = search needs
 
-slice-relend-prefix-wumbyra-desk-put-2 : tie.Need-slice-relend-prefix-wumbyra-desk-put-2
-slice-relend-prefix-wumbyra-desk-put-2 c = search needs
+slice-relend-prefix-put-own : tie.Need-slice-relend-prefix-put-own
+slice-relend-prefix-put-own c = search needs
 
-slice-aggregate-wumbyra-desk-put-2 : tie.Need-slice-aggregate-wumbyra-desk-put-2
-slice-aggregate-wumbyra-desk-put-2 c = simp length-take (omega arith)
+slice-aggregate-put-own : tie.Need-slice-aggregate-put-own
+slice-aggregate-put-own c = simp length-take (omega arith)
 
-wumbyra-desk-put-requires : tie.Need-wumbyra-desk-put-requires
-wumbyra-desk-put-requires c κs = search needs
+slice-relend-prefix-put-own-2 : tie.Need-slice-relend-prefix-put-own-2
+slice-relend-prefix-put-own-2 c = search needs
 
-print-call-requires : tie.Need-print-call-requires
-print-call-requires c κs = search needs
+slice-aggregate-put-own-2 : tie.Need-slice-aggregate-put-own-2
+slice-aggregate-put-own-2 c = simp length-take (omega arith)
+
+put-own-requires : tie.Need-put-own-requires
+put-own-requires c κs = search needs
+
+print-changed-requires : tie.Need-print-changed-requires
+print-changed-requires c κs = search needs
 
 rest-requires-2 : tie.Need-rest-requires-2
 rest-requires-2 c κs = search needs
@@ -78,12 +84,14 @@ put-lent-spec =
     number-requires-2
     cast-least-2
     least-requires-2
-    slice-relend-prefix-wumbyra-desk-put
-    slice-aggregate-wumbyra-desk-put
-    slice-relend-prefix-wumbyra-desk-put-2
-    slice-aggregate-wumbyra-desk-put-2
-    wumbyra-desk-put-requires
-    print-call-requires
+    load-requires
+    desk-of-requires
+    slice-relend-prefix-put-own
+    slice-aggregate-put-own
+    slice-relend-prefix-put-own-2
+    slice-aggregate-put-own-2
+    put-own-requires
+    print-changed-requires
     rest-requires-2
     same-length
     same-length-2

@@ -5,6 +5,9 @@ use borrow.Author.Needs.{needs}
 use Rattle.vector_desk.proofs.calls.run_open.Statement.{statement}
 use Rattle.vector_desk.proofs.calls.run_open.Tie as tie
 
+load-requires : tie.Need-load-requires
+load-requires c κs = search needs
+
 field-requires : tie.Need-field-requires
 field-requires c κs = search needs
 
@@ -17,17 +20,20 @@ cast-least c = search needs
 least-requires : tie.Need-least-requires
 least-requires c κs = search needs
 
-slice-relend-prefix-wumbyra-desk-open : tie.Need-slice-relend-prefix-wumbyra-desk-open
-slice-relend-prefix-wumbyra-desk-open c = search needs
+desk-of-requires : tie.Need-desk-of-requires
+desk-of-requires c κs = search needs
 
-slice-aggregate-wumbyra-desk-open : tie.Need-slice-aggregate-wumbyra-desk-open
-slice-aggregate-wumbyra-desk-open c = simp length-take (omega arith)
+slice-relend-prefix-open-own : tie.Need-slice-relend-prefix-open-own
+slice-relend-prefix-open-own c = search needs
 
-wumbyra-desk-open-requires : tie.Need-wumbyra-desk-open-requires
-wumbyra-desk-open-requires c κs = search needs
+slice-aggregate-open-own : tie.Need-slice-aggregate-open-own
+slice-aggregate-open-own c = simp length-take (omega arith)
 
-print-call-requires : tie.Need-print-call-requires
-print-call-requires c κs = search needs
+open-own-requires : tie.Need-open-own-requires
+open-own-requires c κs = search needs
+
+print-changed-requires : tie.Need-print-changed-requires
+print-changed-requires c κs = search needs
 
 rest-requires : tie.Need-rest-requires
 rest-requires c κs = search needs
@@ -45,14 +51,16 @@ pub run-open-spec : {M : Type 1} → statement M
 run-open-spec =
     tie.close
     (tie.spec
+    load-requires
     field-requires
     number-requires
     cast-least
     least-requires
-    slice-relend-prefix-wumbyra-desk-open
-    slice-aggregate-wumbyra-desk-open
-    wumbyra-desk-open-requires
-    print-call-requires
+    desk-of-requires
+    slice-relend-prefix-open-own
+    slice-aggregate-open-own
+    open-own-requires
+    print-changed-requires
     rest-requires
     same-length
     same-length-2

@@ -17,14 +17,20 @@ cast-least c = search needs
 least-requires : tie.Need-least-requires
 least-requires c κs = search needs
 
-slice-aggregate-wumbyra-desk-withdraw : tie.Need-slice-aggregate-wumbyra-desk-withdraw
-slice-aggregate-wumbyra-desk-withdraw c = simp length-take (omega arith)
+load-requires : tie.Need-load-requires
+load-requires c κs = search needs
 
-wumbyra-desk-withdraw-requires : tie.Need-wumbyra-desk-withdraw-requires
-wumbyra-desk-withdraw-requires c κs = search needs
+desk-of-requires : tie.Need-desk-of-requires
+desk-of-requires c κs = search needs
 
-print-call-requires : tie.Need-print-call-requires
-print-call-requires c κs = search needs
+slice-aggregate-withdraw-own : tie.Need-slice-aggregate-withdraw-own
+slice-aggregate-withdraw-own c = simp length-take (omega arith)
+
+withdraw-own-requires : tie.Need-withdraw-own-requires
+withdraw-own-requires c κs = search needs
+
+print-changed-requires : tie.Need-print-changed-requires
+print-changed-requires c κs = search needs
 
 rest-requires : tie.Need-rest-requires
 rest-requires c κs = search needs
@@ -43,9 +49,11 @@ run-withdraw-spec =
     number-requires
     cast-least
     least-requires
-    slice-aggregate-wumbyra-desk-withdraw
-    wumbyra-desk-withdraw-requires
-    print-call-requires
+    load-requires
+    desk-of-requires
+    slice-aggregate-withdraw-own
+    withdraw-own-requires
+    print-changed-requires
     rest-requires
     same-length
     returns)
