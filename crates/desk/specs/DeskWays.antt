@@ -24,8 +24,8 @@ use Rattle.first_sweep.specs.Growing.{Growable}
 use Rattle.desk.specs.declared.Desk.{Desk}
 use Rattle.desk.specs.declared.DeskRefusal.{DeskRefusal}
 use Rattle.desk.specs.declared.DeskRefusal.the-variants.{Base}
-use Rattle.desk.specs.declared.Desked.the-variants.{Letters, Refused}
-use Rattle.desk.specs.declared.Changed.{Changed}
+use Rattle.desk.specs.declared.DeskAnswer.the-variants.{Letters, Refused}
+use Rattle.desk.specs.declared.DeskAfter.{DeskAfter}
 use Rattle.desk.specs.Desks.{page-limit, held, empty-desk, with-page, without-page, desk-number, desk-refused, if-accepted, Desk-check, words-for}
 use Rattle.desk.specs.Desks.{open-order, put-order, withdraw-order, open-answer, put-answer, withdraw-answer, Opens, Puts, Withdraws}
 use Rattle.desk.specs.Numbers.{desk-number-positive}
@@ -55,7 +55,7 @@ module _ (p : Pattern) (d : Desk) (words : List ℕ) where
       record {
         answers = sym (first-said desk-refused f (answer 0 0));
         leaves = kept order 0 why empty-desk d f;
-        marks-left = kept order 0 why (in-front (tail-words p []) words) words f;
+        words-left = kept order 0 why (in-front (tail-words p []) words) words f;
       }
 
   pub open-2 : obeys p ≡ false → First (Base (Tree-fault 0)) (open-order p (length words))
@@ -71,7 +71,7 @@ module _ (p : Pattern) (d : Desk) (words : List ℕ) where
       record {
         answers = sym (clear-said desk-refused order (answer 0 0) c);
         leaves = taken order 0 empty-desk d c;
-        marks-left = k ∙ taken order 0 (in-front (tail-words p []) words) words c;
+        words-left = k ∙ taken order 0 (in-front (tail-words p []) words) words c;
       }
 
   pub open-done : obeys p ≡ true → 2 ≤ length words → (now : List ℕ) → now ≡ in-front (tail-words p []) words
@@ -97,7 +97,7 @@ module _ (p : Pattern) (d : Desk) (page letters words : List ℕ) where
         answers = sym (first-said desk-refused f (answer 0 n));
         leaves = kept order n why (with-page d (length page)) d f;
         letters-left = kept order n why (sets letters at page) letters f;
-        marks-left = kept order n why put-words words f;
+        words-left = kept order n why put-words words f;
       }
 
   module _ (r : Checked) (c : Checks (put-order d p page letters (length words)) (held d) r) where
@@ -117,7 +117,7 @@ module _ (p : Pattern) (d : Desk) (page letters words : List ℕ) where
           answers = ap (answer 0) k ∙ sym (clear-said desk-refused order (answer 0 m) c);
           leaves = f ∙ taken order m (with-page d (length page)) d c;
           letters-left = g ∙ taken order m (sets letters at page) letters c;
-          marks-left = h ∙ taken order m put-words words c;
+          words-left = h ∙ taken order m put-words words c;
         }
 
     pub put-rules : Rules p
@@ -182,5 +182,5 @@ module _ (p : Pattern) (d : Desk) (letters : List ℕ) where
         leaves = taken (withdraw-order d p letters) n (without-page d) d c;
       }
 
-  pub withdraw-done : Clear (withdraw-order d p letters) → (r : Changed) → r ≡ less-page d → Withdraws p d (r .desk) letters (r .answer)
+  pub withdraw-done : Clear (withdraw-order d p letters) → (r : DeskAfter) → r ≡ less-page d → Withdraws p d (r .desk) letters (r .answer)
   withdraw-done c r e = subst (λ x. Withdraws p d (x .desk) letters (x .answer)) (sym e) (withdrawn c)

@@ -18,9 +18,9 @@ use Rattle.first_sweep.specs.Grow.{grown}
 use Rattle.desk.specs.declared.Desk.{Desk}
 use Rattle.desk.specs.declared.DeskRefusal.{DeskRefusal}
 use Rattle.desk.specs.declared.DeskRefusal.the-variants.{Base, DeskLimits, DeskFull, DeskEmpty}
-use Rattle.desk.specs.declared.Desked.{Desked}
-use Rattle.desk.specs.declared.Desked.the-variants.{Letters, Refused}
-use Rattle.desk.specs.declared.Changed.{Changed}
+use Rattle.desk.specs.declared.DeskAnswer.{DeskAnswer}
+use Rattle.desk.specs.declared.DeskAnswer.the-variants.{Letters, Refused}
+use Rattle.desk.specs.declared.DeskAfter.{DeskAfter}
 
 -- ── a desk and its letters ──
 -- 02: "At most 30 pages are held."
@@ -90,7 +90,7 @@ desk-value DeskEmpty = 0
 abbrev pub desk-refused : DeskRefusal → Answer
 desk-refused r = answer (desk-number r) (desk-value r)
 
-abbrev pub desk-answer : Desked → Answer
+abbrev pub desk-answer : DeskAnswer → Answer
 desk-answer (Letters n) = answer 0 n
 desk-answer (Refused r) = desk-refused r
 
@@ -147,30 +147,26 @@ withdraw-answer d p letters = first-of desk-refused (withdraw-order d p letters)
 abbrev pub if-accepted : {A : Type 0} → Answer → (new old : A) → A
 if-accepted a new old = cond (eqb (a .number) 0) new old
 
-abbrev pub refused-change : Desk → DeskRefusal → Changed
+abbrev pub refused-change : Desk → DeskRefusal → DeskAfter
 refused-change d why = record { desk = d; answer = Refused why }
 
--- 02: "the marks are those of the joined letters under its table"
-abbrev pub Words-of : Pattern → (letters words : List ℕ) → Type 0
-Words-of p w words = take (words-for (length w)) words ≡ tail-words p w
-
 -- ── THE PROMISES, for every desk, table, page and lent buffers ──
-pub record Opens (p : Pattern) (d d-now : Desk) (words words-now : List ℕ) (r : Desked) : Type 0 where
+pub record Opens (p : Pattern) (d d-now : Desk) (words words-now : List ℕ) (r : DeskAnswer) : Type 0 where
   pub answers : desk-answer r ≡ open-answer p (length words)
   pub leaves : d-now ≡ if-accepted (open-answer p (length words)) empty-desk d
-  pub marks-left : words-now ≡ if-accepted (open-answer p (length words)) (in-front (tail-words p []) words) words
+  pub words-left : words-now ≡ if-accepted (open-answer p (length words)) (in-front (tail-words p []) words) words
 
 -- 02: "a put changes only its own letters' cells and mark words"
-pub record Puts (p : Pattern) (page : List ℕ) (d d-now : Desk) (letters letters-now words words-now : List ℕ) (r : Desked) : Type 0 where
+pub record Puts (p : Pattern) (page : List ℕ) (d d-now : Desk) (letters letters-now words words-now : List ℕ) (r : DeskAnswer) : Type 0 where
   pub answers : desk-answer r ≡ put-answer d p page letters (length words)
   pub leaves : d-now ≡ if-accepted (put-answer d p page letters (length words)) (with-page d (length page)) d
   pub letters-left : letters-now ≡
       if-accepted (put-answer d p page letters (length words)) (sets letters (letter-limit - (held d + length page)) page) letters
-  pub marks-left : words-now ≡
+  pub words-left : words-now ≡
       if-accepted (put-answer d p page letters (length words))
       (sets words (2 * (held d + 1)) (grown p (getD words (2 * held d + 1) 0) (eqb (held d) 0) page)) words
 
 -- 02: "a withdrawal none"
-pub record Withdraws (p : Pattern) (d d-now : Desk) (letters : List ℕ) (r : Desked) : Type 0 where
+pub record Withdraws (p : Pattern) (d d-now : Desk) (letters : List ℕ) (r : DeskAnswer) : Type 0 where
   pub answers : desk-answer r ≡ withdraw-answer d p letters
   pub leaves : d-now ≡ if-accepted (withdraw-answer d p letters) (without-page d) d

@@ -95,19 +95,19 @@ limits-few d h =
     (omega (arith, few, upto, size), omega (arith, upto, size), few)
 
 -- ── `sum_pages`: what is summed up to position i ──
-pub record Summed (xs : List ℕ) (i total : ℕ) : Type 0 where
+pub record Pages-summed (xs : List ℕ) (i total : ℕ) : Type 0 where
   pub within : i ≤ length xs
   pub few : total ≤ page-letters * i
   pub good : every good-page xs ≡ every good-page (drop i xs)
   pub sums : sum xs ≡ total + sum (drop i xs)
 
-pub summed-start : (xs : List ℕ) → Summed xs 0 0
-summed-start xs = record { within = omega arith; few = omega arith; good = refl; sums = omega arith }
+pub pages-summed-start : (xs : List ℕ) → Pages-summed xs 0 0
+pages-summed-start xs = record { within = omega arith; few = omega arith; good = refl; sums = omega arith }
 
-module _ (xs : List ℕ) (i total : ℕ) (s : Summed xs i total) where
-  pub summed-end : length xs ≤ i → Kept total ≡ pages-limits xs
+module _ (xs : List ℕ) (i total : ℕ) (s : Pages-summed xs i total) where
+  pub pages-summed-end : length xs ≤ i → Kept total ≡ pages-limits xs
   unfolding pages-limits
-  summed-end h =
+  pages-summed-end h =
       let none = drop-of-length-le xs h in
       let g : every good-page xs ≡ true = s .good ∙ ap (every good-page) none in
       let t : sum xs ≡ total = s .sums ∙ (let z : sum (drop i xs) ≡ 0 = ap sum none in omega arith) in
@@ -118,16 +118,16 @@ module _ (xs : List ℕ) (i total : ℕ) (s : Summed xs i total) where
     first-good : every good-page xs ≡ (good-page n && every good-page (drop (suc i) xs))
     first-good = s .good ∙ ap (every good-page) (drop-cons xs i 0 l) ∙ ap (λ m. good-page m && every good-page (drop (suc i) xs)) (sym e)
 
-    pub summed-broken : good-page n ≡ false → Broken ≡ pages-limits xs
+    pub pages-summed-broken : good-page n ≡ false → Broken ≡ pages-limits xs
     unfolding pages-limits
-    summed-broken g =
+    pages-summed-broken g =
         sym (ap (λ b. cond b (Kept (sum xs)) Broken) (first-good ∙ ap (λ b. b && every good-page (drop (suc i) xs)) g))
 
-    pub summed-few : length xs ≤ page-limit → good-page n ≡ true → total + n ≤ letter-limit
-    summed-few h g = omega (arith, s .few, page-upto n g)
+    pub pages-summed-few : length xs ≤ page-limit → good-page n ≡ true → total + n ≤ letter-limit
+    pages-summed-few h g = omega (arith, s .few, page-upto n g)
 
-    pub summed-next : good-page n ≡ true → Summed xs (i + 1) (total + n)
-    summed-next g =
+    pub pages-summed-next : good-page n ≡ true → Pages-summed xs (i + 1) (total + n)
+    pages-summed-next g =
         let j : suc i ≡ i + 1 = omega arith in
         let more : sum (drop i xs) ≡ getD xs i 0 + sum (drop (suc i) xs) = ap sum (drop-cons xs i 0 l) in
         let moved : sum xs ≡ total + n + sum (drop (suc i) xs) = omega (arith, s .sums, more, e) in

@@ -6,8 +6,8 @@ use native.Mathlib.Omega.{arith}
 use Rattle.refusals.specs.RefusalLaws.{number-positive, said-same, wider-of, wrapped-known}
 use Rattle.desk.specs.declared.DeskRefusal.{DeskRefusal}
 use Rattle.desk.specs.declared.DeskRefusal.the-variants.{Base, DeskLimits, DeskFull, DeskEmpty}
-use Rattle.desk.specs.declared.Desked.{Desked}
-use Rattle.desk.specs.declared.Desked.the-variants.{Letters, Refused}
+use Rattle.desk.specs.declared.DeskAnswer.{DeskAnswer}
+use Rattle.desk.specs.declared.DeskAnswer.the-variants.{Letters, Refused}
 use Rattle.desk.specs.Desks.{desk-number, desk-refused, desk-answer}
 
 -- 0 is no cause's number
@@ -30,7 +30,7 @@ known-by DeskEmpty = refl
 pub desk-refused-same : (r s : DeskRefusal) → desk-refused r ≡ desk-refused s → r ≡ s
 desk-refused-same = said-same desk-refused (wider-of desk-refused Base added) known-by
 
-pub desk-answer-same : (r s : Desked) → desk-answer r ≡ desk-answer s → r ≡ s
+pub desk-answer-same : (r s : DeskAnswer) → desk-answer r ≡ desk-answer s → r ≡ s
 desk-answer-same (Letters n) (Letters m) e = ap (λ a. Letters (a .value)) e
 desk-answer-same (Letters n) (Refused s) e = let z : 0 ≡ desk-number s = ap (λ a. a .number) e in absurd (omega (arith, desk-number-positive s))
 desk-answer-same (Refused r) (Letters m) e = let z : desk-number r ≡ 0 = ap (λ a. a .number) e in absurd (omega (arith, desk-number-positive r))

@@ -15,8 +15,8 @@ use Rattle.first_sweep.specs.Tail.{tail-words}
 use Rattle.first_sweep.specs.Grow.{grown}
 use Rattle.desk.specs.declared.Desk.{Desk}
 use Rattle.desk.specs.declared.DeskRefusal.{DeskRefusal}
-use Rattle.desk.specs.declared.Desked.{Desked}
-use Rattle.desk.specs.declared.Desked.the-variants.{Letters, Refused}
+use Rattle.desk.specs.declared.DeskAnswer.{DeskAnswer}
+use Rattle.desk.specs.declared.DeskAnswer.the-variants.{Letters, Refused}
 use Rattle.desk.specs.Desks.{held, empty-desk, with-page, without-page, Desk-check, open-order, put-order, withdraw-order}
 use Rattle.desk.specs.Desks.{Opens, Puts, Withdraws}
 use Rattle.desk.specs.Pages.{less-page}
@@ -24,12 +24,12 @@ use Rattle.desk.specs.DeskWays.{open-refused, open-clear, put-refused, p
 use Rattle.desk.specs.Unique.{opens-one, puts-one, withdraws-one}
 
 -- 01: "A number is returned if its cause holds and none before it in the service's order does, and never otherwise."
-abbrev pub Answered : (order : List Desk-check) → (letters : ℕ) → Desked → Type 0
+abbrev pub Answered : (order : List Desk-check) → (letters : ℕ) → DeskAnswer → Type 0
 Answered order n r = (Clear order × (r ≡ Letters n)) ⊎ ((why : DeskRefusal) × First why order × (r ≡ Refused why))
 
 -- ── opening ──
 module _ (p : Pattern) (d : Desk) (words : List ℕ) where
-  module _ (e : Desk) (now : List ℕ) (r : Desked) (h : Opens p d e words now r) where
+  module _ (e : Desk) (now : List ℕ) (r : DeskAnswer) (h : Opens p d e words now r) where
     pub open-only : (why : DeskRefusal) → First why (open-order p (length words)) → (r ≡ Refused why) × (e ≡ d) × (now ≡ words)
     open-only why f = opens-one p d e d words now words r (Refused why) h (open-refused p d words why f)
 
@@ -50,7 +50,7 @@ module _ (p : Pattern) (d : Desk) (page letters words : List ℕ) where
   abbrev put-checks : List Desk-check
   put-checks = put-order d p page letters (length words)
 
-  module _ (e : Desk) (after now : List ℕ) (r : Desked) (h : Puts p page d e letters after words now r) where
+  module _ (e : Desk) (after now : List ℕ) (r : DeskAnswer) (h : Puts p page d e letters after words now r) where
     pub put-only : (why : DeskRefusal) → First why (put-order d p page letters (length words))
         → (r ≡ Refused why) × (e ≡ d) × (after ≡ letters) × (now ≡ words)
     put-only why f = puts-one p d page e d letters after letters words now words r (Refused why) h (put-refused p d page letters words why f)
@@ -74,7 +74,7 @@ module _ (p : Pattern) (d : Desk) (page letters words : List ℕ) where
 
 -- ── withdrawing ──
 module _ (p : Pattern) (d : Desk) (letters : List ℕ) where
-  module _ (e : Desk) (r : Desked) (h : Withdraws p d e letters r) where
+  module _ (e : Desk) (r : DeskAnswer) (h : Withdraws p d e letters r) where
     pub withdraw-only : (why : DeskRefusal) → First why (withdraw-order d p letters) → (r ≡ Refused why) × (e ≡ d)
     withdraw-only why f = withdraws-one p d e d letters r (Refused why) h (withdraw-refused p d letters why f)
 

@@ -5,12 +5,12 @@ use Prim.Native.Nat.{ℕ, zero, suc, _+_, _-_, _≤_, _<_}
 use native.Mathlib.Omega.{arith}
 use lib.ListN.{getD, take, set}
 use Rattle.desk.specs.declared.Desk.{Desk}
-use Rattle.desk.specs.declared.Desked.the-variants.{Letters}
-use Rattle.desk.specs.declared.Changed.{Changed}
+use Rattle.desk.specs.declared.DeskAnswer.the-variants.{Letters}
+use Rattle.desk.specs.declared.DeskAfter.{DeskAfter}
 use Rattle.desk.specs.Desks.{sum, lengths-held, held, with-page, without-page}
 
 -- the desk without its last page, and the letters then held
-abbrev pub less-page : Desk → Changed
+abbrev pub less-page : Desk → DeskAfter
 less-page d = record { desk = without-page d; answer = Letters (held (without-page d)) }
 
 -- ── `with_page`, `take_page` ──

@@ -17,7 +17,7 @@ use Rattle.refusals.specs.Checks.{first-of, Clear}
 use Rattle.refusals.specs.CheckLaws.{zero-said}
 use Rattle.desk.specs.declared.Desk.{Desk}
 use Rattle.desk.specs.declared.DeskRefusal.the-variants.{Base, DeskLimits, DeskFull, DeskEmpty}
-use Rattle.desk.specs.declared.Desked.{Desked}
+use Rattle.desk.specs.declared.DeskAnswer.{DeskAnswer}
 use Rattle.desk.specs.Desks.{page-limit, good-page, sum, lengths-held, held, desk-good}
 use Rattle.desk.specs.Desks.{empty-desk, with-page, without-page, desk-refused, desk-answer, if-accepted}
 use Rattle.desk.specs.Desks.{words-for, table-check, cells-check, words-check, open-answer, put-answer, withdraw-answer, Opens, Puts, Withdraws}
@@ -45,12 +45,12 @@ same-letters a letters = go (eqb (a .number) 0)
     go false = refl
 
 -- what a call answers is what the stack answers, and the desk then holds the stack then
-record Answers-like (cells : ℕ) (c : Call) (s : Stack) (e : Desk) (after : List ℕ) (r : Desked) : Type 0 where
+record Answers-like (cells : ℕ) (c : Call) (s : Stack) (e : Desk) (after : List ℕ) (r : DeskAnswer) : Type 0 where
   answers : desk-answer r ≡ stack-answer cells c s
   holds : Holds cells (stack-step cells c s) e after
 
 -- where the answers are the same, the promise's new and old things are those of the stack's step
-module _ (cells : ℕ) (c : Call) (s : Stack) (d e new : Desk) (letters after fresh : List ℕ) (r : Desked) (a : Answer) where
+module _ (cells : ℕ) (c : Call) (s : Stack) (d e new : Desk) (letters after fresh : List ℕ) (r : DeskAnswer) (a : Answer) where
   like : desk-answer r ≡ a → e ≡ if-accepted a new d → after ≡ if-accepted a fresh letters → a ≡ stack-answer cells c s
       → (stack-answer cells c s .number ≡ 0 → Holds cells (stack-next c s) new fresh) → Holds cells s d letters → Answers-like cells c s e after r
   unfolding stack-step
@@ -73,7 +73,7 @@ accepted-none cells c s e =
 
 -- opening
 module _ (cells : ℕ) (s : Stack) (d e : Desk) (letters : List ℕ) (h : Holds cells s d letters) where
-  opened : (p : Pattern) (n : ℕ) (words now : List ℕ) (r : Desked) → length words ≡ n → Opens p d e words now r → (after : List ℕ)
+  opened : (p : Pattern) (n : ℕ) (words now : List ℕ) (r : DeskAnswer) → length words ≡ n → Opens p d e words now r → (after : List ℕ)
       → after ≡ letters → Answers-like cells (opening p n) s e after r
   unfolding open-answer stack-answer
   opened p n words now r w o after k =
@@ -117,7 +117,7 @@ module _ (cells : ℕ) (s : Stack) (d : Desk) (letters : List ℕ) (h : Holds ce
       put-holds cells s d letters page h (ltb-false cells letter-limit (none .1 .0)) (leb-false page-limit (length s) (none .1 .1 .1 .0))
       (not-false (good-page (length page)) (none .1 .1 .0)) (no-bad page (ltb-false (first-bad page) (length page) (none .1 .1 .1 .1 .0)))
 
-  puts-like : (e : Desk) (after : List ℕ) (p : Pattern) (page : List ℕ) (n : ℕ) (words now : List ℕ) (r : Desked) → length words ≡ n
+  puts-like : (e : Desk) (after : List ℕ) (p : Pattern) (page : List ℕ) (n : ℕ) (words now : List ℕ) (r : DeskAnswer) → length words ≡ n
       → Puts p page d e letters after words now r → Answers-like cells (putting p page n) s e after r
   puts-like e after p page n words now r w k =
       like cells (putting p page n) s d e (with-page d (length page)) letters after
@@ -150,7 +150,7 @@ module _ (cells : ℕ) (s : Stack) (d : Desk) (letters : List ℕ) (h : Holds ce
       ∙ ap (λ x. less-by p cells false x left) (h .count)
       ∙ ap (less-by p cells false (length s)) (top-held cells s d letters h)
 
-  withdraws-like : (e : Desk) (after : List ℕ) (p : Pattern) (r : Desked) → Withdraws p d e letters r → after ≡ letters
+  withdraws-like : (e : Desk) (after : List ℕ) (p : Pattern) (r : DeskAnswer) → Withdraws p d e letters r → after ≡ letters
       → Answers-like cells (withdrawing p) s e after r
   withdraws-like e after p r w k =
       let a = withdraw-answer d p letters in
@@ -158,13 +158,13 @@ module _ (cells : ℕ) (s : Stack) (d : Desk) (letters : List ℕ) (h : Holds ce
       (less-same p) (less-new cells s d letters p h) h
 
 -- ── runs ──
-one-call : (cells : ℕ) (c : Call) (s : Stack) (d e : Desk) (letters after : List ℕ) (r : Desked) → Does c d e letters after r → Holds cells s d letters
+one-call : (cells : ℕ) (c : Call) (s : Stack) (d e : Desk) (letters after : List ℕ) (r : DeskAnswer) → Does c d e letters after r → Holds cells s d letters
     → Answers-like cells c s e after r
 one-call cells (opening p n) s d e letters after r (words, now, w, o, k) h = opened cells s d e letters h p n words now r w o after k
 one-call cells (putting p page n) s d e letters after r (words, now, w, k) h = puts-like cells s d letters h e after p page n words now r w k
 one-call cells (withdrawing p) s d e letters after r (w, k) h = withdraws-like cells s d letters h e after p r w k
 
-run-like : (cells : ℕ) {cs : List Call} {rs : List Desked} {d e : Desk} {letters after : List ℕ} (s : Stack) → Run d letters cs rs e after
+run-like : (cells : ℕ) {cs : List Call} {rs : List DeskAnswer} {d e : Desk} {letters after : List ℕ} (s : Stack) → Run d letters cs rs e after
     → Holds cells s d letters → Like-a-stack cells cs s rs e after
 run-like cells s rest h = record { answers = refl; holds = h .holds; pages = h .count }
 run-like cells s (next {d = d} {e = e} {letters = letters} {after = after} {c = c} {r = r} does more) h =
@@ -178,8 +178,8 @@ run-like cells s (next {d = d} {e = e} {letters = letters} {after = after} {c = 
 
 -- THE THEOREM. An accepted opening leaves an empty desk, whatever desk and letters were there; any run of calls behind it, refused ones too, is
 -- answered as a stack that is empty at first answers it.
-pub desk-is-a-stack : {p : Pattern} {d e f : Desk} {words now : List ℕ} {r : Desked} → Opens p d e words now r → desk-answer r .number ≡ 0
-    → {letters last : List ℕ} {cs : List Call} {rs : List Desked} → Run e letters cs rs f last → Like-a-stack (length letters) cs [] rs f last
+pub desk-is-a-stack : {p : Pattern} {d e f : Desk} {words now : List ℕ} {r : DeskAnswer} → Opens p d e words now r → desk-answer r .number ≡ 0
+    → {letters last : List ℕ} {cs : List Call} {rs : List DeskAnswer} → Run e letters cs rs f last → Like-a-stack (length letters) cs [] rs f last
 desk-is-a-stack {p} {d} {e} {words = words} o z {letters} run =
     let a = open-answer p (length words) in
     let zero-first : eqb (a .number) 0 ≡ true = eq-eqb (a .number) 0 (sym (ap (λ x. x .number) (o .answers)) ∙ z) in

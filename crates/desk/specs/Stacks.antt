@@ -12,7 +12,7 @@ use Rattle.refusals.specs.Refusals.{Answer, answer}
 use Rattle.refusals.specs.Checks.{first-of}
 use Rattle.desk.specs.declared.Desk.{Desk}
 use Rattle.desk.specs.declared.DeskRefusal.the-variants.{Base, DeskLimits, DeskFull, DeskEmpty}
-use Rattle.desk.specs.declared.Desked.{Desked}
+use Rattle.desk.specs.declared.DeskAnswer.{DeskAnswer}
 use Rattle.desk.specs.Desks.{page-limit, good-page, letters-held, desk-refused, desk-answer, if-accepted}
 use Rattle.desk.specs.Desks.{Desk-check, words-for, table-check, cells-check, words-check, open-order, Opens, Puts, Withdraws}
 
@@ -72,7 +72,7 @@ stack-behind cells (c ∷ cs) s = stack-behind cells cs (stack-step cells c s)
 
 -- ── runs of calls ──
 -- what is known of a call is its promise: the desk and the letters before and after it, with any words of that number
-abbrev pub Does : Call → (d d-now : Desk) → (letters letters-now : List ℕ) → Desked → Type 0
+abbrev pub Does : Call → (d d-now : Desk) → (letters letters-now : List ℕ) → DeskAnswer → Type 0
 Does (opening p n) d d-now letters letters-now r =
     (words : List ℕ) × (words-now : List ℕ) × (length words ≡ n) × (Opens p d d-now words words-now r) × (letters-now ≡ letters)
 Does (putting p page n) d d-now letters letters-now r =
@@ -80,13 +80,13 @@ Does (putting p page n) d d-now letters letters-now r =
 Does (withdrawing p) d d-now letters letters-now r = (Withdraws p d d-now letters r) × (letters-now ≡ letters)
 
 -- 02: "while nothing but its calls writes desk and letters": each call finds them as the one before left them
-pub data Run : (d : Desk) → (letters : List ℕ) → List Call → List Desked → (d-now : Desk) → (letters-now : List ℕ) → Type 0 where
+pub data Run : (d : Desk) → (letters : List ℕ) → List Call → List DeskAnswer → (d-now : Desk) → (letters-now : List ℕ) → Type 0 where
   rest : {d : Desk} {letters : List ℕ} → Run d letters [] [] d letters
-  next : {d e f : Desk} {letters after last : List ℕ} {c : Call} {cs : List Call} {r : Desked} {rs : List Desked} → Does c d e letters after r
+  next : {d e f : Desk} {letters after last : List ℕ} {c : Call} {cs : List Call} {r : DeskAnswer} {rs : List DeskAnswer} → Does c d e letters after r
       → Run e after cs rs f last → Run d letters (c ∷ cs) (r ∷ rs) f last
 
 -- the answers of a run are those of the stack, number and value; the letters held at its end are its pages joined
-pub record Like-a-stack (cells : ℕ) (cs : List Call) (s : Stack) (rs : List Desked) (d-now : Desk) (letters-now : List ℕ) : Type 0 where
+pub record Like-a-stack (cells : ℕ) (cs : List Call) (s : Stack) (rs : List DeskAnswer) (d-now : Desk) (letters-now : List ℕ) : Type 0 where
   pub answers : map desk-answer rs ≡ stack-answers cells cs s
   pub holds : letters-held d-now letters-now ≡ joined (stack-behind cells cs s)
   pub pages : d-now .count ≡ length (stack-behind cells cs s)

@@ -11,7 +11,7 @@ use Rattle.syntax.specs.declared.Pattern.{Pattern}
 use Rattle.syntax.specs.Letter.{letter-limit}
 use Rattle.first_sweep.specs.Grow.{grown, step-by, grown-length}
 use Rattle.desk.specs.declared.Desk.{Desk}
-use Rattle.desk.specs.declared.Desked.{Desked}
+use Rattle.desk.specs.declared.DeskAnswer.{DeskAnswer}
 use Rattle.desk.specs.Desks.{held, put-order, Puts}
 use Rattle.desk.specs.Checking.{put-upto}
 use Rattle.desk.specs.Moves.{sets-before, sets-behind}
@@ -22,7 +22,7 @@ outside : (vs l : List ℕ) (at end i : ℕ) → at + length vs ≡ end → (i <
 outside vs l at end i e (inl h) = sets-before vs l at i h
 outside vs l at end i e (inr h) = sets-behind vs l at i (omega (arith, e, h))
 
-module _ (p : Pattern) (page : List ℕ) (d e : Desk) (letters after words now : List ℕ) (r : Desked) (h : Puts p page d e letters after words now r) where
+module _ (p : Pattern) (page : List ℕ) (d e : Desk) (letters after words now : List ℕ) (r : DeskAnswer) (h : Puts p page d e letters after words now r) where
   abbrev How : Type 0
   How = Answered (put-order d p page letters (length words)) (held d + length page) r
 

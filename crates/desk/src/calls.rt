@@ -3,10 +3,10 @@ ghost use mathlib.Core.Path.{_≡_};
 ghost use lib.ListN.{length};
 ghost use Rattle.refusals.specs.Checks.{Clear};
 ghost use Rattle.desk.specs.Desks.{held, put-order, refused-change, Opens, Puts, Withdraws};
-use crate::Changed;
 use crate::Desk;
+use crate::DeskAfter;
+use crate::DeskAnswer;
 use crate::DeskRefusal;
-use crate::Desked;
 use crate::checks::Checked;
 use crate::checks::check_put;
 use crate::pages::take_page;
@@ -21,17 +21,17 @@ use table::table_of;
 use text::put_bytes;
 
 // A call that is refused leaves the desk as it was.
-fn unchanged(desk: Desk, why: DeskRefusal) -> Changed
+fn unchanged(desk: Desk, why: DeskRefusal) -> DeskAfter
     ensures { λ r. ⌜ r ≡ refused-change desk why ⌝ }
 {
-    Changed {
+    DeskAfter {
         desk,
-        answer: Desked::Refused(why),
+        answer: DeskAnswer::Refused(why),
     }
 }
 
 // Empties a desk, whatever it held, and writes the two words of the tape's end.
-pub fn open_desk(desk: Desk, p: Pattern, words: &mut [u64]) -> Changed
+pub fn open_desk(desk: Desk, p: Pattern, words: &mut [u64]) -> DeskAfter
     ensures { λ r. ⌜ Opens p desk (r .desk) (now (words .entry)) (now (words .exit)) (r .answer) ⌝ }
 {
     if !obeys_rules(p) {
@@ -42,12 +42,12 @@ pub fn open_desk(desk: Desk, p: Pattern, words: &mut [u64]) -> Changed
     }
     let table = table_of(p);
     put_end(p, &table, words);
-    Changed {
+    DeskAfter {
         desk: Desk {
             count: 0,
             lengths: [0; Desk::MAX_PAGES],
         },
-        answer: Desked::Letters(0),
+        answer: DeskAnswer::Letters(0),
     }
 }
 
@@ -58,20 +58,20 @@ fn put_on(
     page: &[u8],
     letters: &mut [u8],
     words: &mut [u64],
-    behind: usize,
-) -> Changed
-    requires { ⌜ Clear (put-order desk p (now page) (now letters) (length (now words))) × (behind ≡ held desk) ⌝ }
+    kept: usize,
+) -> DeskAfter
+    requires { ⌜ Clear (put-order desk p (now page) (now letters) (length (now words))) × (kept ≡ held desk) ⌝ }
     ensures { λ r.
         ⌜ Puts p (now (page .entry)) desk (r .desk) (now (letters .entry)) (now (letters .exit)) (now (words .entry)) (now (words .exit)) (r .answer) ⌝ }
 {
     let n = page.len();
-    let total = behind + n;
+    let total = kept + n;
     let table = table_of(p);
-    grow(p, &table, page, behind, words);
+    grow(p, &table, page, kept, words);
     put_bytes(letters, Pattern::MAX_LETTERS - total, page);
-    Changed {
+    DeskAfter {
         desk: with_page(desk, n),
-        answer: Desked::Letters(total as u32),
+        answer: DeskAnswer::Letters(total as u32),
     }
 }
 
@@ -81,19 +81,19 @@ pub fn put_page(
     page: &[u8],
     letters: &mut [u8],
     words: &mut [u64],
-) -> Changed
+) -> DeskAfter
     ensures { λ r.
         ⌜ Puts p (now (page .entry)) desk (r .desk) (now (letters .entry)) (now (letters .exit)) (now (words .entry)) (now (words .exit)) (r .answer) ⌝ }
 {
     let checked = check_put(desk, p, page, letters, words.len());
     match checked {
         Checked::Refused(why) => unchanged(desk, why),
-        Checked::Held(behind) => put_on(desk, p, page, letters, words, behind),
+        Checked::Held(held) => put_on(desk, p, page, letters, words, held),
     }
 }
 
 // Withdraws the last page put. Nothing but the desk changes.
-pub fn withdraw_page(desk: Desk, p: Pattern, letters: &[u8]) -> Changed
+pub fn withdraw_page(desk: Desk, p: Pattern, letters: &[u8]) -> DeskAfter
     ensures { λ r. ⌜ Withdraws p desk (r .desk) (now (letters .entry)) (r .answer) ⌝ }
 {
     let checked = check_withdraw(desk, p, letters);

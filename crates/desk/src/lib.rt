@@ -21,7 +21,7 @@ use syntax::Pattern;
 // How many pages are held, and how many letters each has, in the order of their putting. Lengths at or past the count mean nothing.
 pub struct Desk {
     pub count: u8,
-    pub lengths: [u8; 30],
+    pub lengths: [u8; Desk::MAX_PAGES],
 }
 
 impl Desk {
@@ -39,15 +39,15 @@ pub enum DeskRefusal {
 }
 
 // What a call answers: the letters held then, or why it is refused.
-pub enum Desked {
+pub enum DeskAnswer {
     Letters(u32),
     Refused(DeskRefusal),
 }
 
 // The desk after a call, and the call's answer.
-pub struct Changed {
+pub struct DeskAfter {
     pub desk: Desk,
-    pub answer: Desked,
+    pub answer: DeskAnswer,
 }
 
 // The number of a cause: 02 gives 13, 14 and 15, 01's table the others.
@@ -75,7 +75,7 @@ pub fn desk_value_of(why: DeskRefusal) -> u32
 }
 
 // Opens a desk: it is empty then, whatever it held before.
-pub fn open(desk: &mut Desk, p: Pattern, words: &mut [u64]) -> Desked
+pub fn open(desk: &mut Desk, p: Pattern, words: &mut [u64]) -> DeskAnswer
     ensures { λ r. ⌜ Opens p (now (desk .entry)) (now (desk .exit)) (now (words .entry)) (now (words .exit)) r ⌝ }
 {
     let changed = open_desk(*desk, p, words);
@@ -90,7 +90,7 @@ pub fn put(
     page: &[u8],
     letters: &mut [u8],
     words: &mut [u64],
-) -> Desked
+) -> DeskAnswer
     ensures { λ r.
         ⌜ Puts p (now (page .entry)) (now (desk .entry)) (now (desk .exit)) (now (letters .entry)) (now (letters .exit))
         (now (words .entry)) (now (words .exit)) r ⌝ }
@@ -101,7 +101,7 @@ pub fn put(
 }
 
 // Withdraws the last page put.
-pub fn withdraw(desk: &mut Desk, p: Pattern, letters: &[u8]) -> Desked
+pub fn withdraw(desk: &mut Desk, p: Pattern, letters: &[u8]) -> DeskAnswer
     ensures { λ r. ⌜ Withdraws p (now (desk .entry)) (now (desk .exit)) (now (letters .entry)) r ⌝ }
 {
     let changed = withdraw_page(*desk, p, letters);

@@ -4,9 +4,9 @@ ghost use Prim.Native.Nat.{_≤_, _<_};
 ghost use Rattle.syntax.specs.Letter.{letter-limit};
 ghost use Rattle.desk.specs.Desks.{page-limit, page-letters, held, with-page};
 ghost use Rattle.desk.specs.Pages.{less-page};
-use crate::Changed;
 use crate::Desk;
-use crate::Desked;
+use crate::DeskAfter;
+use crate::DeskAnswer;
 use crate::limits::page_size;
 
 // The desk with one more page, of n letters.
@@ -25,7 +25,7 @@ pub(crate) fn with_page(desk: Desk, n: usize) -> Desk
 }
 
 // The desk without the last page put. Its length stays where it is: it is not looked at any more.
-pub(crate) fn take_page(desk: Desk, letters: usize) -> Changed
+pub(crate) fn take_page(desk: Desk, letters: usize) -> DeskAfter
     requires { ⌜ (1 ≤ desk .count) × (desk .count ≤ page-limit) × (letters ≡ held desk) × (letters ≤ letter-limit) ⌝ }
     ensures { λ r. ⌜ r ≡ less-page desk ⌝ }
 {
@@ -33,8 +33,8 @@ pub(crate) fn take_page(desk: Desk, letters: usize) -> Changed
     let lengths = desk.lengths;
     let at = count as usize;
     let left = letters - page_size(lengths[at]);
-    Changed {
+    DeskAfter {
         desk: Desk { count, lengths },
-        answer: Desked::Letters(left as u32),
+        answer: DeskAnswer::Letters(left as u32),
     }
 }

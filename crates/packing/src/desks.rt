@@ -8,17 +8,22 @@ use syntax::Pattern;
 use syntax::obeys_rules;
 use text::put_bytes;
 
-// The bytes of a desk.
-pub const DESK_BYTES: usize = 31;
+// The bytes of a desk, and a count that no desk has.
+pub const DESK_BYTES: usize = 1 + Desk::MAX_PAGES;
 
-// The desk that stands in the bytes. Bytes of another number are taken for a desk that breaks the limits, by a count of 31.
+const BROKEN_COUNT: u8 = 31;
+
+// The desk that stands in the bytes. If there are not 31 bytes, the desk has a count of 31, which breaks the limits.
 pub fn desk_of(bytes: &[u8]) -> Desk
     ensures { λ r. ⌜ r ≡ desk-of-bytes (now (bytes .entry)) ⌝ }
 {
     let mut lengths = [0u8; Desk::MAX_PAGES];
     let end = bytes.len();
     if end != DESK_BYTES {
-        return Desk { count: 31, lengths };
+        return Desk {
+            count: BROKEN_COUNT,
+            lengths,
+        };
     }
     let from = 1;
     put_bytes(&mut lengths, 0, &bytes[from..end]);

@@ -17,7 +17,7 @@ mod desks; // desks.rt: a page desk in bytes
 
 use canonical::Canonicalized;
 use codes::Flattened;
-use desk::Desked;
+use desk::DeskAnswer;
 use desk::desk_number_of;
 use desk::desk_value_of;
 pub use desks::DESK_BYTES;
@@ -116,12 +116,12 @@ pub fn of_term_totals(outcome: TermOutcome) -> u64
     }
 }
 
-pub fn of_desked(desked: Desked) -> u64
-    ensures { λ r. ⌜ unpacked r ≡ desk-answer desked ⌝ }
+pub fn of_desk_answer(answer: DeskAnswer) -> u64
+    ensures { λ r. ⌜ unpacked r ≡ desk-answer answer ⌝ }
 {
-    match desked {
-        Desked::Letters(n) => packed(0, n),
-        Desked::Refused(why) => packed(desk_number_of(why), desk_value_of(why)),
+    match answer {
+        DeskAnswer::Letters(n) => packed(0, n),
+        DeskAnswer::Refused(why) => packed(desk_number_of(why), desk_value_of(why)),
     }
 }
 

@@ -17,13 +17,14 @@ use Rattle.refusals.specs.Checks.{Clear}
 use Rattle.semantics.specs.Begins.{Ends}
 use Rattle.steps.specs.StateSets.{state-set}
 use Rattle.desk.specs.declared.Desk.{Desk}
-use Rattle.desk.specs.Desks.{held, letters-held, good-page, desk-good, page-letters, Desk-check, put-order, desk-answer, Words-of, Puts}
+use Rattle.first_sweep.specs.RightWords.{Right-words, right-one}
+use Rattle.desk.specs.Desks.{held, letters-held, good-page, desk-good, page-letters, Desk-check, put-order, desk-answer, Puts}
 use Rattle.desk.specs.Numbers.{desk-number-positive}
 use Rattle.desk.specs.Checking.{put-upto, put-cells}
 use Rattle.desk.specs.DeskWays.{put-rules}
 use Rattle.desk.specs.Moves.{held-length}
 use Rattle.desk.specs.Orders.{Answered, put-answered}
-use Rattle.desk.specs.WordLaws.{last-word, put-before}
+use Rattle.desk.specs.WordLaws.{put-before}
 use Rattle.reach.specs.FrontWords.{has-any}
 use Rattle.reach.specs.StateEnds.{state-ends-iff}
 use Rattle.loading.specs.Load.{load-table}
@@ -41,12 +42,12 @@ any-above zero h = absurd (true≢false (sym h))
 any-above (suc x) h = omega arith
 
 -- letters, at least one, with right words
-pub last-word-ends : (p : Pattern) → Rules p → (w words : List ℕ) → Words-of p w words → 1 ≤ length w
+pub last-word-ends : (p : Pattern) → Rules p → (w words : List ℕ) → Right-words p w words → 1 ≤ length w
     → (1 ≤ getD words (2 * length w + 1) 0) ↔ Ends (root p) w
 last-word-ends p rules [] words right h = absurd (omega arith)
 last-word-ends p rules (c ∷ w) words right h =
     let word = getD words (2 * length (c ∷ w) + 1) 0 in
-    let same : word ≡ state-set p true (c ∷ w) = last-word p (c ∷ w) words right in
+    let same : word ≡ state-set p true (c ∷ w) = right-one p (c ∷ w) words right in
     let ends = state-ends-iff p rules true c w in (
       λ k. ends .0 (ap has-any (sym same) ∙ above-any word k),
       λ e. any-above word (ap has-any same ∙ ends .1 e),
@@ -54,7 +55,7 @@ last-word-ends p rules (c ∷ w) words right h =
 
 module _ (text desk now page letters letters-now words words-now : List ℕ) (r : ℕ) (whole : length desk ≡ desk-bytes)
     (t : Desk-puts-text text desk now page letters letters-now words words-now r) (accepted : unpacked r .number ≡ 0)
-    (right : Words-of (load-table text) (letters-held (desk-of-bytes desk) letters) words) where
+    (right : Right-words (load-table text) (letters-held (desk-of-bytes desk) letters) words) where
   abbrev p : Pattern
   p = load-table text
 
@@ -64,14 +65,14 @@ module _ (text desk now page letters letters-now words words-now : List ℕ) (r 
   abbrev order : List Desk-check
   order = put-order d p page letters (length words)
 
-  was-put : Puts p page d (desk-of-bytes now) letters letters-now words words-now (t .desked)
+  was-put : Puts p page d (desk-of-bytes now) letters letters-now words words-now (t .desk-answered)
   was-put = puts-served text desk now r whole letters page letters-now words words-now t .0
 
   -- no cause held, and the value is the number of letters
   was-accepted : Clear order × (unpacked r .value ≡ held d + length page)
-  was-accepted = go (put-answered p d page letters words (desk-of-bytes now) letters-now words-now (t .desked) was-put)
+  was-accepted = go (put-answered p d page letters words (desk-of-bytes now) letters-now words-now (t .desk-answered) was-put)
     where
-      go : Answered order (held d + length page) (t .desked) → Clear order × (unpacked r .value ≡ held d + length page)
+      go : Answered order (held d + length page) (t .desk-answered) → Clear order × (unpacked r .value ≡ held d + length page)
       go (inl (c, k)) = (c, ap (λ a. a .value) (t .answers ∙ ap desk-answer k))
       go (inr (why, f, k)) = absurd (omega (arith, accepted, ap (λ a. a .number) (t .answers ∙ ap desk-answer k), desk-number-positive why))
 
@@ -90,7 +91,7 @@ module _ (text desk now page letters letters-now words words-now : List ℕ) (r 
       let c = was-accepted .0 in
       let few = put-upto d p page letters (length words) c in
       let size = held-length d letters (put-cells d p page letters (length words) c) (omega (arith, few)) in
-      let before = put-before p page d (desk-of-bytes now) letters letters-now words words-now (t .desked) was-put (lengths-all desk whole) c in
+      let before = put-before p page d (desk-of-bytes now) letters letters-now words words-now (t .desk-answered) was-put (lengths-all desk whole) c in
       omega (arith, ap length before, length-append page (letters-held d letters), size, was-accepted .1)
 
   pub put-ends : (1 ≤ getD words-now (2 * unpacked r .value + 1) 0) ↔ Ends (root p) all

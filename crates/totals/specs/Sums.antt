@@ -83,24 +83,24 @@ charge-room : (es : Entries) (a c : ℕ) → length es < letter-limit → a ≤ 
 charge-room es a c h o = omega (arith, sum-of (account-limit + 1) es a (omega arith), total-small a es, litres-small c)
 
 -- ── the loop: i entries are added up ──
-pub record Summed (letters accounts sums : List ℕ) (n i : ℕ) : Type 0 where
+pub record Entries-summed (letters accounts sums : List ℕ) (n i : ℕ) : Type 0 where
   pub low : i ≤ n
   pub is : sums ≡ charge no-litres (pairs i letters accounts)
 
 module _ (xs ys : List ℕ) (n : ℕ) where
-  pub summed-start : Summed xs ys no-litres n 0
-  summed-start = record { low = omega arith; is = refl }
+  pub entries-summed-start : Entries-summed xs ys no-litres n 0
+  entries-summed-start = record { low = omega arith; is = refl }
 
-  module _ (s : List ℕ) (i : ℕ) (k : Summed xs ys s n i) where
-    pub summed-size : length s ≡ account-limit + 1
-    summed-size = ap length (k .is) ∙ charge-length (pairs i xs ys) no-litres
+  module _ (s : List ℕ) (i : ℕ) (k : Entries-summed xs ys s n i) where
+    pub entries-summed-size : length s ≡ account-limit + 1
+    entries-summed-size = ap length (k .is) ∙ charge-length (pairs i xs ys) no-litres
 
     -- no sum passes nine litres a letter
-    pub summed-room : i < n → n ≤ letter-limit → (a c : ℕ) → a ≤ account-limit → getD s a 0 + litres c ≤ 9 * letter-limit
-    summed-room h few a c o = rw (k .is) (charge-room (pairs i xs ys) a c (omega (arith, pairs-length i xs ys)) o)
+    pub entries-summed-room : i < n → n ≤ letter-limit → (a c : ℕ) → a ≤ account-limit → getD s a 0 + litres c ≤ 9 * letter-limit
+    entries-summed-room h few a c o = rw (k .is) (charge-room (pairs i xs ys) a c (omega (arith, pairs-length i xs ys)) o)
 
-    pub summed-next : i < n → n ≤ length xs → n ≤ length ys → (s' : List ℕ) → s' ≡ charge-one s (getD ys i 0) (getD xs i 0) → Summed xs ys s' n (i + 1)
-    summed-next h long wide s' e =
+    pub entries-summed-next : i < n → n ≤ length xs → n ≤ length ys → (s' : List ℕ) → s' ≡ charge-one s (getD ys i 0) (getD xs i 0) → Entries-summed xs ys s' n (i + 1)
+    entries-summed-next h long wide s' e =
         let z : suc i ≡ i + 1 = omega arith in
         record {
           low = omega arith;
@@ -109,8 +109,8 @@ module _ (xs ys : List ℕ) (n : ℕ) where
               ∙ ap (charge no-litres) (sym (pairs-next i xs ys (omega arith) (omega arith)) ∙ ap (λ j. pairs j xs ys) z);
         }
 
-    pub summed-end : n ≤ i → s ≡ totals (pairs n xs ys)
-    summed-end h =
+    pub entries-summed-end : n ≤ i → s ≡ totals (pairs n xs ys)
+    entries-summed-end h =
         let low = k .low in
         let e : i ≡ n = omega arith in
         k .is ∙ ap (λ j. charge no-litres (pairs j xs ys)) e ∙ charge-totals (pairs n xs ys)

@@ -4,10 +4,10 @@ use crate::own::open_own;
 use crate::own::put_own;
 use crate::own::withdraw_own;
 use crate::shown::print_call;
-use desk::Changed;
+use desk::DeskAfter;
 use loading::load;
 use packing::desk_of;
-use packing::of_desked;
+use packing::of_desk_answer;
 use packing::put_desk;
 use text::least;
 use text::put_byte;
@@ -26,10 +26,10 @@ pub(crate) struct Next {
 }
 
 // Stores the desk that a call left, and prints the call's line.
-fn print_changed(changed: Changed, desk: &mut [u8], letters: &[u8], words: &[u64]) {
+fn print_changed(changed: DeskAfter, desk: &mut [u8], letters: &[u8], words: &[u64]) {
     let answer = changed.answer;
     put_desk(changed.desk, desk);
-    print_call(of_desked(answer), desk, letters, words);
+    print_call(of_desk_answer(answer), desk, letters, words);
 }
 
 fn run_open(text: &[u8], line: &[u8], desk: &mut [u8], letters: &[u8], words: &mut [u64]) -> usize {

@@ -1,5 +1,6 @@
 // The line of a call, fields parted by tabs: number and value, the desk's count and lengths, digests of all cells of letters and of all words; behind
 // an accepted call the letters held, and of few the words. Each `put_` function puts its bytes into `out` from `at` on and answers where they end.
+use syntax::Pattern;
 use text::least;
 use text::put_pair;
 use text::put_parted;
@@ -10,9 +11,7 @@ use vector_text::print_line;
 use vector_text::put_digest;
 use vector_text::put_shown;
 
-// The letters held end there, and the words of so many letters are shown.
-const CELLS: usize = 3600;
-
+// The words of so many letters are shown.
 const SHOWN_LETTERS: usize = 4;
 
 const HALF: u64 = 4294967296;
@@ -51,7 +50,7 @@ fn put_words(out: &mut [u8], at: usize, words: &[u64], count: usize) -> usize {
 }
 
 fn put_held(out: &mut [u8], at: usize, letters: &[u8], words: &[u64], held: usize) -> usize {
-    let end = least(CELLS, letters.len());
+    let end = least(Pattern::MAX_LETTERS, letters.len());
     let from = end - least(held, end);
     let a = put_shown(out, at, &letters[from..end], held);
     if SHOWN_LETTERS < held {

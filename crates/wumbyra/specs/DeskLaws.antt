@@ -16,7 +16,7 @@ use Rattle.loading.specs.Load.{load-table, Loads}
 use Rattle.first_sweep.specs.Tail.{tail-words}
 use Rattle.desk.specs.declared.Desk.{Desk}
 use Rattle.desk.specs.declared.DeskRefusal.the-variants.{DeskLimits}
-use Rattle.desk.specs.declared.Desked.{Desked}
+use Rattle.desk.specs.declared.DeskAnswer.{DeskAnswer}
 use Rattle.desk.specs.Desks.{empty-desk, with-page, without-page, desk-refused, desk-answer, Desk-check, open-order, open-answer, if-accepted}
 use Rattle.desk.specs.Desks.{Opens, Puts, Withdraws}
 use Rattle.desk.specs.Numbers.{desk-number-positive}
@@ -58,7 +58,7 @@ module _ (text : List ℕ) (l : Loaded) (g : Loads text l) (desk words : List �
         words-left = sym (ap (λ b. cond b (in-front (tail-words p []) words) words) not-said);
       }
 
-  module _ (h : length desk ≡ desk-bytes) (d : Desk) (f : d ≡ desk-of-bytes desk) (after : Desk) (words-now : List ℕ) (a : Desked)
+  module _ (h : length desk ≡ desk-bytes) (d : Desk) (f : d ≡ desk-of-bytes desk) (after : Desk) (words-now : List ℕ) (a : DeskAnswer)
       (o : Opens (l .pattern) d after words words-now a) (desk-now : List ℕ) (k : desk-now ≡ desk-laid after desk) (e : unpacked r ≡ desk-answer a) where
     pub open-packed : Desk-opens-text text desk desk-now words words-now r
     open-packed =
@@ -70,13 +70,13 @@ module _ (text : List ℕ) (l : Loaded) (g : Loads text l) (desk words : List �
           answers = e ∙ q .answers ∙ same;
           leaves = k ∙ desk-written desk said after empty-desk (q .leaves ∙ ap (λ x. if-accepted x empty-desk (desk-of-bytes desk)) same)
               (λ other. absurd (other h));
-          words-left = q .marks-left ∙ ap (λ x. if-accepted x (in-front (tail-words p []) words) words) same;
+          words-left = q .words-left ∙ ap (λ x. if-accepted x (in-front (tail-words p []) words) words) same;
         }
 
 -- ── putting and withdrawing ──
 module _ (text : List ℕ) (l : Loaded) (g : Loads text l) (desk : List ℕ) (d : Desk) (f : d ≡ desk-of-bytes desk) (letters : List ℕ) where
   pub put-packed :
-      (page letters-now words words-now : List ℕ) (after : Desk) (a : Desked) → Puts (l .pattern) page d after letters letters-now words words-now a
+      (page letters-now words words-now : List ℕ) (after : Desk) (a : DeskAnswer) → Puts (l .pattern) page d after letters letters-now words words-now a
       → (desk-now : List ℕ) → desk-now ≡ desk-laid after desk → (r : ℕ) → unpacked r ≡ desk-answer a
       → Desk-puts-text text desk desk-now page letters letters-now words words-now r
   put-packed page letters-now words words-now after a o desk-now k r e =
@@ -86,7 +86,7 @@ module _ (text : List ℕ) (l : Loaded) (g : Loads text l) (desk : List ℕ) (d 
       let new = with-page (desk-of-bytes desk) (length page) in
       record {
         after = after;
-        desked = a;
+        desk-answered = a;
         answers = e;
         puts = q;
         leaves =
@@ -96,7 +96,7 @@ module _ (text : List ℕ) (l : Loaded) (g : Loads text l) (desk : List ℕ) (d 
       }
 
   pub withdraw-packed :
-      (after : Desk) (a : Desked) → Withdraws (l .pattern) d after letters a → (desk-now : List ℕ) → desk-now ≡ desk-laid after desk
+      (after : Desk) (a : DeskAnswer) → Withdraws (l .pattern) d after letters a → (desk-now : List ℕ) → desk-now ≡ desk-laid after desk
       → (r : ℕ) → unpacked r ≡ desk-answer a → Desk-withdraws-text text desk desk-now letters r
   withdraw-packed after a o desk-now k r e =
       let p = load-table text in
@@ -105,7 +105,7 @@ module _ (text : List ℕ) (l : Loaded) (g : Loads text l) (desk : List ℕ) (d 
       let new = without-page (desk-of-bytes desk) in
       record {
         after = after;
-        desked = a;
+        desk-answered = a;
         answers = e;
         withdraws = q;
         leaves =

@@ -47,7 +47,7 @@ module _ (text desk desk-now page letters letters-now words words-now : List ℕ
   puts-kept said = (
     kept _ _ _ _ (t .leaves) (ap (λ a. eqb (a .number) 0) (t .puts .answers) ∙ said),
     kept _ _ _ _ (t .puts .letters-left) said,
-    kept _ _ _ _ (t .puts .marks-left) said,
+    kept _ _ _ _ (t .puts .words-left) said,
   )
 
   pub puts-refused : 1 ≤ unpacked r .number → (desk-now ≡ desk) × (letters-now ≡ letters) × (words-now ≡ words)

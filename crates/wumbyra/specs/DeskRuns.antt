@@ -14,7 +14,7 @@ use Rattle.bits.specs.Bits.{in-front}
 use Rattle.loading.specs.Load.{load-table}
 use Rattle.first_sweep.specs.Tail.{tail-words}
 use Rattle.desk.specs.declared.DeskRefusal.the-variants.{DeskLimits}
-use Rattle.desk.specs.declared.Desked.{Desked}
+use Rattle.desk.specs.declared.DeskAnswer.{DeskAnswer}
 use Rattle.desk.specs.Desks.{letters-held, empty-desk, desk-refused, desk-answer, Desk-check, open-order}
 use Rattle.desk.specs.Numbers.{desk-number-positive}
 use Rattle.desk.specs.DeskWays.{open-clear}
@@ -47,7 +47,7 @@ pub data Text-run : (desk letters : List ℕ) → List Call → List ℕ → (de
 -- ── they are runs of the services ──
 abbrev Served : Call → (desk now letters letters-now : List ℕ) → (r : ℕ) → Type 0
 Served c desk now letters letters-now r =
-    (a : Desked) × (unpacked r ≡ desk-answer a) × (Does c (desk-of-bytes desk) (desk-of-bytes now) letters letters-now a) × (length now ≡ desk-bytes)
+    (a : DeskAnswer) × (unpacked r ≡ desk-answer a) × (Does c (desk-of-bytes desk) (desk-of-bytes now) letters letters-now a) × (length now ≡ desk-bytes)
 
 served : (c : Call) (desk now letters letters-now : List ℕ) (r : ℕ) → length desk ≡ desk-bytes → Text-does c desk now letters letters-now r
     → Served c desk now letters letters-now r
@@ -56,14 +56,14 @@ served (opening p n) desk now letters letters-now r whole (text, words, words-no
     subst (λ x. Served (opening x n) desk now letters letters-now r) e (s .0, s .1, (words, words-now, w, s .2, k), s .3)
 served (putting p page n) desk now letters letters-now r whole (text, words, words-now, e, w, t) =
     let s = puts-served text desk now r whole letters page letters-now words words-now t in
-    subst (λ x. Served (putting x page n) desk now letters letters-now r) e (t .desked, t .answers, (words, words-now, w, s .0), s .1)
+    subst (λ x. Served (putting x page n) desk now letters letters-now r) e (t .desk-answered, t .answers, (words, words-now, w, s .0), s .1)
 served (withdrawing p) desk now letters letters-now r whole (text, e, t, k) =
     let s = withdraws-served text desk now r whole letters t in
-    subst (λ x. Served (withdrawing x) desk now letters letters-now r) e (t .desked, t .answers, (s .0, k), s .1)
+    subst (λ x. Served (withdrawing x) desk now letters letters-now r) e (t .desk-answered, t .answers, (s .0, k), s .1)
 
 abbrev Run-served : (desk letters : List ℕ) → List Call → List ℕ → (end last : List ℕ) → Type 0
 Run-served desk letters cs rs end last =
-    (told : List Desked) × (map unpacked rs ≡ map desk-answer told) × Run (desk-of-bytes desk) letters cs told (desk-of-bytes end) last
+    (told : List DeskAnswer) × (map unpacked rs ≡ map desk-answer told) × Run (desk-of-bytes desk) letters cs told (desk-of-bytes end) last
 
 run-served : {desk letters end last : List ℕ} {cs : List Call} {rs : List ℕ} → Text-run desk letters cs rs end last → length desk ≡ desk-bytes
     → Run-served desk letters cs rs end last

@@ -29,7 +29,7 @@ use Rattle.reach.specs.Locate.{located-answer, Locates}
 use Rattle.first_sweep.specs.Tail.{tail-words}
 use Rattle.desk.specs.declared.Desk.{Desk}
 use Rattle.desk.specs.declared.DeskRefusal.the-variants.{DeskLimits}
-use Rattle.desk.specs.declared.Desked.{Desked}
+use Rattle.desk.specs.declared.DeskAnswer.{DeskAnswer}
 use Rattle.desk.specs.Desks.{empty-desk, desk-refused, desk-answer, open-order, if-accepted, Puts, Withdraws}
 
 -- the version 1.7.0 as one number: major × 10000 + minor × 100 + patch
@@ -100,15 +100,15 @@ pub record Desk-opens-text (text desk desk-now words words-now : List ℕ) (r : 
 -- another length than 31 is taken for a desk that breaks the limits.
 pub record Desk-puts-text (text desk desk-now page letters letters-now words words-now : List ℕ) (r : ℕ) : Type 0 where
   pub after : Desk
-  pub desked : Desked
-  pub answers : unpacked r ≡ desk-answer desked
-  pub puts : Puts (load-table text) page (desk-of-bytes desk) after letters letters-now words words-now desked
-  pub leaves : desk-now ≡ if-accepted (desk-answer desked) (bytes-of-desk after) desk
+  pub desk-answered : DeskAnswer
+  pub answers : unpacked r ≡ desk-answer desk-answered
+  pub puts : Puts (load-table text) page (desk-of-bytes desk) after letters letters-now words words-now desk-answered
+  pub leaves : desk-now ≡ if-accepted (desk-answer desk-answered) (bytes-of-desk after) desk
 
 -- THE PROMISE of withdrawing a page from C: the same
 pub record Desk-withdraws-text (text desk desk-now letters : List ℕ) (r : ℕ) : Type 0 where
   pub after : Desk
-  pub desked : Desked
-  pub answers : unpacked r ≡ desk-answer desked
-  pub withdraws : Withdraws (load-table text) (desk-of-bytes desk) after letters desked
-  pub leaves : desk-now ≡ if-accepted (desk-answer desked) (bytes-of-desk after) desk
+  pub desk-answered : DeskAnswer
+  pub answers : unpacked r ≡ desk-answer desk-answered
+  pub withdraws : Withdraws (load-table text) (desk-of-bytes desk) after letters desk-answered
+  pub leaves : desk-now ≡ if-accepted (desk-answer desk-answered) (bytes-of-desk after) desk

@@ -72,7 +72,7 @@ module _ (text : List ℕ) where
   pub desk-puts-text-one : (desk a b page letters ks ls words ms ns : List ℕ) (r s : ℕ) → Desk-puts-text text desk a page letters ks words ms r
       → Desk-puts-text text desk b page letters ls words ns s → (r ≡ s) × (a ≡ b) × (ks ≡ ls) × (ms ≡ ns)
   desk-puts-text-one desk a b page letters ks ls words ms ns r s f g =
-      let e = puts-one (load-table text) (desk-of-bytes desk) page (f .after) (g .after) letters ks ls words ms ns (f .desked) (g .desked)
+      let e = puts-one (load-table text) (desk-of-bytes desk) page (f .after) (g .after) letters ks ls words ms ns (f .desk-answered) (g .desk-answered)
       (f .puts) (g .puts) in (
         unpacked-same r s (f .answers ∙ ap desk-answer (e .0) ∙ sym (g .answers)),
         f .leaves ∙ ap₂ (λ x d. if-accepted (desk-answer x) (bytes-of-desk d) desk) (e .0) (e .1) ∙ sym (g .leaves),
@@ -83,7 +83,7 @@ module _ (text : List ℕ) where
   pub desk-withdraws-text-one : (desk a b letters : List ℕ) (r s : ℕ) → Desk-withdraws-text text desk a letters r
       → Desk-withdraws-text text desk b letters s → (r ≡ s) × (a ≡ b)
   desk-withdraws-text-one desk a b letters r s f g =
-      let e = withdraws-one (load-table text) (desk-of-bytes desk) (f .after) (g .after) letters (f .desked) (g .desked) (f .withdraws) (g .withdraws) in (
+      let e = withdraws-one (load-table text) (desk-of-bytes desk) (f .after) (g .after) letters (f .desk-answered) (g .desk-answered) (f .withdraws) (g .withdraws) in (
         unpacked-same r s (f .answers ∙ ap desk-answer (e .0) ∙ sym (g .answers)),
         f .leaves ∙ ap₂ (λ x d. if-accepted (desk-answer x) (bytes-of-desk d) desk) (e .0) (e .1) ∙ sym (g .leaves),
       )

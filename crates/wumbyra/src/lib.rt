@@ -21,7 +21,7 @@ use packing::desk_of;
 use packing::give_totals;
 use packing::litres_of;
 use packing::of_canonicalized;
-use packing::of_desked;
+use packing::of_desk_answer;
 use packing::of_flattened;
 use packing::of_located;
 use packing::of_other_length;
@@ -200,7 +200,7 @@ pub extern "C" fn wumbyra_desk_open(text: &[u8], desk: &mut [u8], words: &mut [u
     let changed = open_desk(held, loaded.pattern, words);
     let answer = changed.answer;
     put_desk(changed.desk, desk);
-    of_desked(answer)
+    of_desk_answer(answer)
 }
 
 #[no_mangle]
@@ -220,7 +220,7 @@ pub extern "C" fn wumbyra_desk_put(
     let changed = put_page(held, loaded.pattern, page, letters, words);
     let answer = changed.answer;
     put_desk(changed.desk, desk);
-    of_desked(answer)
+    of_desk_answer(answer)
 }
 
 #[no_mangle]
@@ -232,5 +232,5 @@ pub extern "C" fn wumbyra_desk_withdraw(text: &[u8], desk: &mut [u8], letters: &
     let changed = withdraw_page(held, loaded.pattern, letters);
     let answer = changed.answer;
     put_desk(changed.desk, desk);
-    of_desked(answer)
+    of_desk_answer(answer)
 }

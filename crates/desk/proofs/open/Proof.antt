@@ -49,13 +49,13 @@ use Rattle.syntax.proofs.Pattern as P
 use Rattle.syntax.proofs.Pattern.Laws as P′
 use Rattle.desk.specs.Desks.{Opens}
 use Rattle.desk.specs.declared.Desk.{Desk}
-use Rattle.desk.specs.declared.Changed.{Changed}
+use Rattle.desk.specs.declared.DeskAfter.{DeskAfter}
 use Rattle.desk.proofs.Desk as D
 use Rattle.desk.proofs.Desk.Laws as D′
-use Rattle.desk.proofs.Desked as R
-use Rattle.desk.proofs.Desked.Laws as R′
-use Rattle.desk.proofs.Changed as K
-use Rattle.desk.proofs.Changed.Laws as K′
+use Rattle.desk.proofs.DeskAnswer as R
+use Rattle.desk.proofs.DeskAnswer.Laws as R′
+use Rattle.desk.proofs.DeskAfter as K
+use Rattle.desk.proofs.DeskAfter.Laws as K′
 use Rattle.desk.proofs.calls.open_desk as callee
 use Rattle.desk.proofs.calls.open_desk.Symbol as callee-def
 use Rattle.desk.proofs.calls.open_desk.Symbol.{name as #desk·calls·open-desk}
@@ -113,13 +113,13 @@ module _ {M : Type 1} (𝓤 : URA M) (H : Heap 𝓤) (A : Atoms 𝓤) (W : Given
       move ! (1 ∷ 2 ∷ []) $ fjoin ! $ move ! (1 ∷ 0 ∷ []) $ join ! $ frame ! $ done !
 
   -- what is known of the result's fields
-  fields : (r : Changed) (w : Val) → Is K.the-row r (w ∷ []) → Is D.the-row (r .desk) (dm (r .desk) ∷ [])
+  fields : (r : DeskAfter) (w : Val) → Is K.the-row r (w ∷ []) → Is D.the-row (r .desk) (dm (r .desk) ∷ [])
   fields r w is = LL.owed K.the-type K′.the-laws r (w ∷ []) is .0
 
-  answered : (r : Changed) (w : Val) → Is K.the-row r (w ∷ []) → Is R.the-row (r .answer) (EL.vals R.the-type R′.the-laws (r .answer))
+  answered : (r : DeskAfter) (w : Val) → Is K.the-row r (w ∷ []) → Is R.the-row (r .answer) (EL.vals R.the-type R′.the-laws (r .answer))
   answered r w is = LL.owed K.the-type K′.the-laws r (w ∷ []) is .1 .0
 
-  exits : Is P.the-row p (pm ∷ []) → (r : Changed) (zs : List ℕ) → Is R.the-row (r .answer) (EL.vals R.the-type R′.the-laws (r .answer))
+  exits : Is P.the-row p (pm ∷ []) → (r : DeskAfter) (zs : List ℕ) → Is R.the-row (r .answer) (EL.vals R.the-type R′.the-laws (r .answer))
       → Opens p h (r .desk) ys zs (r .answer) → length zs ≡ length ys
       → ent 𝓤 (⋆ 𝓤 H A (‵ (fobs γ (D.the-row .coded .code (r .desk))) ∷ ‵ (fbor κ (Body (mem D.the-row) b o γ)) ∷ ‵ (flft κ q)
       ∷ (‵ (flft κ′ q′) ⊛ ‵ ftrue) ∷ ‵ (finally u64 γ′ zs) ∷ [])) (Post (EL.val R.the-type R′.the-laws (r .answer)))
@@ -159,7 +159,7 @@ module _ {M : Type 1} (𝓤 : URA M) (H : Heap 𝓤) (A : Atoms 𝓤) (W : Given
         -- [what the callee asks; the desk's cell; the open borrow; obs; auth; _7; …; _0; …]
         calls-at ! fm (Callee 𝓤 H A at-mem run) known to-callee (and-then ! (load ! (from ! (stop !)) (look ! 9 refl))
         (and-then ! (load ! (from ! (stop !)) (look ! 15 refl)) (and-then ! (load ! (from ! (stop !)) (look ! 5 refl)) (no-more !)))) (λ w.
-        use1 W (later (some (λ (r : Changed). ((‵ (flft κ′ q′) ⊛ ‵ ftrue) ⊛ ‵ (K.the-row .own r (w ∷ [])))
+        use1 W (later (some (λ (r : DeskAfter). ((‵ (flft κ′ q′) ⊛ ‵ ftrue) ⊛ ‵ (K.the-row .own r (w ∷ [])))
         ⊛ raw (ensured 𝓤 H A callee.ended (callee.clauses 𝓤 H A at-mem run) (κ′, tt) (h, (p, (x, tt))) tt r)))) (id⊢ 𝓤 _) $ await ! tt $ pick ! (λ r.
         -- what it ensures, at some last words
         split ! $ move ! (1 ∷ []) $ use1 W (some (λ (zs : Unit {0} × (Unit {0} × (List ℕ × Unit {0}))). ‵ (lasts callee.ended (κ′, tt) (h, (p, (x, tt))) zs)

@@ -50,13 +50,13 @@ use Rattle.syntax.proofs.Pattern as P
 use Rattle.syntax.proofs.Pattern.Laws as P′
 use Rattle.desk.specs.Desks.{Puts}
 use Rattle.desk.specs.declared.Desk.{Desk}
-use Rattle.desk.specs.declared.Changed.{Changed}
+use Rattle.desk.specs.declared.DeskAfter.{DeskAfter}
 use Rattle.desk.proofs.Desk as D
 use Rattle.desk.proofs.Desk.Laws as D′
-use Rattle.desk.proofs.Desked as R
-use Rattle.desk.proofs.Desked.Laws as R′
-use Rattle.desk.proofs.Changed as K
-use Rattle.desk.proofs.Changed.Laws as K′
+use Rattle.desk.proofs.DeskAnswer as R
+use Rattle.desk.proofs.DeskAnswer.Laws as R′
+use Rattle.desk.proofs.DeskAfter as K
+use Rattle.desk.proofs.DeskAfter.Laws as K′
 use Rattle.desk.proofs.calls.put_page as callee
 use Rattle.desk.proofs.calls.put_page.Symbol as callee-def
 use Rattle.desk.proofs.calls.put_page.Symbol.{name as #desk·calls·put-page}
@@ -137,13 +137,13 @@ module _ {M : Type 1} (𝓤 : URA M) (H : Heap 𝓤) (A : Atoms 𝓤) (W : Given
       move ! (1 ∷ 2 ∷ []) $ fjoin ! $ move ! (1 ∷ 0 ∷ []) $ join ! $ frame ! $ done !
 
   -- what is known of the result's fields
-  fields : (r : Changed) (w : Val) → Is K.the-row r (w ∷ []) → Is D.the-row (r .desk) (dm (r .desk) ∷ [])
+  fields : (r : DeskAfter) (w : Val) → Is K.the-row r (w ∷ []) → Is D.the-row (r .desk) (dm (r .desk) ∷ [])
   fields r w is = LL.owed K.the-type K′.the-laws r (w ∷ []) is .0
 
-  answered : (r : Changed) (w : Val) → Is K.the-row r (w ∷ []) → Is R.the-row (r .answer) (EL.vals R.the-type R′.the-laws (r .answer))
+  answered : (r : DeskAfter) (w : Val) → Is K.the-row r (w ∷ []) → Is R.the-row (r .answer) (EL.vals R.the-type R′.the-laws (r .answer))
   answered r w is = LL.owed K.the-type K′.the-laws r (w ∷ []) is .1 .0
 
-  exits : Is P.the-row p (pm ∷ []) → (r : Changed) (ls′ ms′ : List ℕ) → Is R.the-row (r .answer) (EL.vals R.the-type R′.the-laws (r .answer))
+  exits : Is P.the-row p (pm ∷ []) → (r : DeskAfter) (ls′ ms′ : List ℕ) → Is R.the-row (r .answer) (EL.vals R.the-type R′.the-laws (r .answer))
       → Puts p zs h (r .desk) ls ls′ ms ms′ (r .answer) → length ls′ ≡ length ls → length ms′ ≡ length ms
       → ent 𝓤 (⋆ 𝓤 H A (‵ (fobs γ (D.the-row .coded .code (r .desk))) ∷ ‵ (fbor κ (Body (mem D.the-row) b o γ)) ∷ ‵ (flft κ q)
       ∷ (‵ (flft κ₁ q₁) ⊛ ‵ (flft κ₂ q₂) ⊛ ‵ (flft κ₃ q₃) ⊛ ‵ ftrue) ∷ ‵ Own ∷ ‵ (finally u8 γ₂ ls′) ∷ ‵ (finally u64 γ₃ ms′) ∷ []))
@@ -197,7 +197,7 @@ module _ {M : Type 1} (𝓤 : URA M) (H : Heap 𝓤) (A : Atoms 𝓤) (W : Given
         calls-at ! fm (Callee 𝓤 H A at-mem run) known to-callee (and-then ! (load ! (from ! (stop !)) (look ! 14 refl))
         (and-then ! (load ! (from ! (stop !)) (look ! 24 refl)) (and-then ! (load ! (from ! (stop !)) (look ! 22 refl))
         (and-then ! (load ! (from ! (stop !)) (look ! 10 refl)) (and-then ! (load ! (from ! (stop !)) (look ! 6 refl)) (no-more !)))))) (λ w.
-        use1 W (later (some (λ (r : Changed). ((‵ (flft κ₁ q₁) ⊛ ‵ (flft κ₂ q₂) ⊛ ‵ (flft κ₃ q₃) ⊛ ‵ ftrue) ⊛ ‵ (K.the-row .own r (w ∷ [])))
+        use1 W (later (some (λ (r : DeskAfter). ((‵ (flft κ₁ q₁) ⊛ ‵ (flft κ₂ q₂) ⊛ ‵ (flft κ₃ q₃) ⊛ ‵ ftrue) ⊛ ‵ (K.the-row .own r (w ∷ [])))
         ⊛ raw (ensured 𝓤 H A callee.ended (callee.clauses 𝓤 H A at-mem run) (κ₁, (κ₂, (κ₃, tt))) (h, (p, (page, (letters, (words, tt))))) tt r)))) (id⊢ 𝓤 _) $ await ! tt $ pick ! (λ r.
         -- what it ensures, at some last letters and words
         split ! $ move ! (1 ∷ []) $

@@ -49,13 +49,13 @@ use Rattle.syntax.proofs.Pattern as P
 use Rattle.syntax.proofs.Pattern.Laws as P′
 use Rattle.desk.specs.Desks.{Withdraws}
 use Rattle.desk.specs.declared.Desk.{Desk}
-use Rattle.desk.specs.declared.Changed.{Changed}
+use Rattle.desk.specs.declared.DeskAfter.{DeskAfter}
 use Rattle.desk.proofs.Desk as D
 use Rattle.desk.proofs.Desk.Laws as D′
-use Rattle.desk.proofs.Desked as R
-use Rattle.desk.proofs.Desked.Laws as R′
-use Rattle.desk.proofs.Changed as K
-use Rattle.desk.proofs.Changed.Laws as K′
+use Rattle.desk.proofs.DeskAnswer as R
+use Rattle.desk.proofs.DeskAnswer.Laws as R′
+use Rattle.desk.proofs.DeskAfter as K
+use Rattle.desk.proofs.DeskAfter.Laws as K′
 use Rattle.desk.proofs.calls.withdraw_page as callee
 use Rattle.desk.proofs.calls.withdraw_page.Symbol as callee-def
 use Rattle.desk.proofs.calls.withdraw_page.Symbol.{name as #desk·calls·withdraw-page}
@@ -116,19 +116,19 @@ module _ {M : Type 1} (𝓤 : URA M) (H : Heap 𝓤) (A : Atoms 𝓤) (W : Given
       move ! (1 ∷ 2 ∷ []) $ fjoin ! $ move ! (1 ∷ 0 ∷ []) $ join ! $ frame ! $ done !
 
   -- of what the callee ensures, the clause alone: it has no `&mut`
-  ensures-of : (r : Changed) → ent 𝓤 (ensured 𝓤 H A callee.ended (callee.clauses 𝓤 H A at-mem run) (κ′, tt) (h, (p, (x, tt))) tt r)
+  ensures-of : (r : DeskAfter) → ent 𝓤 (ensured 𝓤 H A callee.ended (callee.clauses 𝓤 H A at-mem run) (κ′, tt) (h, (p, (x, tt))) tt r)
       (fact 𝓤 (Withdraws p h (r .desk) ys (r .answer)))
   ensures-of r =
       exE 𝓤 _ (λ ws. snd∗ 𝓤 (sem 𝓤 H A (lasts callee.ended (κ′, tt) (h, (p, (x, tt))) ws)) (fact 𝓤 (Withdraws p h (r .desk) ys (r .answer))))
 
   -- what is known of the result's fields
-  fields : (r : Changed) (w : Val) → Is K.the-row r (w ∷ []) → Is D.the-row (r .desk) (dm (r .desk) ∷ [])
+  fields : (r : DeskAfter) (w : Val) → Is K.the-row r (w ∷ []) → Is D.the-row (r .desk) (dm (r .desk) ∷ [])
   fields r w is = LL.owed K.the-type K′.the-laws r (w ∷ []) is .0
 
-  answered : (r : Changed) (w : Val) → Is K.the-row r (w ∷ []) → Is R.the-row (r .answer) (EL.vals R.the-type R′.the-laws (r .answer))
+  answered : (r : DeskAfter) (w : Val) → Is K.the-row r (w ∷ []) → Is R.the-row (r .answer) (EL.vals R.the-type R′.the-laws (r .answer))
   answered r w is = LL.owed K.the-type K′.the-laws r (w ∷ []) is .1 .0
 
-  exits : Is P.the-row p (pm ∷ []) → (r : Changed) → Is R.the-row (r .answer) (EL.vals R.the-type R′.the-laws (r .answer))
+  exits : Is P.the-row p (pm ∷ []) → (r : DeskAfter) → Is R.the-row (r .answer) (EL.vals R.the-type R′.the-laws (r .answer))
       → Withdraws p h (r .desk) ys (r .answer)
       → ent 𝓤 (⋆ 𝓤 H A (‵ (fobs γ (D.the-row .coded .code (r .desk))) ∷ ‵ (fbor κ (Body (mem D.the-row) b o γ)) ∷ ‵ (flft κ q)
       ∷ (‵ (flft κ′ q′) ⊛ ‵ ftrue) ∷ ‵ Own ∷ [])) (Post (EL.val R.the-type R′.the-laws (r .answer)))
@@ -167,7 +167,7 @@ module _ {M : Type 1} (𝓤 : URA M) (H : Heap 𝓤) (A : Atoms 𝓤) (W : Given
         -- [what the callee asks; what the letters own; the desk's cell; the open borrow; obs; auth; _5; …; _0; …]
         calls-at ! fm (Callee 𝓤 H A at-mem run) known to-callee (and-then ! (load ! (from ! (stop !)) (look ! 6 refl))
         (and-then ! (load ! (from ! (stop !)) (look ! 12 refl)) (and-then ! (load ! (from ! (stop !)) (look ! 10 refl)) (no-more !)))) (λ w.
-        use1 W (later (some (λ (r : Changed). ((‵ (flft κ′ q′) ⊛ ‵ ftrue) ⊛ ‵ (K.the-row .own r (w ∷ [])))
+        use1 W (later (some (λ (r : DeskAfter). ((‵ (flft κ′ q′) ⊛ ‵ ftrue) ⊛ ‵ (K.the-row .own r (w ∷ [])))
         ⊛ raw (ensured 𝓤 H A callee.ended (callee.clauses 𝓤 H A at-mem run) (κ′, tt) (h, (p, (x, tt))) tt r)))) (id⊢ 𝓤 _) $ await ! tt $ pick ! (λ r.
         split ! $ move ! (1 ∷ []) $ use1 W (raw (fact 𝓤 (Withdraws p h (r .desk) ys (r .answer)))) (ensures-of r) $
         heard ! (Withdraws p h (r .desk) ys (r .answer)) (λ e.

@@ -26,8 +26,8 @@ open-desk-requires c κs = search needs
 put-desk-requires : tie.Need-put-desk-requires
 put-desk-requires c κs = search needs
 
-of-desked-requires : tie.Need-of-desked-requires
-of-desked-requires c κs = search needs
+of-desk-answer-requires : tie.Need-of-desk-answer-requires
+of-desk-answer-requires c κs = search needs
 
 same-length : tie.Need-same-length
 same-length c = search needs
@@ -42,7 +42,7 @@ returns-2 c =
     let at-desk-of = at-open-desk .before .before in
     let at-if1 = at-desk-of .before .before in
     open-packed _ _ (at-if1 .before .load .ensures) _ _ _ (at-if1 .if1 .left) _ (at-desk-of .desk-of .ensures) _ _ _ (at-open-desk .open-desk .ensures)
-    _ (at-put-desk .put-desk .ensures) (c .of-desked .ensures)
+    _ (at-put-desk .put-desk .ensures) (c .of-desk-answer .ensures)
 
 pub wumbyra-desk-open-spec : {M : Type 1} → statement M
 wumbyra-desk-open-spec =
@@ -54,7 +54,7 @@ wumbyra-desk-open-spec =
     desk-of-requires
     open-desk-requires
     put-desk-requires
-    of-desked-requires
+    of-desk-answer-requires
     same-length
     same-length-2
     returns-2)

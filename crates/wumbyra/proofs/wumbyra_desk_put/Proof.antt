@@ -16,8 +16,8 @@ put-page-requires c κs = search needs
 put-desk-requires : tie.Need-put-desk-requires
 put-desk-requires c κs = search needs
 
-of-desked-requires : tie.Need-of-desked-requires
-of-desked-requires c κs = search needs
+of-desk-answer-requires : tie.Need-of-desk-answer-requires
+of-desk-answer-requires c κs = search needs
 
 same-length : tie.Need-same-length
 same-length c = search needs
@@ -34,7 +34,7 @@ returns c =
     let at-put-page = at-put-desk .before .before .before .before .before .before in
     let at-desk-of = at-put-page .before .before .before in
     put-packed _ _ (at-desk-of .before .before .load .ensures) _ _ (at-desk-of .desk-of .ensures) _ _ _ _ _ _ _ (at-put-page .put-page .ensures)
-    _ (at-put-desk .put-desk .ensures) _ (c .of-desked .ensures)
+    _ (at-put-desk .put-desk .ensures) _ (c .of-desk-answer .ensures)
 
 pub wumbyra-desk-put-spec : {M : Type 1} → statement M
 wumbyra-desk-put-spec =
@@ -44,7 +44,7 @@ wumbyra-desk-put-spec =
     desk-of-requires
     put-page-requires
     put-desk-requires
-    of-desked-requires
+    of-desk-answer-requires
     same-length
     same-length-2
     same-length-3

@@ -16,8 +16,8 @@ withdraw-page-requires c κs = search needs
 put-desk-requires : tie.Need-put-desk-requires
 put-desk-requires c κs = search needs
 
-of-desked-requires : tie.Need-of-desked-requires
-of-desked-requires c κs = search needs
+of-desk-answer-requires : tie.Need-of-desk-answer-requires
+of-desk-answer-requires c κs = search needs
 
 same-length : tie.Need-same-length
 same-length c = search needs
@@ -28,7 +28,7 @@ returns c =
     let at-withdraw-page = at-put-desk .before .before in
     let at-desk-of = at-withdraw-page .before in
     withdraw-packed _ _ (at-desk-of .before .before .load .ensures) _ _ (at-desk-of .desk-of .ensures) _ _ _ (at-withdraw-page .withdraw-page .ensures)
-    _ (at-put-desk .put-desk .ensures) _ (c .of-desked .ensures)
+    _ (at-put-desk .put-desk .ensures) _ (c .of-desk-answer .ensures)
 
 pub wumbyra-desk-withdraw-spec : {M : Type 1} → statement M
 wumbyra-desk-withdraw-spec =
@@ -38,6 +38,6 @@ wumbyra-desk-withdraw-spec =
     desk-of-requires
     withdraw-page-requires
     put-desk-requires
-    of-desked-requires
+    of-desk-answer-requires
     same-length
     returns)

@@ -49,14 +49,14 @@ use Rattle.syntax.proofs.Pattern as P
 use Rattle.syntax.proofs.Pattern.Laws as P′
 use Rattle.desk.specs.Desks.{Opens}
 use Rattle.desk.specs.declared.Desk.{Desk}
-use Rattle.desk.specs.declared.Desked.{Desked}
-use Rattle.desk.specs.declared.Changed.{Changed}
+use Rattle.desk.specs.declared.DeskAnswer.{DeskAnswer}
+use Rattle.desk.specs.declared.DeskAfter.{DeskAfter}
 use Rattle.desk.proofs.Desk as D
 use Rattle.desk.proofs.Desk.Laws as D′
-use Rattle.desk.proofs.Desked as R
-use Rattle.desk.proofs.Desked.Laws as R′
-use Rattle.desk.proofs.Changed as K
-use Rattle.desk.proofs.Changed.Laws as K′
+use Rattle.desk.proofs.DeskAnswer as R
+use Rattle.desk.proofs.DeskAnswer.Laws as R′
+use Rattle.desk.proofs.DeskAfter as K
+use Rattle.desk.proofs.DeskAfter.Laws as K′
 use Rattle.desk.proofs.open as callee
 use Rattle.desk.proofs.open.Symbol as callee-def
 use Rattle.desk.proofs.open.Symbol.{name as #desk·open}
@@ -120,13 +120,13 @@ module _ {M : Type 1} (𝓤 : URA M) (H : Heap 𝓤) (A : Atoms 𝓤) (W : Given
   desk-is : (d : Desk) (v : Val) → Is D.the-row d (v ∷ []) → Is D.the-row d (dm d ∷ [])
   desk-is d v is = subst (λ (vs : List Val). Is D.the-row d vs) (LL.tells D.the-type D′.the-laws d _ is) is
 
-  made : (d : Desk) (r : Desked) (v w : Val) → Is D.the-row d (v ∷ []) → Is R.the-row r (w ∷ [])
+  made : (d : Desk) (r : DeskAnswer) (v w : Val) → Is D.the-row d (v ∷ []) → Is R.the-row r (w ∷ [])
       → Is K.the-row (record { desk = d; answer = r }) (LL.vals K.the-type K′.the-laws (record { desk = d; answer = r }))
   made d r v w isd isr =
       LL.owes K.the-type K′.the-laws (record { desk = d; answer = r })
       (desk-is d v isd, (subst (λ (vs : List Val). Is R.the-row r vs) (EL.tells R.the-type R′.the-laws r _ isr) isr, tt))
 
-  exits : Is D.the-row h (dm h ∷ []) → Is P.the-row p (pm ∷ []) → (k : Changed) (zs : List ℕ) → Is K.the-row k (LL.vals K.the-type K′.the-laws k)
+  exits : Is D.the-row h (dm h ∷ []) → Is P.the-row p (pm ∷ []) → (k : DeskAfter) (zs : List ℕ) → Is K.the-row k (LL.vals K.the-type K′.the-laws k)
       → Opens p h (k .desk) ys zs (k .answer) → length zs ≡ length ys
       → ent 𝓤 (⋆ 𝓤 H A ((‵ (flft κ q) ⊛ ‵ ftrue) ∷ ‵ (finally u64 γ zs) ∷ [])) (Post (LL.val K.the-type K′.the-laws k))
   exits isd isp k zs isk e l =
@@ -166,7 +166,7 @@ module _ {M : Type 1} (𝓤 : URA M) (H : Heap 𝓤) (A : Atoms 𝓤) (W : Given
         -- [what the callee asks; the lender's part; _9; …; _5; …; the end of _4; _3; …; _0; …]
         calls-at ! fm (Callee 𝓤 H A at-mem run) known (to-callee α l₄ δ) (and-then ! (load ! (from ! (stop !)) (look ! 8 refl))
         (and-then ! (load ! (from ! (stop !)) (look ! 15 refl)) (and-then ! (load ! (from ! (stop !)) (look ! 4 refl)) (no-more !)))) (λ w.
-        use1 W (later (some (λ (r : Desked). ((‵ (flft (α ∷ []) fullShare) ⊛ ‵ (flft κ q) ⊛ ‵ ftrue) ⊛ ‵ (R.the-row .own r (w ∷ [])))
+        use1 W (later (some (λ (r : DeskAnswer). ((‵ (flft (α ∷ []) fullShare) ⊛ ‵ (flft κ q) ⊛ ‵ ftrue) ⊛ ‵ (R.the-row .own r (w ∷ [])))
         ⊛ raw (ensured 𝓤 H A callee.ended (callee.clauses 𝓤 H A at-mem run) (α ∷ [], (κ, tt)) (lent l₄ δ, (p, (x, tt))) tt r)))) (id⊢ 𝓤 _) $ await ! tt $ pick ! (λ r.
         split ! $ move ! (1 ∷ []) $
         use1 W (some (λ (last : Desk × (Unit {0} × (List ℕ × Unit {0}))). ‵ (lasts callee.ended (α ∷ [], (κ, tt)) (lent l₄ δ, (p, (x, tt))) last)

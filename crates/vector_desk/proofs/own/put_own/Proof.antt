@@ -50,14 +50,14 @@ use Rattle.syntax.proofs.Pattern as P
 use Rattle.syntax.proofs.Pattern.Laws as P′
 use Rattle.desk.specs.Desks.{Puts}
 use Rattle.desk.specs.declared.Desk.{Desk}
-use Rattle.desk.specs.declared.Desked.{Desked}
-use Rattle.desk.specs.declared.Changed.{Changed}
+use Rattle.desk.specs.declared.DeskAnswer.{DeskAnswer}
+use Rattle.desk.specs.declared.DeskAfter.{DeskAfter}
 use Rattle.desk.proofs.Desk as D
 use Rattle.desk.proofs.Desk.Laws as D′
-use Rattle.desk.proofs.Desked as R
-use Rattle.desk.proofs.Desked.Laws as R′
-use Rattle.desk.proofs.Changed as K
-use Rattle.desk.proofs.Changed.Laws as K′
+use Rattle.desk.proofs.DeskAnswer as R
+use Rattle.desk.proofs.DeskAnswer.Laws as R′
+use Rattle.desk.proofs.DeskAfter as K
+use Rattle.desk.proofs.DeskAfter.Laws as K′
 use Rattle.desk.proofs.put as callee
 use Rattle.desk.proofs.put.Symbol as callee-def
 use Rattle.desk.proofs.put.Symbol.{name as #desk·put}
@@ -147,13 +147,13 @@ module _ {M : Type 1} (𝓤 : URA M) (H : Heap 𝓤) (A : Atoms 𝓤) (W : Given
   desk-is : (d : Desk) (v : Val) → Is D.the-row d (v ∷ []) → Is D.the-row d (dm d ∷ [])
   desk-is d v is = subst (λ (vs : List Val). Is D.the-row d vs) (LL.tells D.the-type D′.the-laws d _ is) is
 
-  made : (d : Desk) (r : Desked) (v w : Val) → Is D.the-row d (v ∷ []) → Is R.the-row r (w ∷ [])
+  made : (d : Desk) (r : DeskAnswer) (v w : Val) → Is D.the-row d (v ∷ []) → Is R.the-row r (w ∷ [])
       → Is K.the-row (record { desk = d; answer = r }) (LL.vals K.the-type K′.the-laws (record { desk = d; answer = r }))
   made d r v w isd isr =
       LL.owes K.the-type K′.the-laws (record { desk = d; answer = r })
       (desk-is d v isd, (subst (λ (vs : List Val). Is R.the-row r vs) (EL.tells R.the-type R′.the-laws r _ isr) isr, tt))
 
-  exits : Is D.the-row h (dm h ∷ []) → Is P.the-row p (pm ∷ []) → (k : Changed) (ls′ ms′ : List ℕ) → Is K.the-row k (LL.vals K.the-type K′.the-laws k)
+  exits : Is D.the-row h (dm h ∷ []) → Is P.the-row p (pm ∷ []) → (k : DeskAfter) (ls′ ms′ : List ℕ) → Is K.the-row k (LL.vals K.the-type K′.the-laws k)
       → Puts p zs h (k .desk) ls ls′ ms ms′ (k .answer) → length ls′ ≡ length ls → length ms′ ≡ length ms
       → ent 𝓤 (⋆ 𝓤 H A ((‵ (flft κ₁ q₁) ⊛ ‵ (flft κ₂ q₂) ⊛ ‵ (flft κ₃ q₃) ⊛ ‵ ftrue) ∷ ‵ Own ∷ ‵ (finally u8 γ₂ ls′) ∷ ‵ (finally u64 γ₃ ms′) ∷ []))
       (Post (LL.val K.the-type K′.the-laws k))
@@ -204,7 +204,7 @@ module _ {M : Type 1} (𝓤 : URA M) (H : Heap 𝓤) (A : Atoms 𝓤) (W : Given
         calls-at ! fm (Callee 𝓤 H A at-mem run) known (to-callee α l₆ δ) (and-then ! (load ! (from ! (stop !)) (look ! 13 refl))
         (and-then ! (load ! (from ! (stop !)) (look ! 24 refl)) (and-then ! (load ! (from ! (stop !)) (look ! 22 refl))
         (and-then ! (load ! (from ! (stop !)) (look ! 9 refl)) (and-then ! (load ! (from ! (stop !)) (look ! 5 refl)) (no-more !)))))) (λ w.
-        use1 W (later (some (λ (r : Desked). ((‵ (flft (α ∷ []) fullShare) ⊛ ‵ (flft κ₁ q₁) ⊛ ‵ (flft κ₂ q₂) ⊛ ‵ (flft κ₃ q₃) ⊛ ‵ ftrue) ⊛ ‵ (R.the-row .own r (w ∷ [])))
+        use1 W (later (some (λ (r : DeskAnswer). ((‵ (flft (α ∷ []) fullShare) ⊛ ‵ (flft κ₁ q₁) ⊛ ‵ (flft κ₂ q₂) ⊛ ‵ (flft κ₃ q₃) ⊛ ‵ ftrue) ⊛ ‵ (R.the-row .own r (w ∷ [])))
         ⊛ raw (ensured 𝓤 H A callee.ended (callee.clauses 𝓤 H A at-mem run) (α ∷ [], (κ₁, (κ₂, (κ₃, tt)))) (handed l₆ δ) tt r)))) (id⊢ 𝓤 _) $ await ! tt $ pick ! (λ r.
         split ! $ move ! (1 ∷ []) $
         use1 W (some (λ (last : Desk × (Unit {0} × (Unit {0} × (List ℕ × (List ℕ × Unit {0}))))). ‵ (lasts callee.ended (α ∷ [], (κ₁, (κ₂, (κ₃, tt)))) (handed l₆ δ) last)
