@@ -58,12 +58,6 @@ module _ (p : Pattern) (d : Desk) (words : List ℕ) where
         words-left = kept order 0 why (in-front (tail-words p []) words) words f;
       }
 
-  pub open-2 : obeys p ≡ false → First (Base (Tree-fault 0)) (open-order p (length words))
-  open-2 e = here (ap not e)
-
-  pub open-6 : obeys p ≡ true → length words < 2 → First (Base (WordsTooShort 2)) (open-order p (length words))
-  open-6 e h = past (ap not e) (here (lt-ltb (length words) 2 h))
-
   pub open-clear : Clear (open-order p (length words)) → (now : List ℕ) → now ≡ in-front (tail-words p []) words → Opens p d empty-desk words now (Letters 0)
   unfolding open-answer
   open-clear c now k =
@@ -73,10 +67,6 @@ module _ (p : Pattern) (d : Desk) (words : List ℕ) where
         leaves = taken order 0 empty-desk d c;
         words-left = k ∙ taken order 0 (in-front (tail-words p []) words) words c;
       }
-
-  pub open-done : obeys p ≡ true → 2 ≤ length words → (now : List ℕ) → now ≡ in-front (tail-words p []) words
-      → Opens p d empty-desk words now (Letters 0)
-  open-done e h = open-clear (ap not e, (le-ltb (length words) 2 h, tt))
 
 -- ── `put_page` ──
 module _ (p : Pattern) (d : Desk) (page letters words : List ℕ) where

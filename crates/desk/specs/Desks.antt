@@ -1,7 +1,7 @@
 -- The page desk: what its calls answer and what they leave, for every input. Definitions only.
 use mathlib.Core.Path.{_≡_}
 use mathlib.Core.Bool.{Bool, true, _&&_, not, cond}
-use mathlib.Core.List.{List, [], _∷_}
+use mathlib.Core.List.{List, [], _∷_, _++_}
 use Prim.Native.Nat.{ℕ, suc, _+_, _-_, _*_}
 use lib.Dec.{eqb, leb, ltb}
 use lib.ListN.{length, getD, take, drop, set, replicate}
@@ -116,22 +116,29 @@ words-check n needed = (ltb n needed, Base (WordsTooShort needed))
 abbrev pub open-order : Pattern → (words : ℕ) → List Desk-check
 open-order p n = table-check p ∷ words-check n (words-for 0) ∷ []
 
+-- 02: "It refuses, after 2, fewer than 3,600 cells with 9", and so does a withdrawal
+abbrev pub lent-order : Pattern → (cells : ℕ) → List Desk-check
+lent-order p n = table-check p ∷ cells-check n ∷ []
+
 -- 02: "after 2, fewer than 3,600 cells with 9 [..], then a page of a wrong length, or a desk that breaks these limits or holds a byte that is no
 -- letter, with 13, a 31st page with 14, then a bad letter with 4 (its position in the page), then marks too few for the letters after the put with 6"
-abbrev pub put-order : Desk → Pattern → (page letters : List ℕ) → (words : ℕ) → List Desk-check
-put-order d p page letters n =
-    table-check p
-    ∷ cells-check (length letters)
-    ∷ (not (good-page (length page) && desk-good d letters), DeskLimits)
+abbrev pub page-order : Desk → (page letters : List ℕ) → (words : ℕ) → List Desk-check
+page-order d page letters n =
+    (not (good-page (length page) && desk-good d letters), DeskLimits)
     ∷ (leb page-limit (d .count), DeskFull)
     ∷ (ltb (first-bad page) (length page), Base (TapeByte (first-bad page)))
     ∷ words-check n (words-for (held d + length page))
     ∷ []
 
+abbrev pub put-order : Desk → Pattern → (page letters : List ℕ) → (words : ℕ) → List Desk-check
+put-order d p page letters n = lent-order p (length letters) ++ page-order d page letters n
+
 -- 02: "withdrawal checks 2, 9 and 13 for the desk, and an empty one gives 15"
+abbrev pub held-order : Desk → (letters : List ℕ) → List Desk-check
+held-order d letters = (not (desk-good d letters), DeskLimits) ∷ (eqb (d .count) 0, DeskEmpty) ∷ []
+
 abbrev pub withdraw-order : Desk → Pattern → (letters : List ℕ) → List Desk-check
-withdraw-order d p letters =
-    table-check p ∷ cells-check (length letters) ∷ (not (desk-good d letters), DeskLimits) ∷ (eqb (d .count) 0, DeskEmpty) ∷ []
+withdraw-order d p letters = lent-order p (length letters) ++ held-order d letters
 
 -- ── answers: 02: "each accepted one with the count of letters then held" ──
 unfoldable pub open-answer : Pattern → (words : ℕ) → Answer
@@ -146,6 +153,9 @@ withdraw-answer d p letters = first-of desk-refused (withdraw-order d p letters)
 -- 02: "A refused call leaves desk, letters and marks alike."
 abbrev pub if-accepted : {A : Type 0} → Answer → (new old : A) → A
 if-accepted a new old = cond (eqb (a .number) 0) new old
+
+abbrev pub emptied : DeskAfter
+emptied = record { desk = empty-desk; answer = Letters 0 }
 
 abbrev pub refused-change : Desk → DeskRefusal → DeskAfter
 refused-change d why = record { desk = d; answer = Refused why }

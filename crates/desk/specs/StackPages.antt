@@ -26,7 +26,9 @@ lengths-of (page ∷ s) = lengths-of s ++ (length page ∷ [])
 
 lengths-count : (s : Stack) → length (lengths-of s) ≡ length s
 lengths-count [] = refl
-lengths-count (page ∷ s) = length-append (lengths-of s) (length page ∷ []) ∙ (let e : length (lengths-of s) + 1 ≡ suc (length s) = omega (arith, lengths-count s) in e)
+lengths-count (page ∷ s) =
+    let e : length (lengths-of s) + 1 ≡ suc (length s) = omega (arith, lengths-count s) in
+    length-append (lengths-of s) (length page ∷ []) ∙ e
 
 lengths-sum : (s : Stack) → sum (lengths-of s) ≡ length (joined s)
 lengths-sum [] = refl

@@ -1,22 +1,25 @@
 // The calls, on a desk by value: each returns the desk after it, with its answer.
 ghost use mathlib.Core.Path.{_≡_};
+ghost use mathlib.Core.List.{[]};
 ghost use lib.ListN.{length};
 ghost use Rattle.refusals.specs.Checks.{Clear};
-ghost use Rattle.desk.specs.Desks.{held, put-order, refused-change, Opens, Puts, Withdraws};
+ghost use Rattle.bits.specs.Bits.{in-front};
+ghost use Rattle.first_sweep.specs.Tail.{tail-words};
+ghost use Rattle.desk.specs.Desks.{held, open-order, put-order, emptied, refused-change, Opens, Puts, Withdraws};
 use crate::Desk;
 use crate::DeskAfter;
 use crate::DeskAnswer;
+use crate::DeskCheck;
 use crate::DeskRefusal;
 use crate::checks::Checked;
+use crate::checks::check_open;
 use crate::checks::check_put;
 use crate::pages::take_page;
 use crate::pages::with_page;
 use crate::withdrawal::check_withdraw;
 use first_sweep::grow;
 use first_sweep::put_end;
-use refusals::Refusal;
 use syntax::Pattern;
-use syntax::obeys_rules;
 use table::table_of;
 use text::put_bytes;
 
@@ -30,16 +33,11 @@ fn unchanged(desk: Desk, why: DeskRefusal) -> DeskAfter
     }
 }
 
-// Empties a desk, whatever it held, and writes the two words of the tape's end.
-pub fn open_desk(desk: Desk, p: Pattern, words: &mut [u64]) -> DeskAfter
-    ensures { λ r. ⌜ Opens p desk (r .desk) (now (words .entry)) (now (words .exit)) (r .answer) ⌝ }
+// Writes the two words of the tape's end, once no cause is left, and returns an empty desk.
+fn empty(p: Pattern, words: &mut [u64]) -> DeskAfter
+    requires { ⌜ Clear (open-order p (length (now words))) ⌝ }
+    ensures { λ r. ⌜ (r ≡ emptied) × (now (words .exit) ≡ in-front (tail-words p []) (now (words .entry))) ⌝ }
 {
-    if !obeys_rules(p) {
-        return unchanged(desk, DeskRefusal::Base(Refusal::Tree(0)));
-    }
-    if words.len() < 2 {
-        return unchanged(desk, DeskRefusal::Base(Refusal::WordsTooShort(2)));
-    }
     let table = table_of(p);
     put_end(p, &table, words);
     DeskAfter {
@@ -48,6 +46,17 @@ pub fn open_desk(desk: Desk, p: Pattern, words: &mut [u64]) -> DeskAfter
             lengths: [0; Desk::MAX_PAGES],
         },
         answer: DeskAnswer::Letters(0),
+    }
+}
+
+// Empties a desk, whatever it held.
+pub fn open_desk(desk: Desk, p: Pattern, words: &mut [u64]) -> DeskAfter
+    ensures { λ r. ⌜ Opens p desk (r .desk) (now (words .entry)) (now (words .exit)) (r .answer) ⌝ }
+{
+    let checked = check_open(p, words.len());
+    match checked {
+        DeskCheck::Taken => empty(p, words),
+        DeskCheck::Refused(why) => unchanged(desk, why),
     }
 }
 

@@ -4,7 +4,7 @@ ghost use mathlib.Core.Path.{_≡_};
 ghost use Rattle.desk.specs.Desks.{desk-number, desk-value, Opens, Puts, Withdraws};
 
 mod calls; // calls.rt: the calls on a desk by value
-mod checks; // checks.rt: the checks of a put, in 02's order
+mod checks; // checks.rt: the checks of an opening and of a put, in 02's order
 mod limits; // limits.rt: what a desk holds, and whether it keeps the limits
 mod pages; // pages.rt: the length of a page
 mod withdrawal; // withdrawal.rt: the checks of a withdrawal, in 02's order
@@ -13,6 +13,7 @@ mod withdrawal; // withdrawal.rt: the checks of a withdrawal, in 02's order
 pub use calls::open_desk;
 pub use calls::put_page;
 pub use calls::withdraw_page;
+pub use checks::check_open;
 use refusals::Refusal;
 use refusals::number_of;
 use refusals::value_of;
@@ -36,6 +37,12 @@ pub enum DeskRefusal {
     DeskLimits,
     DeskFull,
     DeskEmpty,
+}
+
+// Whether a call goes on, or why not.
+pub enum DeskCheck {
+    Taken,
+    Refused(DeskRefusal),
 }
 
 // What a call answers: the letters held then, or why it is refused.

@@ -2,22 +2,21 @@
 use mathlib.Core.Path.{_≡_, refl, sym, ap, _∙_}
 use mathlib.Core.Bool.{Bool, true, false, true≢false, _&&_, not, cond, and-false}
 use mathlib.Core.List.{List, [], _∷_, _++_, append-nil}
-use Prim.Native.Nat.{ℕ, suc, _+_, _-_, _≤_, _<_}
+use Prim.Native.Nat.{ℕ, suc, _+_, _-_, _≤_}
 use native.Mathlib.Omega.{arith}
-use borrow.Author.Tests.{eqb-true, eqb-false, eq-eqb, ne-eqb, lt-ltb, le-ltb}
+use borrow.Author.Tests.{eqb-true, eqb-false, eq-eqb, ne-eqb}
 use lib.Dec.{eqb}
 use lib.ListN.{length, getD, take, drop, set, replicate, length-drop, length-set, length-replicate, drop-of-length-le}
 use lib.Seq.{take-all, sets, sets-eq}
 use Rattle.syntax.specs.declared.Pattern.{Pattern}
-use Rattle.syntax.specs.Table.{obeys}
-use Rattle.refusals.specs.declared.Refusal.the-variants.{Tree as Tree-fault, WordsTooShort}
 use Rattle.refusals.specs.Refusals.{Answer, answer}
-use Rattle.refusals.specs.Checks.{first-of}
-use Rattle.refusals.specs.CheckLaws.{zero-said}
+use Rattle.refusals.specs.Checks.{first-of, First, Clear}
+use Rattle.refusals.specs.CheckLaws.{zero-said, first-said, clear-said}
 use Rattle.desk.specs.declared.Desk.{Desk}
-use Rattle.desk.specs.declared.DeskRefusal.the-variants.{Base, DeskLimits}
+use Rattle.desk.specs.declared.DeskRefusal.{DeskRefusal}
+use Rattle.desk.specs.declared.DeskRefusal.the-variants.{DeskLimits}
 use Rattle.desk.specs.Desks.{page-limit, good-page, limits-kept, desk-good, held, without-page, desk-refused, if-accepted}
-use Rattle.desk.specs.Desks.{put-order, withdraw-order, put-answer, withdraw-answer}
+use Rattle.desk.specs.Desks.{open-order, put-order, withdraw-order, put-answer, withdraw-answer}
 use Rattle.desk.specs.Numbers.{desk-number-positive}
 use Rattle.packing.specs.DeskBytes.{desk-bytes, broken-desk, desk-of-bytes, bytes-of-desk, other-opened, other-held, desk-laid}
 
@@ -149,14 +148,10 @@ module _ (bytes : List ℕ) (h : length bytes ≡ desk-bytes → ⊥) (p : Patte
 
 -- ── `of_other_length` ──
 module _ (p : Pattern) (words : ℕ) where
-  pub other-2 : obeys p ≡ false → desk-refused (Base (Tree-fault 0)) ≡ other-opened p words
+  pub other-first : (why : DeskRefusal) → First why (open-order p words) → desk-refused why ≡ other-opened p words
   unfolding other-opened
-  other-2 e = rw e
+  other-first why f = sym (first-said desk-refused f (desk-refused DeskLimits))
 
-  pub other-6 : obeys p ≡ true → words < 2 → desk-refused (Base (WordsTooShort 2)) ≡ other-opened p words
+  pub other-13 : Clear (open-order p words) → desk-refused DeskLimits ≡ other-opened p words
   unfolding other-opened
-  other-6 e h = rw (e, lt-ltb words 2 h)
-
-  pub other-13 : obeys p ≡ true → 2 ≤ words → desk-refused DeskLimits ≡ other-opened p words
-  unfolding other-opened
-  other-13 e h = rw (e, le-ltb words 2 h)
+  other-13 c = sym (clear-said desk-refused (open-order p words) (desk-refused DeskLimits) c)

@@ -4,8 +4,11 @@ ghost use Rattle.packing.specs.Packing.{unpacked};
 ghost use Rattle.packing.specs.DeskBytes.{desk-of-bytes, other-opened, desk-laid};
 use crate::packed;
 use desk::Desk;
+use desk::DeskCheck;
+use desk::check_open;
+use desk::desk_number_of;
+use desk::desk_value_of;
 use syntax::Pattern;
-use syntax::obeys_rules;
 use text::put_bytes;
 
 // The bytes of a desk, and a count that no desk has.
@@ -45,15 +48,13 @@ pub fn put_desk(desk: Desk, bytes: &mut [u8])
     put_bytes(bytes, 1, &lengths);
 }
 
-// What an opening answers where the bytes of the desk are of another number: 13, and 2 and 6 come before it.
+// The answer of an opening whose desk is not 31 bytes long: 2 or 6 if they hold, else 13.
 pub fn of_other_length(p: Pattern, words: usize) -> u64
     ensures { λ r. ⌜ unpacked r ≡ other-opened p words ⌝ }
 {
-    if !obeys_rules(p) {
-        return packed(2, 0);
+    let checked = check_open(p, words);
+    match checked {
+        DeskCheck::Taken => packed(13, 0),
+        DeskCheck::Refused(why) => packed(desk_number_of(why), desk_value_of(why)),
     }
-    if words < 2 {
-        return packed(6, 2);
-    }
-    packed(13, 0)
 }

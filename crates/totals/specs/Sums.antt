@@ -99,7 +99,8 @@ module _ (xs ys : List ℕ) (n : ℕ) where
     pub entries-summed-room : i < n → n ≤ letter-limit → (a c : ℕ) → a ≤ account-limit → getD s a 0 + litres c ≤ 9 * letter-limit
     entries-summed-room h few a c o = rw (k .is) (charge-room (pairs i xs ys) a c (omega (arith, pairs-length i xs ys)) o)
 
-    pub entries-summed-next : i < n → n ≤ length xs → n ≤ length ys → (s' : List ℕ) → s' ≡ charge-one s (getD ys i 0) (getD xs i 0) → Entries-summed xs ys s' n (i + 1)
+    pub entries-summed-next : i < n → n ≤ length xs → n ≤ length ys → (s' : List ℕ) → s' ≡ charge-one s (getD ys i 0) (getD xs i 0)
+        → Entries-summed xs ys s' n (i + 1)
     entries-summed-next h long wide s' e =
         let z : suc i ≡ i + 1 = omega arith in
         record {

@@ -83,7 +83,8 @@ module _ (text : List ℕ) where
   pub desk-withdraws-text-one : (desk a b letters : List ℕ) (r s : ℕ) → Desk-withdraws-text text desk a letters r
       → Desk-withdraws-text text desk b letters s → (r ≡ s) × (a ≡ b)
   desk-withdraws-text-one desk a b letters r s f g =
-      let e = withdraws-one (load-table text) (desk-of-bytes desk) (f .after) (g .after) letters (f .desk-answered) (g .desk-answered) (f .withdraws) (g .withdraws) in (
+      let e = withdraws-one (load-table text) (desk-of-bytes desk) (f .after) (g .after) letters (f .desk-answered) (g .desk-answered)
+      (f .withdraws) (g .withdraws) in (
         unpacked-same r s (f .answers ∙ ap desk-answer (e .0) ∙ sym (g .answers)),
         f .leaves ∙ ap₂ (λ x d. if-accepted (desk-answer x) (bytes-of-desk d) desk) (e .0) (e .1) ∙ sym (g .leaves),
       )
