@@ -1,0 +1,2 @@
+-- What the proofs by hand share; the others are one file for each function.
+pub mod Walk
