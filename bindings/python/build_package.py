@@ -1,7 +1,8 @@
-"""Builds the package for pip, by PEP 517, with the standard library and gcc alone: an install takes nothing from a network.
+"""Builds the package for pip, by PEP 517, with the standard library and a C compiler alone: an install takes nothing from a network.
 
-A wheel is a zip file with the Python files, libwumbyra.so and three files about them. The library is linked from the proved archive
-libwumbyra.a: that of the folder that WUMBYRA_LIB_DIR names, else that of target/staticlib in the repository which this folder is in.
+A wheel is a zip file with the Python files, libwumbyra.so and three files about them. The library is linked from the archive libwumbyra.a in
+the folder that WUMBYRA_LIB_DIR names. Without that variable it is built from dist/ of the repository or release that this folder is in; and
+where the sources there are others than dist/ was made of, it is linked from the archive in target/staticlib, which `make prove` writes.
 """
 
 from __future__ import annotations
@@ -18,6 +19,7 @@ import tempfile
 import zipfile
 
 HERE = pathlib.Path(__file__).resolve().parent
+ROOT = HERE.parent.parent
 PACKAGE = "wumbyra"
 
 
@@ -31,33 +33,47 @@ def project() -> dict:
     return dict(re.findall(r'^([\w-]+) = "([^"]*)"$', text.split("[project]\n")[1], re.M))
 
 
-def archive() -> pathlib.Path:
-    folder = pathlib.Path(os.environ.get("WUMBYRA_LIB_DIR") or HERE.parent.parent / "target/staticlib")
-    found = folder.resolve() / "libwumbyra.a"
-    if not found.is_file():
+def link(archive: pathlib.Path, shared: pathlib.Path) -> None:
+    """Makes a shared library of an archive."""
+    if not archive.is_file():
         # Leaving by sys.exit, pip shows the sentence without a stack of calls.
-        sys.exit(
-            f"{found} is missing: run `rt staticlib wumbyra` in the repository of Wumbyra, which writes it, "
-            "or let WUMBYRA_LIB_DIR name the folder that has it."
-        )
-    return found
-
-
-def link(shared: pathlib.Path) -> None:
-    whole = ["-Wl,--whole-archive", str(archive()), "-Wl,--no-whole-archive"]
+        sys.exit(f"{archive} is missing: `make` in the repository of Wumbyra builds it, or let WUMBYRA_LIB_DIR name the folder that has it.")
+    compiler = os.environ.get("CC", "cc").split()
+    whole = ["-Wl,--whole-archive", str(archive), "-Wl,--no-whole-archive"]
     try:
-        done = subprocess.run(["gcc", "-shared", "-o", str(shared), *whole])
+        done = subprocess.run([*compiler, "-shared", "-o", str(shared), *whole])
     except FileNotFoundError:
-        sys.exit("gcc, which links libwumbyra.so, is not on the PATH.")
+        sys.exit(f"A C compiler links libwumbyra.so, and `{compiler[0]}` is not on the PATH; CC names another one.")
     if done.returncode:
-        sys.exit("gcc could not link libwumbyra.so; it says why above.")
+        sys.exit(f"`{compiler[0]}` could not link libwumbyra.so; it says why above.")
+
+
+def build(shared: pathlib.Path) -> None:
+    """Makes the shared library, of what there is."""
+    named = os.environ.get("WUMBYRA_LIB_DIR")
+    if named:
+        link(pathlib.Path(named).resolve() / "libwumbyra.a", shared)
+        return
+    script = ROOT / "packaging/build"
+    if not script.is_file():
+        sys.exit(
+            f"{script} is missing: this package is built in the repository of Wumbyra or in a release of it. "
+            "WUMBYRA_LIB_DIR may name the folder that has libwumbyra.a."
+        )
+    done = subprocess.run([str(script), "shared", str(shared)], stderr=subprocess.PIPE, encoding="utf-8", errors="replace")
+    proved = ROOT / "target/staticlib/libwumbyra.a"
+    if done.returncode == 1 and proved.is_file():
+        link(proved, shared)
+    elif done.returncode:
+        advice = " `make prove` there builds the library from its sources." if done.returncode == 1 else ""
+        sys.exit(f"{done.stderr.rstrip()}{advice}")
 
 
 def platform() -> str:
     name = sysconfig.get_platform()
-    if name != "linux-x86_64":
-        sys.exit(f"The library is for x86-64 Linux, and this is {name}.")
-    return "linux_x86_64"
+    if name not in ("linux-x86_64", "linux-aarch64"):
+        sys.exit(f"The library is for x86-64 and AArch64 Linux, and this is {name}.")
+    return name.replace("-", "_")
 
 
 def about(tag: str) -> dict:
@@ -91,7 +107,7 @@ def build_wheel(wheel_directory, config_settings=None, metadata_directory=None):
     stem = f"{PACKAGE}-{project()['version']}"
     with tempfile.TemporaryDirectory() as room:
         shared = pathlib.Path(room, "libwumbyra.so")
-        link(shared)
+        build(shared)
         files = {f"{PACKAGE}/{shared.name}": shared.read_bytes()}
     sources = sorted([*HERE.glob(f"{PACKAGE}/*.py"), HERE / PACKAGE / "py.typed"])
     files.update((f"{PACKAGE}/{source.name}", source.read_bytes()) for source in sources)

@@ -40,6 +40,12 @@ def python(*arguments, **changed):
     return subprocess.run([sys.executable, *arguments], env=kept, capture_output=True, text=True, cwd="/")
 
 
+def built(package, **changed):
+    """Builds a wheel of the package in a folder."""
+    with tempfile.TemporaryDirectory() as room:
+        return python("-c", f"import build_package; print(build_package.build_wheel({room!r}))", PYTHONPATH=package, **changed)
+
+
 class Wheel(unittest.TestCase):
     @classmethod
     def setUpClass(cls):
@@ -60,7 +66,7 @@ class Wheel(unittest.TestCase):
         cls.room.cleanup()
 
     def test_what_it_holds(self):
-        self.assertEqual(self.name, f"wumbyra-{wumbyra.__version__}-py3-none-linux_x86_64.whl")
+        self.assertEqual(self.name, f"wumbyra-{wumbyra.__version__}-py3-none-{build_package.platform()}.whl")
         about = [f"wumbyra-{wumbyra.__version__}.dist-info/{name}" for name in ("METADATA", "RECORD", "WHEEL")]
         sources = "__init__.py", "_arguments.py", "_breaks.py", "_faults.py", "_library.py", "_refused.py", "_subpattern.py"
         package = [f"wumbyra/{name}" for name in (*sources, "libwumbyra.so", "py.typed")]
@@ -153,7 +159,24 @@ class Wheel(unittest.TestCase):
         with tempfile.TemporaryDirectory() as empty:
             missing = python("-c", f"import build_package; build_package.build_wheel({empty!r})", PYTHONPATH=HERE, WUMBYRA_LIB_DIR=empty)
             self.assertEqual((missing.returncode, missing.stderr.count("\n")), (1, 1))
-            self.assertRegex(missing.stderr, "^/.*/libwumbyra.a is missing: run `rt staticlib wumbyra` in the repository")
+            self.assertRegex(missing.stderr, "^/.*/libwumbyra.a is missing: `make` in the repository")
+
+    def test_it_is_built_from_dist(self):
+        with tempfile.TemporaryDirectory() as room:
+            tree = pathlib.Path(room, "tree")
+            package = tree / "bindings/python"
+            shutil.copytree(HERE, package)
+            self.assertIn("packaging/build is missing: this package is built in the repository", built(package).stderr)
+            for part in ("dist", "include", "packaging"):
+                shutil.copytree(HERE.parent.parent / part, tree / part)
+            self.assertEqual(built(package).stdout, f"{self.name}\n")
+            self.assertIn("a C compiler is needed, and `nowhere` does not run", built(package, CC="nowhere").stderr)
+            (tree / "crates.txt").write_text("wumbyra:\n")
+            other = built(package).stderr
+            self.assertIn("the sources under crates/ are not those that it was made of", other)
+            self.assertIn("`make prove` there builds the library from its sources.", other)
+            (tree / "dist/MANIFEST").write_text("version 1\n")
+            self.assertIn('MANIFEST has not one line "toolchain"', built(package).stderr)
 
     def test_pip_installs_it_without_a_network(self):
         if python("-m", "pip", "--version").returncode:
