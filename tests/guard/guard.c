@@ -395,7 +395,8 @@ static void try_spans(struct scene *s)
     struct caller *c = &s->caller;
     const struct parse *parse = &s->parse;
     uint32_t visit;
-    (void)call_span(c, draw(&c->source, WUMBYRA_MAX_LINES), draw(&c->source, 4));
+    uint32_t line = draw(&c->source, WUMBYRA_MAX_LINES); /* one after the other: the order of arguments is the compiler's */
+    (void)call_span(c, line, draw(&c->source, 4));
     expect_answer(c, call_span(c, WUMBYRA_MAX_LINES + draw(&c->source, 1000), 0), WUMBYRA_NO_SUCH_VISIT, 0, "span: no such node");
     if (s->letters > 0) {
         uint32_t at = draw(&c->source, s->letters);
@@ -485,6 +486,7 @@ static void try_damaged_tape(struct scene *s)
     const size_t words = chance(&c->source, 4) ? draw(&c->source, 40) : WUMBYRA_MAX_WORDS;
     size_t size = damage(&c->source, s->parse.letters, s->parse.count, LETTER_ROOM);
     struct answer answer, fault;
+    uint32_t line;
     hand(c, &c->tape, s->parse.letters, size);
     fault = tape_fault(s);
     answer = call_parse(c, words, draw(&c->source, 2) * WUMBYRA_MAX_WRITTEN_CODE_BYTES);
@@ -499,7 +501,8 @@ static void try_damaged_tape(struct scene *s)
         expect_answer(c, answer, fault.number, fault.value, "locate: the first fault of the tape");
     else if (s->whole_text)
         expect_located(s, answer);
-    answer = call_span(c, draw(&c->source, 70), draw(&c->source, 70));
+    line = draw(&c->source, 70);
+    answer = call_span(c, line, draw(&c->source, 70));
     if (fault.number != WUMBYRA_OK)
         expect_answer(c, answer, fault.number, fault.value, "span: the first fault of the tape");
     else if (s->refusal != WUMBYRA_OK)
