@@ -1,7 +1,7 @@
-/* Wumbyra: a verified reader of water meter tapes, for C and C++ (x86-64 Linux).
+/* Wumbyra: a verified reader of water meter tapes, for C and C++ (x86-64 and AArch64 Linux, 64 bits, little endian).
  *
  * Link with -lwumbyra where it is installed (`pkg-config --cflags --libs wumbyra` says from where), or with the archive
- * target/staticlib/libwumbyra.a, which `rt staticlib wumbyra` writes. It needs memcpy and memset and nothing else.
+ * libwumbyra.a, which `make` builds in target/dist. It needs memcpy and memset and nothing else.
  * Every function is proved to answer, and to leave in every buffer, what the definitions of the services give on the table
  * that its pattern text loads as (crates/wumbyra, specs/Packed). What is not proved: this header, the compiler's back end, and
  * how deep the stack goes and how long a call takes, which are below.
