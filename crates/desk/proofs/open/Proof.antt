@@ -68,8 +68,8 @@ module _ {M : Type 1} (𝓤 : URA M) (H : Heap 𝓤) (A : Atoms 𝓤) (W : Given
         -- [the desk's cell; what a Desk owns; the open borrow; obs; auth; the words' token; what p and words own; _7; …; _0; …]
         assigns ! (of-opd ! (load ! (from ! (hop ! (look ! 19 refl) (stop !))) (look-raw ! 0 refl))) (here !) (init ! 11 refl (desk-fits W h ish)) $
         assigns ! (addr ! (from ! (fld ! refl (hop ! (look-in ! 15 (sub ! 0 refl (whole !))) (stop !))))) (here !) (init ! 9 refl (tt, tt)) $
-        assigns ! (agg ! (and-then ! (held-at ! 9 refl) (and-then ! (load ! (from ! (fld ! refl (stop !))) (look-in ! 15 (sub ! 1 refl (whole !)))) (no-more !))))
-        (here !) (init ! 7 refl (tt, (tt, (record { fits = room .0 }, tt)))) $
+        assigns ! (agg ! (and-then ! (held-at ! 9 refl) (and-then ! (load ! (from ! (fld ! refl (stop !))) (look-in ! 15 (sub ! 1 refl (whole !))))
+        (no-more !)))) (here !) (init ! 7 refl (tt, (tt, (record { fits = room .0 }, tt)))) $
         move ! (1 ∷ 6 ∷ []) $ fjoin ! $ move ! (5 ∷ 0 ∷ []) $ join ! $ use1 W (raw (Callee .pre to-callee)) (beside-nothing 𝓤 _) $
         -- [what the callee asks; the desk's cell; the open borrow; obs; auth; _7; …; _0; …]
         calls-at ! fm Callee known to-callee (and-then ! (held-at ! 9 refl) (and-then ! (held-at ! 15 refl) (and-then ! (held-at ! 5 refl) (no-more !)))) (λ w.

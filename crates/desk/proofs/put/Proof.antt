@@ -82,17 +82,18 @@ module _ {M : Type 1} (𝓤 : URA M) (H : Heap 𝓤) (A : Atoms 𝓤) (W : Given
         alloc1 ! (λ l₈. alloc1 ! (λ l₉. alloc1 ! (λ l₁₀. alloc1 ! (λ l₁₁. alloc0 ! $ params1 ! $
         pass1 ! (init ! 20 refl (tt, tt)) $ pass1 ! (init ! 18 refl (pattern-fits W p isp)) $
         pass1 ! (init ! 16 refl (shr-slice-lawful 𝓤 H A W (named 1) (κs .1 .0) u8 .typed page _ isg .0)) $
-        pass1 ! (init ! 14 refl (tt, (tt, (record { fits = room₂ .0 }, tt)))) $ pass1 ! (init ! 12 refl (tt, (tt, (record { fits = room₃ .0 }, tt)))) $ pass0 ! $
+        pass1 ! (init ! 14 refl (tt, (tt, (record { fits = room₂ .0 }, tt)))) $
+        pass1 ! (init ! 12 refl (tt, (tt, (record { fits = room₃ .0 }, tt)))) $ pass0 ! $
         -- the borrow of the desk is opened
         move ! (25 ∷ []) $ fsplit ! $ fsplit3 ! $ drop ! $ move ! (27 ∷ []) $ split ! $ move ! (2 ∷ 3 ∷ 0 ∷ []) $ desk-opened ! tt h b o (λ ish.
         -- [the desk's cell; what a Desk owns; the open borrow; obs; auth; the slices' tokens; what p and the slices own; _11; …; _0; …]
         assigns ! (of-opd ! (load ! (from ! (hop ! (look ! 27 refl) (stop !))) (look-raw ! 0 refl))) (here !) (init ! 15 refl (desk-fits W h ish)) $
         assigns ! (addr ! (from ! (fld ! refl (hop ! (look-in ! 21 (sub ! 0 refl (whole !))) (stop !))))) (here !) (init ! 13 refl (tt, tt)) $
-        assigns ! (agg ! (and-then ! (held-at ! 13 refl) (and-then ! (load ! (from ! (fld ! refl (stop !))) (look-in ! 21 (sub ! 1 refl (whole !)))) (no-more !))))
-        (here !) (init ! 11 refl (tt, (tt, (record { fits = room₂ .0 }, tt)))) $
+        assigns ! (agg ! (and-then ! (held-at ! 13 refl) (and-then ! (load ! (from ! (fld ! refl (stop !))) (look-in ! 21 (sub ! 1 refl (whole !))))
+        (no-more !)))) (here !) (init ! 11 refl (tt, (tt, (record { fits = room₂ .0 }, tt)))) $
         assigns ! (addr ! (from ! (fld ! refl (hop ! (look-in ! 19 (sub ! 0 refl (whole !))) (stop !))))) (here !) (init ! 9 refl (tt, tt)) $
-        assigns ! (agg ! (and-then ! (held-at ! 9 refl) (and-then ! (load ! (from ! (fld ! refl (stop !))) (look-in ! 19 (sub ! 1 refl (whole !)))) (no-more !))))
-        (here !) (init ! 7 refl (tt, (tt, (record { fits = room₃ .0 }, tt)))) $
+        assigns ! (agg ! (and-then ! (held-at ! 9 refl) (and-then ! (load ! (from ! (fld ! refl (stop !))) (look-in ! 19 (sub ! 1 refl (whole !))))
+        (no-more !)))) (here !) (init ! 7 refl (tt, (tt, (record { fits = room₃ .0 }, tt)))) $
         -- what the page owns is had twice
         move ! (6 ∷ []) $ fsplit ! $ move ! (1 ∷ []) $ fsplit ! $ bytes-twice ! (named 1) (κs .1 .0) page $
         move ! (0 ∷ 2 ∷ []) $ fjoin ! $ move ! (2 ∷ 0 ∷ []) $ fjoin ! $

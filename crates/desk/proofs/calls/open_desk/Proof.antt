@@ -30,7 +30,8 @@ returns c =
     let start = c .before .before .before .before .before .before .before .before in
     rw (emptied .empty .ensures .0)
     (open-clear (start .args .p) (start .args .desk) (start .args .words .now)
-    (when-taken _ _ (c .before .before .before .before .before .before .check-open .ensures) (c .before .before .before .before .enum-told .given .1)) _ (emptied .empty .ensures .1))
+    (when-taken _ _ (c .before .before .before .before .before .before .check-open .ensures) (c .before .before .before .before .enum-told .given .1))
+    _ (emptied .empty .ensures .1))
 
 returns-2 : tie.Need-returns-2
 returns-2 c =

@@ -21,7 +21,8 @@ table-of-requires c κs =
 grow-requires : tie.Need-grow-requires
 grow-requires c κs =
     let start = c .before .before .before .before .before .before in
-    (put-growable (start .args .p) (start .args .desk) (start .args .page .now) (start .args .letters .now) (start .args .words .now) (start .pre .0) _ (start .pre .1), c .before .before .table-of .ensures)
+    let a = start .args in
+    (put-growable (a .p) (a .desk) (a .page .now) (a .letters .now) (a .words .now) (start .pre .0) _ (start .pre .1), c .before .before .table-of .ensures)
 
 sub-put-bytes : tie.Need-sub-put-bytes
 sub-put-bytes c =

@@ -32,7 +32,8 @@ returns c =
     let at-check-put = c .before .before .before .before in
     let start = at-check-put .before .before .before .before .before in
     rw (c .unchanged .ensures)
-    (put-why (start .args .p) (start .args .desk) (start .args .page .now) (start .args .letters .now) (start .args .words .now) _ (at-check-put .check-put .ensures) _ (c .before .before .checked .given .1))
+    (put-why (start .args .p) (start .args .desk) (start .args .page .now) (start .args .letters .now) (start .args .words .now)
+    _ (at-check-put .check-put .ensures) _ (c .before .before .checked .given .1))
 
 same-length-2 : tie.Need-same-length-2
 same-length-2 c = search needs

@@ -28,14 +28,16 @@ returns c =
     let at-check-withdraw = c .before .before .before .before in
     let start = at-check-withdraw .before .before in
     rw (c .unchanged .ensures)
-    (withdraw-why (start .args .p) (start .args .desk) (start .args .letters .now) _ (at-check-withdraw .check-withdraw .ensures) _ (c .before .before .checked .given .1))
+    (withdraw-why (start .args .p) (start .args .desk) (start .args .letters .now) _ (at-check-withdraw .check-withdraw .ensures)
+    _ (c .before .before .checked .given .1))
 
 returns-2 : tie.Need-returns-2
 returns-2 c =
     let at-check-withdraw = c .before .before .before .before in
     let start = at-check-withdraw .before .before in
     withdraw-done (start .args .p) (start .args .desk) (start .args .letters .now)
-    (withdraw-held (start .args .p) (start .args .desk) (start .args .letters .now) _ (at-check-withdraw .check-withdraw .ensures) _ (c .before .before .checked2 .given .1) .0) _ (c .take-page .ensures)
+    (withdraw-held (start .args .p) (start .args .desk) (start .args .letters .now) _ (at-check-withdraw .check-withdraw .ensures)
+    _ (c .before .before .checked2 .given .1) .0) _ (c .take-page .ensures)
 
 pub withdraw-page-spec : {M : Type 1} → statement M
 withdraw-page-spec =
