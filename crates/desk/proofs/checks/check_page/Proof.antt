@@ -32,7 +32,8 @@ returns-2 c =
     let at-limits = c .before .before .before in
     let at-limits-put = at-limits .before .before in
     let start = at-limits-put .before .before .before in
-    put-14 _ (start .args .page .now) (start .args .letters .now) (start .args .words) _ (at-limits-put .limits-put .ensures) _ (at-limits .limits .given .1) (c .if1 .taken)
+    put-14 _ (start .args .page .now) (start .args .letters .now) (start .args .words) _ (at-limits-put .limits-put .ensures)
+    _ (at-limits .limits .given .1) (c .if1 .taken)
 
 first-bad-requires : tie.Need-first-bad-requires
 first-bad-requires c κs = search needs

@@ -14,7 +14,8 @@ enum-told : tie.Need-enum-told
 enum-told c = search needs
 
 check-page-requires : tie.Need-check-page-requires
-check-page-requires c κs = lent-cells (c .before .before .before .before .before .args .p) _ (when-taken _ _ (c .before .before .check-lent .ensures) (c .enum-told .given .1))
+check-page-requires c κs =
+    lent-cells (c .before .before .before .before .before .args .p) _ (when-taken _ _ (c .before .before .check-lent .ensures) (c .enum-told .given .1))
 
 enum-known-lent : tie.Need-enum-known-lent
 enum-known-lent c = search needs

@@ -17,10 +17,18 @@ returns : tie.Need-returns
 returns c = withdraw-13 _ (c .before .before .before .before .args .letters .now) _ (c .before .before .limits-held .ensures) (c .enum-told .given .1)
 
 returns-2 : tie.Need-returns-2
-returns-2 c = withdraw-15 _ (c .before .before .before .before .before .before .before .args .letters .now) _ (c .before .before .before .before .before .limits-held .ensures) _ (c .before .before .before .limits .given .1) (c .if1 .taken)
+returns-2 c =
+    let at-limits = c .before .before .before in
+    let at-limits-held = at-limits .before .before in
+    withdraw-15 _ (at-limits-held .before .before .args .letters .now) _ (at-limits-held .limits-held .ensures)
+    _ (at-limits .limits .given .1) (c .if1 .taken)
 
 returns-3 : tie.Need-returns-3
-returns-3 c = withdraw-clear _ (c .before .before .before .before .before .before .before .args .letters .now) _ (c .before .before .before .before .before .limits-held .ensures) _ (c .before .before .before .limits .given .1) (c .if1 .left)
+returns-3 c =
+    let at-limits = c .before .before .before in
+    let at-limits-held = at-limits .before .before in
+    withdraw-clear _ (at-limits-held .before .before .args .letters .now) _ (at-limits-held .limits-held .ensures)
+    _ (at-limits .limits .given .1) (c .if1 .left)
 
 pub check-held-spec : {M : Type 1} → statement M
 check-held-spec =

@@ -14,7 +14,8 @@ enum-told : tie.Need-enum-told
 enum-told c = search needs
 
 check-held-requires : tie.Need-check-held-requires
-check-held-requires c κs = lent-cells (c .before .before .before .before .args .p) _ (when-taken _ _ (c .before .before .check-lent .ensures) (c .enum-told .given .1))
+check-held-requires c κs =
+    lent-cells (c .before .before .before .before .args .p) _ (when-taken _ _ (c .before .before .check-lent .ensures) (c .enum-told .given .1))
 
 enum-known-lent : tie.Need-enum-known-lent
 enum-known-lent c = search needs
