@@ -1,5 +1,7 @@
 // The third demand on one run: two codes are settled, each settled code again, and the two are compared.
 // Nothing is built on it. It is apart because each of its edits costs a whole check, which would be settling's too.
+#![tactic(auto)]
+
 ghost use Rattle.std.specs.Prelude.{◌≡◌, true, ◌↔◌, ◌≤◌};
 ghost use Rattle.canonical.specs.Canonicalize.{canonicalized_answer};
 ghost use Rattle.canonical.specs.Demand.{Equal};
@@ -12,7 +14,7 @@ use refusals::Refusal;
 use syntax::Pattern;
 
 // Whether two codes settle to the same code, or why that is not known.
-#[derive(Drop)]
+#[derive(Clone, Copy)]
 pub enum Agreement {
     Same,
     Different,

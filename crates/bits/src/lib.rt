@@ -4,6 +4,8 @@
 // A write clears the rest of its last byte, so that a code written bit after bit has its unused bits 0 whatever the buffer held: nobody clears
 // first, and two writes in a row are one (law `write-write`). Indices and counts have 32 bits, since a good code has at most 524,288 bits. There
 // are no loops: each function touches at most two bytes.
+#![tactic(auto)]
+
 ghost use Rattle.std.specs.Prelude.{◌≡◌, [], ◌∷◌, ◌+◌, ◌*◌, ◌<◌, ◌≤◌, length, get_or};
 ghost use Rattle.binary.specs.Bits.{bit, test_bit, bits_of, bit_at, number_at, cell_count, high_bits, write, handed_good, count_below};
 

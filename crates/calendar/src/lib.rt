@@ -1,6 +1,8 @@
 // Dates of the Gregorian calendar, from 2000 to 2099: which there are, the next one, and which of two is the later.
 // A date is three numbers that anybody may hand over, so every function takes any numbers. A step of what is no date leaves it as it is: no
 // step overflows, and the step of 31 December 2099, which is 1 January 2100, is the end of all steps.
+#![tactic(auto)]
+
 ghost use Rattle.std.specs.Prelude.{◌≡◌, ◌-◌, ◌≤◌, get_or};
 ghost use Rattle.calendar.specs.Dates.{leap, month_lengths, leap_day, month_length};
 ghost use Rattle.calendar.specs.Dates.{is_date, next_date, is_after, date_of};
@@ -9,7 +11,7 @@ ghost use Rattle.calendar.specs.Dates.{is_date, next_date, is_after, date_of};
 const MONTH_LENGTHS: [u32; 12] = [31, 28, 31, 30, 31, 30, 31, 31, 30, 31, 30, 31];
 
 // A date: any three numbers, of which `is_date` says whether there is such a day.
-#[derive(Drop)]
+#[derive(Clone, Copy)]
 pub struct Date {
     pub year: u32,
     pub month: u32,

@@ -1,5 +1,7 @@
 // Settling a code: it is spelled, and what it spells is read. 01: the settled code; here: the canonical code.
 // The third demand (specs/Demand) rests on the contracts of the two stages and on the theory, never on this text.
+#![tactic(auto)]
+
 ghost use Rattle.std.specs.Prelude.{◌≤◌};
 ghost use Rattle.codes.specs.Flatten.{flattened_answer};
 ghost use Rattle.parser.specs.Parse.{parsed_answer};
@@ -11,7 +13,7 @@ use refusals::Refusal;
 use syntax::Pattern;
 
 // What settling answers: the bit count of the canonical code, or why not.
-#[derive(Drop)]
+#[derive(Clone, Copy)]
 pub enum Canonicalized {
     Bits(u32),
     Refused(Refusal),

@@ -1,11 +1,13 @@
 // What every service that is handed a tape tests first: the table, the tape's length, its bytes.
+#![tactic(auto)]
+
 ghost use Rattle.checks.specs.TapeOrder.{ChecksTape};
 
 use refusals::Refusal;
 use syntax::{Pattern, first_bad, obeys_rules};
 
 // Whether a tape is taken, or why not.
-#[derive(Drop)]
+#[derive(Clone, Copy)]
 pub enum TapeCheck {
     Taken,
     Refused(Refusal),

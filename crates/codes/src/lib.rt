@@ -1,5 +1,7 @@
 // Services on codes: spelling a code, and whether a code spells a tape. Each walks a code once, into cells of its own, and
 // nothing of the caller's is written before the whole code is tested.
+#![tactic(auto)]
+
 ghost use Rattle.std.specs.Prelude.{◌≡◌, ◌≤◌, ◌<◌, length};
 ghost use Rattle.syntax.specs.Letter.{letter_limit};
 ghost use Rattle.table.specs.Cells.{Good, tree_in};
@@ -35,7 +37,7 @@ pub fn spells(table: &[u64; 64], l: usize, code: &[u8], count: u32, tape: &[u8])
 }
 
 // What spelling answers: how many letters, or why not.
-#[derive(Drop)]
+#[derive(Clone, Copy)]
 pub enum Flattened {
     Letters(u32),
     Refused(Refusal),

@@ -11,7 +11,7 @@ use refusals::Refusal;
 use syntax::{Pattern, first_bad, obeys_rules};
 
 // The letters held where no cause holds, or the first cause that does.
-#[derive(Drop)]
+#[derive(Clone, Copy)]
 pub(crate) enum Checked {
     Held(usize),
     Refused(DeskRefusal),

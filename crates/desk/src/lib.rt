@@ -1,5 +1,7 @@
 // The page desk: a tape that arrives in pages, the latest letters first. A page is put before the letters held, and the last page put can be
 // withdrawn.
+#![tactic(auto)]
+
 ghost use Rattle.std.specs.Prelude.{◌≡◌};
 ghost use Rattle.desk.specs.Desks.{desk_number, desk_value, Opens, Puts, Withdraws};
 
@@ -16,7 +18,7 @@ use refusals::{Refusal, number_of, value_of};
 use syntax::Pattern;
 
 // How many pages are held, and how many letters each has, in the order of their putting. Lengths at or past the count mean nothing.
-#[derive(Drop)]
+#[derive(Clone, Copy)]
 pub struct Desk {
     pub count: u8,
     pub lengths: [u8; Desk::MAX_PAGES],
@@ -29,7 +31,7 @@ impl Desk {
 }
 
 // Why a call of the desk refuses: for a cause that 01 has, or for one of the desk's own.
-#[derive(Drop)]
+#[derive(Clone, Copy)]
 pub enum DeskRefusal {
     Base(Refusal),
     DeskLimits,
@@ -38,21 +40,21 @@ pub enum DeskRefusal {
 }
 
 // Whether a call goes on, or why not.
-#[derive(Drop)]
+#[derive(Clone, Copy)]
 pub enum DeskCheck {
     Taken,
     Refused(DeskRefusal),
 }
 
 // What a call answers: the letters held then, or why it is refused.
-#[derive(Drop)]
+#[derive(Clone, Copy)]
 pub enum DeskAnswer {
     Letters(u32),
     Refused(DeskRefusal),
 }
 
 // The desk after a call, and the call's answer.
-#[derive(Drop)]
+#[derive(Clone, Copy)]
 pub struct DeskAfter {
     pub desk: Desk,
     pub answer: DeskAnswer,

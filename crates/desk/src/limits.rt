@@ -8,7 +8,7 @@ use crate::Desk;
 use syntax::{Pattern, first_bad};
 
 // How many letters are held, or that a limit is broken.
-#[derive(Drop)]
+#[derive(Clone, Copy)]
 pub(crate) enum Limits {
     Kept(usize),
     Broken,

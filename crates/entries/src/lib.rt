@@ -5,6 +5,8 @@
 // writes into arrays of the service's own, so that no cell of the caller's is touched before the code is known to be whole; where it is not, they
 // hold anything and nobody reads them. Spelling and comparing lend no cells for accounts. Totals, of a whole tape or of a
 // term, are a loop over what is written, and later tariffs are too.
+#![tactic(auto)]
+
 ghost use Rattle.std.specs.Prelude.{◌≡◌, true, ◌+◌, ◌*◌, ◌≤◌, ◌<◌, length, set};
 ghost use Rattle.syntax.specs.Letter.{letter_limit};
 ghost use Rattle.bits.specs.Bits.{byte_limit};
@@ -23,7 +25,7 @@ use table::{account_at, node_at, table_of};
 use walks::{side_at, stops_at};
 
 // The position behind the bits read and the cell behind the entries, or that the bits are not all there.
-#[derive(Drop)]
+#[derive(Clone, Copy)]
 pub struct Entered {
     pub ok: bool,
     pub at: u32,
@@ -213,7 +215,7 @@ fn put_entries(
 }
 
 // Whether what is handed in is a whole code, and how many letters it spells.
-#[derive(Drop)]
+#[derive(Clone, Copy)]
 pub struct Measured {
     pub whole: bool,
     pub letters: u32,
@@ -259,7 +261,7 @@ pub fn enter(
 }
 
 // What gathering a code's entries answers: how many there are, or why there are none.
-#[derive(Drop)]
+#[derive(Clone, Copy)]
 pub enum Gathered {
     Entries(usize),
     Refused(Refusal),

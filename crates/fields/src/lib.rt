@@ -1,4 +1,6 @@
 // One field of a pattern text, and the values that fields have.
+#![tactic(auto)]
+
 ghost use Rattle.std.specs.Prelude.{◌≡◌, ◌∷◌, [], ◌≤◌, length, get_or};
 ghost use Rattle.fields.specs.Text.{digit, one_digit, two_digits, place, single, account};
 ghost use Rattle.fields.specs.Fields.{stops, field_at, word, longer, account_at};
@@ -34,7 +36,7 @@ const NO_ACCOUNT: u8 = Pattern::MAX_ACCOUNT + 1;
 
 // A field's first two bytes. No good field is longer, so a longer one has size 3 and nothing more is read of it.
 // `stop` is the byte that ends the field, `END` at the text's end, and 0 where the field is longer than two bytes.
-#[derive(Drop)]
+#[derive(Clone, Copy)]
 pub struct Field {
     pub size: usize,
     pub first: u16,
@@ -44,7 +46,7 @@ pub struct Field {
 
 // The account that a field writes, `NO_ACCOUNT` where it writes none. An account has up to three bytes, so a longer field has size 4.
 // `stop` is as in `Field`.
-#[derive(Drop)]
+#[derive(Clone, Copy)]
 pub struct AccountField {
     pub account: u8,
     pub size: usize,

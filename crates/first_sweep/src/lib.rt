@@ -1,5 +1,7 @@
 // The first sweep: the state sets of a tape's positions (01: marks), from the tape's end to its start. `fill` has the tape as a whole, and
 // counts its words from the first position; `put_end` and `grow` have it in pages, the latest letters first, and count from the end.
+#![tactic(auto)]
+
 ghost use Rattle.std.specs.Prelude.{◌≡◌, [], ◌+◌, ◌*◌, ◌≤◌, ◌<◌, eqb, length, get_or};
 ghost use Rattle.std.proofs.lemmas.List.Edits.{sets};
 ghost use Rattle.syntax.specs.Letter.{letter_limit};
@@ -25,7 +27,7 @@ const FILL_NOTES: u64 = 192;
 const PAGE_NOTES: u64 = 32;
 
 // What a sweep over some letters starts from, and where their words go.
-#[derive(Drop)]
+#[derive(Clone, Copy)]
 struct Start {
     // The flag 1 word of the position after the letters, and whether that position is the tape's end: the word does not say it.
     next: u64,

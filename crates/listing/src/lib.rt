@@ -1,4 +1,6 @@
 // The listing of a tape, out of a pattern's text and a tape's bytes: every byte that the program `tapelist` prints.
+#![tactic(auto)]
+
 ghost use Rattle.std.specs.Prelude.{◌≡◌, length};
 ghost use Rattle.bits.specs.Bits.{byte_limit};
 ghost use Rattle.listing.specs.Listing.{listing, pattern_listing, listing_of, word_limit, Lists};
@@ -22,7 +24,7 @@ pub const MAX_LISTING: usize = 262144;
 const MAX_WORDS: usize = 2 * (Pattern::MAX_LETTERS + 1);
 
 // What listing answers: how many bytes the listing has, or that the buffer is shorter than MAX_LISTING.
-#[derive(Drop)]
+#[derive(Clone, Copy)]
 pub enum Listed {
     Bytes(u32),
     TooShort,

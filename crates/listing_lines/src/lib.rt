@@ -1,4 +1,6 @@
 // The lines of a listing, each put into a buffer from `at` on. The answer is where it ends; what does not fit is left out.
+#![tactic(auto)]
+
 ghost use Rattle.std.specs.Prelude.{suc, ◌+◌, ◌*◌, ◌≤◌, length};
 ghost use Rattle.text.specs.Text.{Puts};
 ghost use Rattle.syntax.specs.Table.{account_limit};

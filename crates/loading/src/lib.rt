@@ -1,6 +1,8 @@
 // Loading a pattern: the table that a text writes, or the first line at fault.
 // It is apart from crate syntax because only callers with texts need it. A text is read from front to back and no further than decides it; crate
 // scanning reads a line, crate fields a field.
+#![tactic(auto)]
+
 ghost use Rattle.std.specs.Prelude.{◌≡◌};
 ghost use Rattle.loading.specs.Load.{refused_load, Loads};
 
@@ -12,13 +14,13 @@ use syntax::Pattern;
 use syntax::naming::{TreeFault, tree_fault_of};
 
 // What loading answers: the line count, or why the text is refused.
-#[derive(Drop)]
+#[derive(Clone, Copy)]
 pub enum LoadOutcome {
     Lines(u32),
     Refused(Refusal),
 }
 
-#[derive(Drop)]
+#[derive(Clone, Copy)]
 pub struct Loaded {
     pub pattern: Pattern,
     pub outcome: LoadOutcome,

@@ -8,7 +8,7 @@ use syntax::Pattern;
 const NO_FAULT: usize = Pattern::MAX_LINES + 1;
 
 // The table of the lines before the first form fault, and that fault's line.
-#[derive(Drop)]
+#[derive(Clone, Copy)]
 pub struct Read {
     pub pattern: Pattern,
     pub fault: usize,

@@ -9,7 +9,7 @@ use super::word::{both, either, join, single};
 use syntax::{Leaf, Node};
 use table::{first_part, node_at, second_part};
 
-#[derive(Drop)]
+#[derive(Clone, Copy)]
 pub struct First {
     pub leaves: u64,
     pub nullable: bool,

@@ -12,7 +12,7 @@ use syntax::Node;
 use table::{first_part, node_at, second_part};
 
 // Leaves that can be reached after a node by empty steps, with flag 0 and with flag 1; and whether the end can be, with flag 1.
-#[derive(Drop)]
+#[derive(Clone, Copy)]
 pub struct Follow {
     pub zero: u64,
     pub one: u64,

@@ -4,6 +4,8 @@
 // They are made once a pattern, by loops over the lines of its table.
 // Loops, since a recursion for each leaf would copy the table for each node. Lent arrays of plain numbers, since arrays that go by value or hold
 // structs are copied at each call. Over the table and its count, since a pattern by value in each loop doubles the time of the check.
+#![tactic(auto)]
+
 ghost use Rattle.std.specs.Prelude.{◌-◌};
 ghost use Rattle.syntax.specs.Trees.{tree_of};
 ghost use Rattle.table.specs.Cells.{line_in};

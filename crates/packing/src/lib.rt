@@ -1,4 +1,6 @@
 // Answers for callers from C, each one number: the cause's number (0: none) in its upper 32 bits, the value beside it in the lower 32.
+#![tactic(auto)]
+
 ghost use Rattle.std.specs.Prelude.{◌≡◌, get_or};
 ghost use Rattle.refusals.specs.Refusals.{answer};
 ghost use Rattle.loading.specs.Load.{outcome_answer};

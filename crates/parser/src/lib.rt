@@ -1,5 +1,7 @@
 // Reading a tape: the tests, the state sets by the first sweep, and the bits of the preferred parse by the second.
 // The sweeps are crates of their own, so that the edits of this service do not cost their proofs again.
+#![tactic(auto)]
+
 ghost use Rattle.std.specs.Prelude.{◌<◌};
 ghost use Rattle.table.specs.Cells.{Good};
 ghost use Rattle.checks.specs.TapeLaws.{IsTaken};
@@ -15,7 +17,7 @@ use syntax::Pattern;
 use table::table_of;
 
 // What reading a tape answers: the bit count of its code, or why it is refused.
-#[derive(Drop)]
+#[derive(Clone, Copy)]
 pub enum Parsed {
     Bits(u32),
     Refused(Refusal),

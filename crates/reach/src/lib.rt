@@ -4,6 +4,8 @@
 // and that one of these nodes reaches by empty steps; after it their followers. The tape is read until no leaf is left.
 // From the end the first sweep's step is made for each letter, and one word is kept: the letters from a position on end a tape exactly if its flag 1
 // word is not 0. So no words are lent, and none are stored: the words of a tape would take 57 KB of stack.
+#![tactic(auto)]
+
 ghost use Rattle.std.specs.Prelude.{◌≡◌, cond, ◌*◌, ◌^◌, ◌≤◌, ◌<◌, length};
 ghost use Rattle.syntax.specs.Trees.{root};
 ghost use Rattle.bits.specs.Unions.{pick};
@@ -22,7 +24,7 @@ use syntax::Pattern;
 use table::{follower_at, table_of};
 
 // What locating answers: the reach of the tape and the position at which it resumes, or why it is refused.
-#[derive(Drop)]
+#[derive(Clone, Copy)]
 pub enum Located {
     Positions(u16, u16),
     Refused(Refusal),

@@ -1,9 +1,11 @@
 // Why services refuse, and 01's numbers for it, for callers that know no enum. A later service has an enum of its own that wraps this one.
+#![tactic(auto)]
+
 ghost use Rattle.std.specs.Prelude.{◌≡◌};
 ghost use Rattle.refusals.specs.Refusals.{number, value};
 
 // Why a service refuses, with the value returned beside the cause's number.
-#[derive(Drop)]
+#[derive(Clone, Copy)]
 pub enum Refusal {
     LineForm(u32),
     Tree(u32),

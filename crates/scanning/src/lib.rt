@@ -1,4 +1,6 @@
 // One line of a pattern text, read field by field. A line is refused as soon as a field decides it.
+#![tactic(auto)]
+
 ghost use Rattle.std.specs.Prelude.{◌≡◌, ◌≤◌, ◌<◌, length, drop};
 ghost use Rattle.syntax.specs.Letter.{is_letter};
 ghost use Rattle.syntax.specs.Table.{account_limit};
@@ -25,14 +27,14 @@ const STAR: u16 = b'K' as u16;
 const LAZY_STAR: u16 = b'Z' as u16;
 
 // What a kind and the fields after the account say.
-#[derive(Drop)]
+#[derive(Clone, Copy)]
 pub enum ScannedNode {
     Node(Node),
     Fault,
 }
 
 // A line of the table with the position behind it, or a fault of the line's form.
-#[derive(Drop)]
+#[derive(Clone, Copy)]
 pub enum Scanned {
     Line(Line, usize),
     Fault,

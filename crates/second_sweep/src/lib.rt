@@ -4,6 +4,8 @@
 // place in the root's tree is carried through the recursion.
 // Positions on the tape have 16 bits: a sweep asks for a tape of at most 3,600 letters (`CanSweep`), so none of them and no sum of them wraps.
 // Bits keep 32, since a code can have 478,801 of them.
+#![tactic(auto)]
+
 ghost use Rattle.std.specs.Prelude.{◌≡◌, ◌&&◌, ◌||◌, not, eqb, ltb, ◌+◌, ◌*◌, ◌≤◌, ◌<◌, length};
 ghost use Rattle.bits.specs.Bits.{bits_of};
 ghost use Rattle.semantics.specs.Code.{code_limit};
@@ -18,7 +20,7 @@ use table::{follower_at, loops_at, node_at};
 const END: usize = 64;
 
 // The bit behind the bits written, and the position behind the letters read.
-#[derive(Drop)]
+#[derive(Clone, Copy)]
 pub struct Swept {
     pub at: u32,
     pub position: u16,

@@ -15,14 +15,14 @@ use walks::{side_at, stops_at};
 
 // A visit found: its start and its size. Or the visits were all passed: the bit of the code and the letter of the tape where the search goes on,
 // and how many visits are still to be passed.
-#[derive(Drop)]
+#[derive(Clone, Copy)]
 pub enum Found {
     Hit(u32, u32),
     Passed(u32, u32, u32),
 }
 
 // How many bits a leaf takes, and how many letters.
-#[derive(Drop)]
+#[derive(Clone, Copy)]
 pub struct Step {
     pub bits: u32,
     pub letters: u32,

@@ -1,6 +1,8 @@
 // Services on codes: the spans of a code's visits.
 // They are apart from crate codes because no other service needs their walk and its laws. Whether the code is the tape's is asked of
 // `codes::spells`, so that a code is tested once and `find` goes over one that is known to be whole.
+#![tactic(auto)]
+
 ghost use Rattle.std.specs.Prelude.{◌≡◌};
 ghost use Rattle.checks.specs.TapeLaws.{IsTaken};
 ghost use Rattle.spans.specs.Spans.{Spans, refused_span, span_shown};
@@ -16,14 +18,14 @@ use syntax::Pattern;
 use table::table_of;
 
 // What showing a piece answers: that it is shown, or why not.
-#[derive(Drop)]
+#[derive(Clone, Copy)]
 pub enum SpanOutcome {
     Shown,
     Refused(Refusal),
 }
 
 // The answer, and where the piece starts and how long it is.
-#[derive(Drop)]
+#[derive(Clone, Copy)]
 pub struct Spanned {
     pub outcome: SpanOutcome,
     pub start: u32,

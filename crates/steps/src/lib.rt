@@ -6,6 +6,8 @@
 // leaves that take the letter, so letters that the same leaves take share one. A column is chosen by the lowest of these leaves and belongs to
 // the first leaves that ask for it; others make their steps each time.
 // A tape with more pairs, or with many new steps, goes on without numbers: there the table would cost more than it saves.
+#![tactic(auto)]
+
 ghost use Rattle.std.specs.Prelude.{◌≡◌, ◌&&◌, eqb, ◌*◌, ◌≤◌, ◌<◌, length};
 ghost use Rattle.bits.specs.Bits.{bit};
 ghost use Rattle.steps.specs.Steps.{open_next, step_of};
@@ -25,7 +27,7 @@ pub const COLUMNS: usize = 64;
 pub const WAY_CELLS: usize = 2560;
 
 // The two state sets of a position: with flag 0 and with flag 1.
-#[derive(Drop)]
+#[derive(Clone, Copy)]
 pub struct Words {
     pub zero: u64,
     pub one: u64,

@@ -1,6 +1,8 @@
 // Patterns: the table of nodes, the test of the pattern rules, and letters.
 // Everything else speaks of patterns, and this crate needs nothing. A table can be made by hand, so every service asks `obeys_rules`; its
 // promise is one truth value for the code, and law `obeys_iff` gives proofs the rules as facts.
+#![tactic(auto)]
+
 ghost use Rattle.std.specs.Prelude.{◌≡◌};
 ghost use Rattle.syntax.specs.Letter.{is_letter, in_range, first_bad};
 ghost use Rattle.syntax.specs.Table.{no_lines, obeys};
@@ -12,7 +14,7 @@ use naming::{TreeFault, tree_fault_of};
 use table::good_lines;
 
 // A leaf of the pattern.
-#[derive(Drop)]
+#[derive(Clone, Copy)]
 pub enum Leaf {
     Nothing,
     Letter(u8),
@@ -21,7 +23,7 @@ pub enum Leaf {
 
 // A node. The parts of one that is no leaf are indices into the table. A star has the bit that it writes before each round: false, written 0,
 // for the greedy star (01: kind `K`), true, written 1, for the lazy one (02: kind `Z`). It writes the other bit to stop.
-#[derive(Drop)]
+#[derive(Clone, Copy)]
 pub enum Node {
     Leaf(Leaf),
     Sequence(u8, u8),
@@ -30,14 +32,14 @@ pub enum Node {
 }
 
 // A line of the table: a node and its account, 0 for none.
-#[derive(Drop)]
+#[derive(Clone, Copy)]
 pub struct Line {
     pub account: u8,
     pub node: Node,
 }
 
 // The table of a pattern. Lines at or past the count mean nothing.
-#[derive(Drop)]
+#[derive(Clone, Copy)]
 pub struct Pattern {
     pub count: usize,
     pub lines: [Line; 64],

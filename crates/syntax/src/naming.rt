@@ -6,21 +6,21 @@ ghost use Rattle.syntax.specs.Naming.{name_one, name_all, NamesWrongly, first_un
 use super::{Node, Pattern};
 
 // Whether parts are rightly named, and which nodes are named then.
-#[derive(Drop)]
+#[derive(Clone, Copy)]
 pub struct Naming {
     pub ok: bool,
     pub named: [bool; 64],
 }
 
 // The first line with a wrongly named part, the line count where there is none, and which nodes are named then.
-#[derive(Drop)]
+#[derive(Clone, Copy)]
 pub struct Names {
     pub line: usize,
     pub named: [bool; 64],
 }
 
 // The line of a tree fault.
-#[derive(Drop)]
+#[derive(Clone, Copy)]
 pub enum TreeFault {
     Line(usize),
     Nothing,

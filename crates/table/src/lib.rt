@@ -3,6 +3,8 @@
 // reference, where a table by value would be copied at each call.
 // Every kind's number from 6 on means a lazy star, so that each cell has a node and no reader needs a fault case. Followers are handed down from the
 // last line to the first, by one law (specs/HandDown) that also gives the follow sets of crate masks.
+#![tactic(auto)]
+
 ghost use Rattle.std.specs.Prelude.{◌≡◌, ◌-◌, ◌≤◌, ◌<◌, ◌/◌, ◌%◌, length, replicate};
 ghost use Rattle.syntax.specs.TreeLaws.{Rules};
 ghost use Rattle.table.specs.HandDown.{first_part, second_part, Rooted};
@@ -28,7 +30,7 @@ const HALF: u64 = 4294967296;
 const ABOVE: u64 = 256;
 
 // A node as three numbers. Which of them a kind uses, and for what, `node_of` says.
-#[derive(Drop)]
+#[derive(Clone, Copy)]
 pub struct Numbers {
     pub kind: u8,
     pub first: u8,

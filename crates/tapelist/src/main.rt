@@ -2,6 +2,8 @@
 // cannot be opened or read gives a message on standard error and nothing on standard output. The listing is what
 // `listing::list` gives. Started with an argument, whatever it is, the program prints one line more, where the tape breaks: the
 // word `located` and the two positions that `reach::locate` gives, or the line of its refusal.
+#![tactic(auto)]
+
 ghost use Rattle.std.specs.Prelude.{◌≤◌, length};
 ghost use Rattle.text.specs.Text.{Puts};
 ghost use Rattle.tapelist.specs.Printing.{text_least, tape_least, Held, Prints, located_line, Tells};

@@ -56,7 +56,7 @@ pub(crate) fn is_term(term: Term) -> bool
 }
 
 // A date, and whether it lies in the term: asked once a day, not once a letter.
-#[derive(Drop)]
+#[derive(Clone, Copy)]
 pub(crate) struct Day {
     pub date: Date,
     pub inside: bool,

@@ -1,6 +1,8 @@
 // Litres by account within a billing term: the days from a first date to a last one, both included.
 // The code's entries are gathered as for totals. A letter's date is the start, stepped once for each `D` before it. No date falls along the tape,
 // and a step of what is no date leaves it as it is, so all letters have a date if the last one has.
+#![tactic(auto)]
+
 ghost use Rattle.std.specs.Prelude.{◌≡◌, ◌≤◌, length};
 ghost use Rattle.syntax.specs.Letter.{letter_limit};
 ghost use Rattle.entries.specs.Gather.{pairs, Owned};
@@ -18,14 +20,14 @@ use syntax::Pattern;
 use totals::add_up;
 
 // A billing term: its first and its last day, both included. Any two dates, of which `is_term` says whether they are those of a term.
-#[derive(Drop)]
+#[derive(Clone, Copy)]
 pub struct Term {
     pub first: Date,
     pub last: Date,
 }
 
 // Why totalling within a term refuses: as totalling does, or for its dates.
-#[derive(Drop)]
+#[derive(Clone, Copy)]
 pub enum TermRefusal {
     Base(Refusal),
     TapeUndated,
@@ -33,14 +35,14 @@ pub enum TermRefusal {
 }
 
 // What totalling within a term answers: that the litres are added up, or why not.
-#[derive(Drop)]
+#[derive(Clone, Copy)]
 pub enum TermOutcome {
     Added,
     Refused(TermRefusal),
 }
 
 // The answer, and the litres of accounts 0 to `Pattern::MAX_ACCOUNT`.
-#[derive(Drop)]
+#[derive(Clone, Copy)]
 pub struct TermTotalled {
     pub outcome: TermOutcome,
     pub litres: [u32; Pattern::ACCOUNTS],

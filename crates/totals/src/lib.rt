@@ -1,4 +1,6 @@
 // Litres by account. The entries of the code are gathered into arrays of the service's own, and nothing is added before the whole code is tested.
+#![tactic(auto)]
+
 ghost use Rattle.std.specs.Prelude.{◌≡◌, ◌+◌, ◌*◌, ◌≤◌, ◌<◌, length, get_or};
 ghost use Rattle.syntax.specs.Letter.{letter_limit};
 ghost use Rattle.semantics.specs.Accounts.{litres, totals};
@@ -47,14 +49,14 @@ pub fn add_up(letters: &[u8], accounts: &[u8], n: usize) -> [u32; Pattern::ACCOU
 }
 
 // What totalling answers: that the litres are added up, or why not.
-#[derive(Drop)]
+#[derive(Clone, Copy)]
 pub enum TotalsOutcome {
     Added,
     Refused(Refusal),
 }
 
 // The answer, and the litres of accounts 0 to `Pattern::MAX_ACCOUNT`.
-#[derive(Drop)]
+#[derive(Clone, Copy)]
 pub struct Totalled {
     pub outcome: TotalsOutcome,
     pub litres: [u32; Pattern::ACCOUNTS],

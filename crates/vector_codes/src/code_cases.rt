@@ -120,7 +120,7 @@ fn print_totals(totalled: Totalled) {
 }
 
 // How many tape cells, words and code bytes are lent.
-#[derive(Drop)]
+#[derive(Clone, Copy)]
 struct Lent {
     letters: usize,
     words: usize,

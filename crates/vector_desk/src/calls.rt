@@ -9,7 +9,7 @@ use text::{least, put_byte, put_bytes};
 use vector_text::{MAX_TAPE, decode, field, number, rest, say_bad};
 
 // What is left to do: bytes of the line; and bytes of the pattern's text.
-#[derive(Drop)]
+#[derive(Clone, Copy)]
 pub(crate) struct Next {
     pub(crate) left: usize,
     pub(crate) size: usize,

@@ -8,6 +8,8 @@
 // Each call prints a line. The calls are crate desk's own `open`, `put` and `withdraw`, on a desk that is lent, the form that 01 names. Those from C,
 // and what they make of texts and of the desk's bytes, are run from C: tests/differential, tests/guard and the tests of the bindings.
 // Totals in lent cells have a module of their own, since only these calls have cells that can be too few.
+#![tactic(auto)]
+
 mod calls; // calls.rt: the steps
 mod litres; // litres.rt: totals in lent cells
 mod own; // own.rt: the calls of crate desk

@@ -1,6 +1,8 @@
 // For tests alone: the text of the vectors. The lines of the input, the fields of a case's line, and cells shown.
 // A line is read by steps, and the loop stays in the program, since there are no closures: a step holds what is left of a chunk, promised in
 // full, or reads a new one, of whose bytes nothing can be promised. Digests are two functions, since there are no generics.
+#![tactic(auto)]
+
 mod cells; // cells.rt: cells shown whole or as digests
 mod digest; // digest.rt: digests of cells
 mod fields; // fields.rt: the fields of a case's line

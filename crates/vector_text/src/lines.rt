@@ -8,7 +8,7 @@ use text::least;
 
 // The bytes of the chunk from `from` to before `to` are still to be held. `size` counts those held of a line; one above
 // the line's length marks a line that does not fit. A line that is complete is to be used before the next step.
-#[derive(Drop)]
+#[derive(Clone, Copy)]
 pub struct Input {
     pub from: usize,
     pub to: usize,

@@ -7,7 +7,7 @@ use text::{put_byte, put_pair, put_parted, put_refusal};
 use vector_text::print_line;
 
 // The fields of a node's line: kind, account and what the kind needs, 0 where it needs less.
-#[derive(Drop)]
+#[derive(Clone, Copy)]
 struct Row(u8, u8, u8, u8);
 
 fn row_of_leaf(account: u8, leaf: Leaf) -> Row {

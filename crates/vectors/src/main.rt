@@ -5,6 +5,8 @@
 // hexadecimal comes next; the fields behind it stand in the kind's module, here or in crates vector_codes and vector_desk. Fields
 // are parted by spaces. Byte 10 ends each line of the input; what stands after the last one is left out.
 // Asked for more cells than its arrays have, the program lends all of them; no such case is stored.
+#![tactic(auto)]
+
 mod load_cases; // load_cases.rt: loading a text
 mod locate_cases; // locate_cases.rt: where a tape breaks
 mod parse_cases; // parse_cases.rt: reading a tape

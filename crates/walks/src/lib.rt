@@ -1,5 +1,7 @@
 // What a walk over a code asks of its bits, whatever it is for: which side an alternative takes, and whether a star stops. What a whole code is
 // (specs/Whole) is said here for every service on codes, and what a walk sees at each kind of node (specs/Looks) for any function of the value.
+#![tactic(auto)]
+
 ghost use Rattle.std.specs.Prelude.{◌≡◌, cond, ◌*◌, ◌<◌, length};
 ghost use Rattle.bits.specs.Bits.{bit_at};
 ghost use Rattle.walks.specs.Looks.{stops};

@@ -2,6 +2,8 @@
 // upper 32 bits, the value beside it in the lower 32. A slice is passed as a pointer and a length. include/wumbyra.h declares the calls.
 // Contracts unpack an answer, as a caller does: quotient and remainder need no condition. Load, flatten, span, totals and opening a desk are
 // equations; parse, canonicalize, locate, and putting and withdrawing a page hand on the promise of their service, so that nothing is said twice.
+#![tactic(auto)]
+
 ghost use Rattle.std.specs.Prelude.{◌≡◌};
 ghost use Rattle.loading.specs.Load.{load_answer};
 ghost use Rattle.packing.specs.Packing.{unpacked};
