@@ -103,7 +103,7 @@ module _ (bs : List Bool) where
   module _ {X : Type 0} (m : Label) (low high : ℕ) (f : Value (range m low high) → X) (i : ℕ) where
     pub see_short : length bs < i + 8 → see bs (range m low high) f i ≡ none
     unfolding see read
-    see_short h = ap (seen (length bs) (range m low high) f) (get_bits_short 8 _ (drop i bs) (omega (arith, length-drop i bs)))
+    see_short h = ap (seen (length bs) (range m low high) f) (get_bits_short 8 (λ c r. checked low high c (λ v s. some (v, s)) r (in_range low high c) refl) (drop i bs) (omega (arith, length-drop i bs)))
 
     abbrev look : ℕ → List Bool → Read (range m low high)
     look c r = checked low high c (λ v s. some (v, s)) r (in_range low high c) refl

@@ -1,0 +1,11 @@
+-- `calendar::table_length` meets its contract: the code's table is the definition's.
+use mathlib.Core.Path.{refl}
+use borrow.Author.Rules.{rules}
+use Rattle.calendar.proofs.table_length.Goals as goal
+
+-- LOST array-read-result : tie.Need-array-read-result
+-- array-read-result c = search rules
+-- 
+
+pub returns : goal.returns
+returns c = refl

@@ -1,0 +1,6 @@
+-- `loading::refuse` meets its contract.
+use borrow.Author.Rules.{rules}
+use Rattle.loading.proofs.refuse.Goals as goal
+
+pub returns : goal.returns
+returns c = rw c.new-pattern.ensures

@@ -1,0 +1,6 @@
+use Rattle.masks.specs.Follows.{follow_same}
+use borrow.Author.Rules.{rules}
+use Rattle.masks.proofs.follows.before_second.Goals as goal
+
+pub returns : goal.returns
+returns c = follow_same c.join.ensures c.join-2.ensures c.both.ensures

@@ -1,0 +1,13 @@
+-- `masks::scatter::put_row` meets its contract.
+use native.Mathlib.Omega.{arith}
+use mathlib.Core.Path.{refl}
+use Rattle.bits.specs.Lowest.{Lowest, lowest}
+use Rattle.masks.specs.Scatter.{RowLeft, row-start, row_next, row_end}
+use borrow.Author.Rules.{rules}
+use Rattle.masks.proofs.scatter.put_row.Given as goal
+
+abbrev pub invariant-loop-rest : goal.invariant-loop-rest
+invariant-loop-rest l = RowLeft l.row l.i l.initial.cells l.rest l.cells
+
+abbrev pub decreases-loop-rest : goal.decreases-loop-rest
+decreases-loop-rest l = l.rest

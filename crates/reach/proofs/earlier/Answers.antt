@@ -1,0 +1,10 @@
+-- `reach::earlier` meets its contract.
+use mathlib.Core.Path.{refl}
+use borrow.Author.Tests.{eq-eqb, ne_eqb}
+use Rattle.reach.proofs.earlier.Goals as goal
+
+pub returns-then-word-eq0 : goal.returns-then-word-eq0
+returns-then-word-eq0 c = rw (eq-eqb c.args.word 0 c.if-word-eq0.true) refl
+
+pub returns : goal.returns
+returns c = rw (ne_eqb c.args.word 0 c.if-word-eq0.false) refl

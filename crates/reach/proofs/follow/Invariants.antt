@@ -1,0 +1,15 @@
+-- `reach::follow` meets its contract.
+use native.Mathlib.Omega.{arith}
+use mathlib.Core.Path.{refl, ap, ◌∙◌}
+use Rattle.reach.specs.FrontWords.{state_word}
+use Rattle.table.specs.Cells.{follower_in}
+use Rattle.reach.specs.Reaching.{Joined, joined-start, joined_next, each, following_end}
+use Rattle.bits.specs.Lowest.{Lowest, lowest}
+use borrow.Author.Rules.{rules}
+use Rattle.reach.proofs.follow.Given as goal
+
+abbrev pub invariant-loop-rest : goal.invariant-loop-rest
+invariant-loop-rest l = Joined l.leaves each (λ y. state_word (follower_in l.table y)) l.rest l.nodes
+
+abbrev pub decreases-loop-rest : goal.decreases-loop-rest
+decreases-loop-rest l = l.rest

@@ -1,0 +1,6 @@
+-- `scanning::finish` meets its contract.
+use borrow.Author.Rules.{rules}
+use Rattle.scanning.proofs.finish.Goals as goal
+
+pub returns-in-Node : goal.returns-in-Node
+returns-in-Node c = rw c.in-Node.is

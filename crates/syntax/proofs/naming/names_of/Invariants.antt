@@ -1,0 +1,13 @@
+-- `syntax::naming::names_of` meets its contract.
+use Prim.Native.Nat.{◌-◌}
+use borrow.Author.Tests.{not-true, not-false}
+use Rattle.syntax.specs.Naming.{NamedSoFar}
+use Rattle.syntax.specs.Names.{names_start, names_end, names_wrong, names_on}
+use borrow.Author.Rules.{rules}
+use Rattle.syntax.proofs.naming.names_of.Given as goal
+
+abbrev pub invariant-loop-i : goal.invariant-loop-i
+invariant-loop-i l = NamedSoFar l.p l.named l.i
+
+abbrev pub decreases-loop-i : goal.decreases-loop-i
+decreases-loop-i l = l.p.count - l.i

@@ -1,0 +1,14 @@
+-- `syntax::naming::unnamed_of` meets its contract.
+use Prim.Native.Nat.{◌-◌, ◌≤◌}
+use native.Mathlib.Omega.{arith}
+use mathlib.Core.Path.{sym, ap}
+use Rattle.syntax.specs.Lowest.{Searched, searched_start, searched_end, searched_here, searched_on}
+use Rattle.syntax.specs.Naming.{not_flagged, fault_of}
+use borrow.Author.Rules.{rules}
+use Rattle.syntax.proofs.naming.unnamed_of.Given as goal
+
+abbrev pub invariant-loop-l : goal.invariant-loop-l
+invariant-loop-l l = (l.l ≤ l.count) × Searched (not_flagged l.named) (l.count - 1) l.l
+
+abbrev pub decreases-loop-l : goal.decreases-loop-l
+decreases-loop-l l = l.count - l.l

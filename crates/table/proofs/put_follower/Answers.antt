@@ -1,0 +1,7 @@
+-- `table::put_follower` meets its contract.
+use Rattle.table.specs.CellLaws.{follower-put}
+use borrow.Author.Rules.{rules}
+use Rattle.table.proofs.put_follower.Goals as goal
+
+pub returns : goal.returns
+returns c = follower-put _ _ _ c.requires.0

@@ -1,0 +1,13 @@
+-- `table::put_lines` meets its contract.
+use mathlib.Core.Path.{sym, ap, ◌∙◌}
+use Prim.Native.Nat.{◌-◌}
+use lib.ListN.{length}
+use Rattle.table.specs.CellLaws.{Filled, filled-start, filled_next, filled_end}
+use borrow.Author.Rules.{rules}
+use Rattle.table.proofs.put_lines.Given as goal
+
+abbrev pub invariant-loop-i : goal.invariant-loop-i
+invariant-loop-i l = Filled l.p l.table l.i
+
+abbrev pub decreases-loop-i : goal.decreases-loop-i
+decreases-loop-i l = l.p.count - l.i

@@ -1,0 +1,12 @@
+-- `tapelist::read_all` is safe and ends. The length of `buf` stays; the measure is what is left of it.
+use mathlib.Core.Path.{◌≡◌}
+use Prim.Native.Nat.{◌-◌, ◌≤◌}
+use lib.ListN.{length}
+use borrow.Author.Rules.{rules}
+use Rattle.tapelist.proofs.read_all.Given as goal
+
+abbrev pub invariant-loop-at : goal.invariant-loop-at
+invariant-loop-at l = (length l.buf ≡ length l.initial.buf) × (l.at ≤ length l.buf)
+
+abbrev pub decreases-loop-at : goal.decreases-loop-at
+decreases-loop-at l = length l.initial.buf - l.at

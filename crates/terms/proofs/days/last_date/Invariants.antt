@@ -1,0 +1,11 @@
+-- `terms::days::last_date` meets its contract.
+use Prim.Native.Nat.{◌-◌}
+use Rattle.terms.specs.Days.{Stepped, stepped_start, stepped_next, stepped_end}
+use borrow.Author.Rules.{rules}
+use Rattle.terms.proofs.days.last_date.Given as goal
+
+abbrev pub invariant-loop-i : goal.invariant-loop-i
+invariant-loop-i l = Stepped l.letters l.initial.date l.date l.n l.i
+
+abbrev pub decreases-loop-i : goal.decreases-loop-i
+decreases-loop-i l = l.n - l.i

@@ -1,0 +1,11 @@
+-- `terms::selection::keep_entry` meets its contract.
+use borrow.Author.Tests.{not-true, not-false}
+use Rattle.terms.specs.Selection.{kept-inside, kept_outside}
+use borrow.Author.Rules.{rules}
+use Rattle.terms.proofs.selection.keep_entry.Goals as goal
+
+pub returns-then-not-inside : goal.returns-then-not-inside
+returns-then-not-inside c = kept_outside _ _ _ _ _ (not-true _ c.if-not-inside.true-raw)
+
+pub returns : goal.returns
+returns c = kept-inside _ _ _ _ _ (not-false _ c.if-not-inside.false-raw)

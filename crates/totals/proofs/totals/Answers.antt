@@ -1,0 +1,17 @@
+-- `totals::totals` meets its contract.
+use mathlib.Core.Path.{ap, ◌∙◌}
+use Rattle.semantics.specs.Accounts.{totals}
+use Rattle.totals.specs.TotalsLaws.{totals-refused, totals-added}
+use borrow.Author.Rules.{rules}
+use Rattle.totals.proofs.totals.Goals as goal
+
+pub add_up-requires : goal.add_up-requires
+add_up-requires c =     (c.gather-gathered.ensures.holds _ c.in-Entries.is).ready
+
+pub returns-in-Refused : goal.returns-in-Refused
+returns-in-Refused c =     let gathers = c.gather-gathered.ensures in
+    rw c.no_totals.ensures (totals-refused _ _ _ _ (gathers.refuses _ c.in-Refused.is))
+
+pub returns-in-Entries : goal.returns-in-Entries
+returns-in-Entries c =     let held = c.gather-gathered.ensures.holds _ c.in-Entries.is in
+    totals-added _ _ _ held.clear _ (c.add_up.ensures ∙ ap totals held.entries)

@@ -1,0 +1,7 @@
+-- `wumbyra::wumbyra_locate` meets its contract.
+use Rattle.wumbyra.specs.PackedLaws.{locate_packed}
+use borrow.Author.Rules.{rules}
+use Rattle.wumbyra.proofs.wumbyra_locate.Goals as goal
+
+pub returns : goal.returns
+returns c = locate_packed _ _ c.load-loaded.ensures _ _ c.locate-located.ensures _ c.of_located.ensures
