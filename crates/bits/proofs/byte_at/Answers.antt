@@ -8,7 +8,7 @@ use borrow.Author.Rules.{rules}
 use Rattle.bits.proofs.byte_at.Goals as goal
 
 pub returns-then-r-eq0 : goal.returns-then-r-eq0
-returns-then-r-eq0 c =     sym (number_at-whole 8 c.args.code.now (λ k. c.type_inv.code k) c.args.i (omega arith) (omega arith) (omega arith))
+returns-then-r-eq0 c =     sym (number_at-whole 8 c.args.code.now (λ k. (c.type_inv.code k).fits) c.args.i (omega arith) (omega arith) (omega arith))
 
 pub returns : goal.returns
 returns c =     let xs = c.args.code.now in
@@ -16,4 +16,4 @@ returns c =     let xs = c.args.code.now in
     let first : c.wide.result ≡ get_or xs (i / 8) 0 = c.wide.ensures.0 in
     let second : c.wide-2.result ≡ get_or xs (i / 8 + 1) 0 = c.wide-2.ensures.0 in
     ap₂ (λ x y. (x * 256 + y) / 2 ^ (8 - i % 8) % 256) first second
-    ∙ sym (number_at-parts 8 xs (λ k. c.type_inv.code k) i (omega arith) (omega arith))
+    ∙ sym (number_at-parts 8 xs (λ k. (c.type_inv.code k).fits) i (omega arith) (omega arith))

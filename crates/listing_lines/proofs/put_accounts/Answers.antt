@@ -21,5 +21,5 @@ loop-i-preserved c =     let litres = c.args.litres.now in
 pub returns : goal.returns
 returns c =     let litres = c.args.litres.now in (
       put_done _ _ _ _ _ _ _ c.loop-i.invariant (inl (accounts_over c.loop-i.i litres c.loop-i-test.false)),
-      accounts-length litres c.requires (λ k. c.type_inv.litres k),
+      accounts-length litres c.requires (λ k. (c.type_inv.litres k).fits),
     )

@@ -12,7 +12,7 @@ use Rattle.reach.proofs.reach_over.Goals as goal
 -- a byte of the tape
 letter : (c : goal.After-shared_slice_known-in-loop-i-1)
     → get_or c.args.tape.now c.loop-i.i 0 < 256
-letter c = omega (arith, c.type_inv.tape c.loop-i.i)
+letter c = omega (arith, (c.type_inv.tape c.loop-i.i).fits)
 
 pub loop-i-init : goal.loop-i-init
 loop-i-init c = reading-start _ _ _ _ _ _ (mod-eq_of_lt (let h : c.args.count - 1 < 64 = omega arith in omega (arith, pow-lt h)))

@@ -10,7 +10,7 @@ use Rattle.reach.proofs.resume_over.Goals as goal
 -- a byte of the tape
 letter : (c : goal.After-shared_slice_known-in-loop-i-1)
     → get_or c.args.tape.now (c.loop-i.i - 1) 0 < 256
-letter c = omega (arith, c.type_inv.tape (c.loop-i.i - 1))
+letter c = omega (arith, (c.type_inv.tape (c.loop-i.i - 1)).fits)
 
 pub loop-i-init : goal.loop-i-init
 loop-i-init c = resuming_start _ _ _ _ _ _
