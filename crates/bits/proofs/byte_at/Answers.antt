@@ -8,10 +8,10 @@ use borrow.Author.Rules.{rules}
 use Rattle.bits.proofs.byte_at.Goals as goal
 
 pub returns-then-r-eq0 : goal.returns-then-r-eq0
-returns-then-r-eq0 c =     sym (number_at-whole 8 c.args.code.now (λ k. (c.type_inv.code k).fits) c.args.i (omega arith) (omega arith) (omega arith))
+returns-then-r-eq0 c = sym (number_at-whole 8 c.args.code.now (λ k. (c.type_inv.code k).fits) c.args.i (omega arith) (omega arith) (omega arith))
 
 pub returns : goal.returns
-returns c =     let xs = c.args.code.now in
+returns c = let xs = c.args.code.now in
     let i = c.args.i in
     let first : c.wide.result ≡ get_or xs (i / 8) 0 = c.wide.ensures.0 in
     let second : c.wide-2.result ≡ get_or xs (i / 8 + 1) 0 = c.wide-2.ensures.0 in

@@ -13,15 +13,15 @@ pub returns-then-n-gt-MAX_CODE_BYTES : goal.returns-then-n-gt-MAX_CODE_BYTES
 returns-then-n-gt-MAX_CODE_BYTES c = sym (handed_over c.args.code.now c.args.count (omega arith))
 
 pub returns-then-n-bytes_for : goal.returns-then-n-bytes_for
-returns-then-n-bytes_for c =     let xs = c.args.code.now in
+returns-then-n-bytes_for c = let xs = c.args.code.now in
     sym (handed-within xs c.args.count (omega arith) ∙ exact_wrong 8 xs c.args.count (λ e. c.if-n-bytes_for.true (e ∙ sym c.bytes_for.ensures)))
 
 pub returns-then-r-eq0 : goal.returns-then-r-eq0
-returns-then-r-eq0 c =     let xs = c.args.code.now in
+returns-then-r-eq0 c = let xs = c.args.code.now in
     sym (handed-within xs c.args.count (omega arith) ∙ exact-whole 8 xs c.args.count (omega arith) (omega arith) (omega arith))
 
 pub returns : goal.returns
-returns c =     let xs = c.args.code.now in
+returns c = let xs = c.args.code.now in
     let n = c.args.count in
     let kept : c.high_bits.result ≡ high_bits 8 (n % 8) (get_or xs (n / 8) 0) = c.high_bits.ensures in
     ap (λ h. eqb h (get_or xs (n / 8) 0)) kept

@@ -4,7 +4,7 @@ use borrow.Author.Rules.{rules}
 use Rattle.bits.proofs.is_open.Goals as goal
 
 pub returns-then-taken : goal.returns-then-taken
-returns-then-taken c =     word_one c.args.words.now c.args.i c.args.taken c.args.l c.if-taken.true
+returns-then-taken c = word_one c.args.words.now c.args.i c.args.taken c.args.l c.if-taken.true
 
 pub returns : goal.returns
-returns c =     word-zero c.args.words.now c.args.i c.args.taken c.args.l c.if-taken.false
+returns c = word-zero c.args.words.now c.args.i c.args.taken c.args.l c.if-taken.false

@@ -12,5 +12,5 @@ pub returns-then-high-c : goal.returns-then-high-c
 returns-then-high-c c = range_high _ _ _ c.if-c-low.false c.if-high-c.true
 
 pub returns : goal.returns
-returns c =     let said : c.is_letter.result ≡ is_letter c.args.c = c.is_letter.ensures in
+returns c = let said : c.is_letter.result ≡ is_letter c.args.c = c.is_letter.ensures in
     said ∙ range_between _ _ _ c.if-c-low.false c.if-high-c.false

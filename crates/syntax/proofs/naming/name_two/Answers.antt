@@ -8,10 +8,10 @@ use borrow.Author.Rules.{rules}
 use Rattle.syntax.proofs.naming.name_two.Goals as goal
 
 pub returns-then-not-one : goal.returns-then-not-one
-returns-then-not-one c =     next_stop (λ n. name_all c.args.i n (c.args.q ∷ [])) _ (not-true _ c.if-not-one.true)
+returns-then-not-one c = next_stop (λ n. name_all c.args.i n (c.args.q ∷ [])) _ (not-true _ c.if-not-one.true)
     ∙ ap (name_next (λ n. name_all c.args.i n (c.args.q ∷ []))) c.name_part-one.ensures
 
 pub returns : goal.returns
-returns c =     c.name_part.ensures ∙ one_all _ _ _ ∙ next_on (λ n. name_all c.args.i n (c.args.q ∷ [])) c.name_part-one.result
+returns c = c.name_part.ensures ∙ one_all _ _ _ ∙ next_on (λ n. name_all c.args.i n (c.args.q ∷ [])) c.name_part-one.result
     (not-false c.name_part-one.result.ok c.if-not-one.false)
     ∙ ap (name_next (λ n. name_all c.args.i n (c.args.q ∷ []))) c.name_part-one.ensures
