@@ -15,7 +15,7 @@ use Rattle.bits.specs.Packing.{length-pack}
 use Rattle.bits.specs.Writing.{take-in_front, length-in_front}
 use Rattle.semantics.specs.Code.{Canonical}
 use Rattle.semantics.specs.Sweeps.{greedy}
-use Rattle.semantics.specs.GreedyLaws.{greedy_canonical}
+use Rattle.semantics.proofs.GreedyLaws.{greedy_canonical}
 use Rattle.steps.specs.StateSets.{words}
 use Rattle.first_sweep.specs.Meaning.{words-length}
 use Rattle.walks.specs.Whole.{whole_code, letters_of}

@@ -15,10 +15,10 @@ use Rattle.bits.specs.Writing.{take-in_front}
 use Rattle.bits.specs.Handed.{held-pack, handed_iff}
 use Rattle.semantics.specs.Code.{Spells, NoEmptyRound, Canonical}
 use Rattle.semantics.specs.Decode.{is_code}
-use Rattle.semantics.specs.CodeLaws.{is_code_iff, spells_iff, solid_iff}
+use Rattle.semantics.proofs.CodeLaws.{is_code_iff, spells_iff, solid_iff}
 use Rattle.semantics.specs.Sweeps.{readable, greedy}
-use Rattle.semantics.specs.GreedyLaws.{greedy_canonical, hollow-greedy}
-use Rattle.semantics.specs.Promised.{greedy-code_iff}
+use Rattle.semantics.proofs.GreedyLaws.{greedy_canonical, hollow-greedy}
+use Rattle.semantics.proofs.Promised.{greedy-code_iff}
 use Rattle.walks.specs.Whole.{whole_code, letters_of}
 use Rattle.parser.specs.ParseLaws.{root-choices}
 use Rattle.canonical.specs.CanonicalLaws.{settles}

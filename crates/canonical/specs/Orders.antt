@@ -19,7 +19,7 @@ use Rattle.refusals.specs.CheckLaws.{first_answered, first_positive, first_more,
 use Rattle.bits.specs.Bits.{cell_count, in_front}
 use Rattle.semantics.specs.Code.{Canonical}
 use Rattle.semantics.specs.Sweeps.{greedy}
-use Rattle.semantics.specs.GreedyLaws.{greedy_canonical}
+use Rattle.semantics.proofs.GreedyLaws.{greedy_canonical}
 use Rattle.steps.specs.StateSets.{words as state_sets}
 use Rattle.walks.specs.Whole.{whole_code}
 use Rattle.entries.specs.CodeOrder.{code_order, Sound, first_2, first_8, first_3}

@@ -14,7 +14,7 @@ use Rattle.syntax.specs.Trees.{root, tree_of}
 use Rattle.bits.specs.Bits.{Small, bits_of, held, exact, handed_good}
 use Rattle.semantics.specs.Code.{NoEmptyRound, before}
 use Rattle.semantics.specs.Decode.{value_of, is_code, spelled, hollow}
-use Rattle.semantics.specs.CodeLaws.{solid_iff}
+use Rattle.semantics.proofs.CodeLaws.{solid_iff}
 use Rattle.walks.specs.Whole.{whole_code, letters_of}
 use Rattle.canonical.specs.Demand.{IsCode, Code, Run, Settled, bytes_of, Equal}
 use Rattle.canonical.specs.Demanded.{spells_same, handed-back, empty-round-kept}

@@ -11,9 +11,9 @@ use Rattle.bits.specs.Bits.{pack, held, handed_good}
 use Rattle.bits.specs.Handed.{held-pack, handed-pack}
 use Rattle.semantics.specs.Code.{IsCode, Canonical}
 use Rattle.semantics.specs.Decode.{is_code, spelled}
-use Rattle.semantics.specs.CodeLaws.{is_code_iff}
+use Rattle.semantics.proofs.CodeLaws.{is_code_iff}
 use Rattle.semantics.specs.Sweeps.{readable}
-use Rattle.semantics.specs.GreedyLaws.{canonical_greedy, code-readable, spelled-greedy}
+use Rattle.semantics.proofs.GreedyLaws.{canonical_greedy, code-readable, spelled-greedy}
 use Rattle.walks.specs.Whole.{whole_code, letters_of}
 use Rattle.parser.specs.ParseLaws.{greedy_few}
 

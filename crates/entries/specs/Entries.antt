@@ -14,7 +14,7 @@ use Rattle.syntax.specs.Tree.{Label, Tree, range, seq, alt, star}
 use Rattle.syntax.specs.Trees.{made, unplanted}
 use Rattle.bits.specs.Bits.{bit_at, number_at, held}
 use Rattle.semantics.specs.Accounts.{owner, entries}
-use Rattle.semantics.specs.AccountLaws.{handed_none}
+use Rattle.semantics.proofs.AccountLaws.{handed_none}
 use Rattle.semantics.specs.Decode.{Read, read}
 use Rattle.semantics.specs.Positions.{Seen, see, seen, and_then}
 use Rattle.walks.specs.Looks.{look_stays, look-nothing, look_letter, look_short, look_range, look_outside, look_seq, look_alt_none, look-left}

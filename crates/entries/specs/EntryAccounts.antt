@@ -16,8 +16,8 @@ use Rattle.bits.specs.Bits.{held}
 use Rattle.semantics.specs.Value.{Value}
 use Rattle.semantics.specs.Decode.{value_of}
 use Rattle.semantics.specs.Accounts.{accounts}
-use Rattle.semantics.specs.AccountLaws.{Accounts, entries_below}
-use Rattle.semantics.specs.VisitLaws.{All}
+use Rattle.semantics.proofs.AccountLaws.{Accounts, entries_below}
+use Rattle.semantics.proofs.VisitLaws.{All}
 use Rattle.entries.specs.Gather.{entries_by, entries_of}
 
 -- ── where the accounts of a table's lines are below a, so are those of its tree ──

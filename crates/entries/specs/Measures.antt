@@ -13,9 +13,9 @@ use Rattle.bits.specs.Handed.{handed_fit, handed_count}
 use Rattle.semantics.specs.Value.{Value}
 use Rattle.semantics.specs.Code.{code as bits_of, code_limit}
 use Rattle.semantics.specs.Accounts.{entries}
-use Rattle.semantics.specs.CodeLaws.{value_of-code}
+use Rattle.semantics.proofs.CodeLaws.{value_of-code}
 use Rattle.semantics.specs.Decode.{Read, read, value_of, is_code}
-use Rattle.semantics.specs.DecodeLaws.{read_sound}
+use Rattle.semantics.proofs.DecodeLaws.{read_sound}
 use Rattle.semantics.specs.Positions.{see, seen}
 use Rattle.walks.specs.Whole.{whole_code, letters_of}
 use Rattle.walks.specs.Looks.{same_seen}

@@ -12,10 +12,10 @@ use Rattle.bits.specs.Handed.{handed_fit}
 use Rattle.semantics.specs.Value.{Value}
 use Rattle.semantics.specs.Code.{code as bits_of}
 use Rattle.semantics.specs.Accounts.{entries}
-use Rattle.semantics.specs.AccountLaws.{letters, entries-flat}
+use Rattle.semantics.proofs.AccountLaws.{letters, entries-flat}
 use Rattle.semantics.specs.Decode.{value_of}
-use Rattle.semantics.specs.DecodeLaws.{read_code}
-use Rattle.semantics.specs.CodeLaws.{value_of_sound}
+use Rattle.semantics.proofs.DecodeLaws.{read_code}
+use Rattle.semantics.proofs.CodeLaws.{value_of_sound}
 use Rattle.semantics.specs.Positions.{see, seen}
 use Rattle.walks.specs.Whole.{whole_code, letters_of}
 use Rattle.walks.specs.Looks.{same_seen}

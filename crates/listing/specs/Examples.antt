@@ -28,7 +28,7 @@ use Rattle.loading.specs.Load.{load_answer, load_table}
 use Rattle.syntax.specs.Trees.{tree_of, root}
 use Rattle.semantics.specs.Sweeps.{readable, greedy}
 use Rattle.semantics.specs.Accounts.{accounts, litres, total, totals_to, totals}
-use Rattle.semantics.specs.AccountLaws.{totals_old}
+use Rattle.semantics.proofs.AccountLaws.{totals_old}
 use Rattle.semantics.specs.Decode.{value_of}
 use Rattle.steps.specs.StateSets.{state_set}
 use Rattle.masks.specs.Nodes.{node_word}

@@ -26,7 +26,7 @@ use Rattle.semantics.specs.Code.{Canonical}
 use Rattle.semantics.specs.Accounts.{totals}
 use Rattle.semantics.specs.Decode.{value_of}
 use Rattle.semantics.specs.Sweeps.{readable, greedy}
-use Rattle.semantics.specs.GreedyLaws.{greedy_canonical, readable_iff}
+use Rattle.semantics.proofs.GreedyLaws.{greedy_canonical, readable_iff}
 use Rattle.steps.specs.StateSets.{words as state_sets}
 use Rattle.first_sweep.specs.Meaning.{words-length}
 use Rattle.totals.specs.declared.Totalled.{Totalled}

@@ -13,8 +13,8 @@ use Rattle.semantics.specs.Order.{Greedy}
 use Rattle.semantics.specs.Code.{code}
 use Rattle.semantics.specs.Accounts.{accounts, totals}
 use Rattle.semantics.specs.Sweeps.{readable, greedy}
-use Rattle.semantics.specs.CodeLaws.{value_of-code}
-use Rattle.semantics.specs.GreedyLaws.{canonical_greedy, readable_iff}
+use Rattle.semantics.proofs.CodeLaws.{value_of-code}
+use Rattle.semantics.proofs.GreedyLaws.{canonical_greedy, readable_iff}
 use Rattle.steps.specs.StateSets.{words}
 use Rattle.text.specs.Text.{refused_line}
 use Rattle.listing.specs.Listing.{listing, read_listing, early_cause, pattern_listing, tape_of, listing_of}

@@ -6,7 +6,7 @@ use Rattle.syntax.specs.Table.{obeys, account_limit, one_digit_limit}
 use Rattle.syntax.specs.Trees.{root}
 use Rattle.bits.specs.Bits.{pack}
 use Rattle.semantics.specs.Accounts.{totals_to}
-use Rattle.semantics.specs.AccountLaws.{totals_old}
+use Rattle.semantics.proofs.AccountLaws.{totals_old}
 use Rattle.semantics.specs.Decode.{value_of}
 use Rattle.steps.specs.StateSets.{words as state_sets}
 use Rattle.entries.specs.Gather.{entries_by}

@@ -17,7 +17,7 @@ use Rattle.syntax.specs.TreeLaws.{Below, tree-line}
 use Rattle.bits.specs.Bits.{test_bit}
 use Rattle.bits.specs.Numbers.{test_small}
 use Rattle.bits.specs.Words.{test_or, test_single}
-use Rattle.semantics.specs.Basics.{eqb_self, eqb_eq, eqb_no}
+use Rattle.semantics.proofs.Basics.{eqb_self, eqb_eq, eqb_no}
 use Rattle.table.specs.HandDown.{first_part, second_part, label_of}
 use Rattle.masks.specs.declared.firsts.First.{First}
 use Rattle.masks.specs.Closure.{reach, nowhere, reach-or, reach_none}

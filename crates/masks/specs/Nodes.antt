@@ -10,7 +10,7 @@ use Rattle.syntax.specs.TreeLaws.{occurrences}
 use Rattle.syntax.specs.TreeLaws as tree_laws
 use Rattle.bits.specs.Bits.{test_bit, word_of}
 use Rattle.bits.specs.Words.{word_lt, word-bit, word_past, word_unique}
-use Rattle.semantics.specs.Basics.{or_left, or_right, or_cases, not-both, eqb_self, eqb_eq}
+use Rattle.semantics.proofs.Basics.{or_left, or_right, or_cases, not-both, eqb_self, eqb_eq}
 use Rattle.semantics.specs.Automaton.{Location, top, fst, snd, lft, rgt, rnd}
 use Rattle.table.specs.Cells.{NodeAt}
 

@@ -17,7 +17,7 @@ use Rattle.syntax.specs.Table.{leaf_good, node_good}
 use Rattle.bits.specs.Bits.{bit, test_bit, word_of}
 use Rattle.bits.specs.Numbers.{test_small}
 use Rattle.bits.specs.Words.{word-bit, word_past, test_or, test_single}
-use Rattle.semantics.specs.Basics.{eqb_self, and_fst, and_snd}
+use Rattle.semantics.proofs.Basics.{eqb_self, and_fst, and_snd}
 use Rattle.table.specs.HandDown.{equal}
 use Rattle.masks.specs.Leaves.{letter_cells, letter_cell, entry}
 use Rattle.bits.specs.Lowest.{same_bits, lowest_lt, lowest_on, lowest_cleared, lowest_out}

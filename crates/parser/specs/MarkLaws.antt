@@ -11,7 +11,7 @@ use Rattle.bits.specs.Bits.{test_bit}
 use Rattle.semantics.specs.Value.{Value, flat}
 use Rattle.semantics.specs.Code.{IsCode, Spells, NoEmptyRound}
 use Rattle.semantics.specs.Sweeps.{readable, greedy}
-use Rattle.semantics.specs.GreedyLaws.{greedy_canonical, readable_iff}
+use Rattle.semantics.proofs.GreedyLaws.{greedy_canonical, readable_iff}
 use Rattle.steps.specs.StateSets.{words}
 use Rattle.first_sweep.specs.Meaning.{root-says}
 use Rattle.parser.specs.ParseLaws.{root-index, greedy_few}

@@ -19,7 +19,7 @@ use Rattle.bits.specs.Bits.{cell_count, in_front}
 use Rattle.semantics.specs.Value.{Value, flat}
 use Rattle.semantics.specs.Code.{Canonical}
 use Rattle.semantics.specs.Sweeps.{readable, greedy}
-use Rattle.semantics.specs.GreedyLaws.{greedy_canonical, readable_iff}
+use Rattle.semantics.proofs.GreedyLaws.{greedy_canonical, readable_iff}
 use Rattle.steps.specs.StateSets.{words as state_sets}
 use Rattle.parser.specs.declared.Parsed.{Parsed}
 use Rattle.parser.specs.declared.Parsed.TheVariants.{Refused}

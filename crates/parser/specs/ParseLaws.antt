@@ -29,10 +29,10 @@ use Rattle.semantics.specs.Value.{Value, flat}
 use Rattle.semantics.specs.Code.{Canonical, code, choices, code_limit}
 use Rattle.semantics.specs.Automaton.{Location, top, fst, snd, lft, rgt, rnd}
 use Rattle.semantics.specs.Sweeps.{at_end, readable, greedy}
-use Rattle.semantics.specs.AutomatonLaws.{after}
-use Rattle.semantics.specs.BoundLaws.{nodes, choices-nodes, code_fits, bits_bound}
-use Rattle.semantics.specs.SecondSweepLaws.{wrote}
-use Rattle.semantics.specs.GreedyLaws.{greedy_canonical, canonical_greedy, readable_iff}
+use Rattle.semantics.proofs.AutomatonLaws.{after}
+use Rattle.semantics.proofs.BoundLaws.{nodes, choices-nodes, code_fits, bits_bound}
+use Rattle.semantics.proofs.SecondSweepLaws.{wrote}
+use Rattle.semantics.proofs.GreedyLaws.{greedy_canonical, canonical_greedy, readable_iff}
 use Rattle.steps.specs.StateSets.{state_set, words}
 use Rattle.steps.specs.StateLaws.{state_bit}
 use Rattle.steps.specs.Steps.{next-node, place_lt}

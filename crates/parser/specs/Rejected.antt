@@ -15,7 +15,7 @@ use Rattle.syntax.specs.Table.{blank, obeys, line_good, wrongly_names, unnamed, 
 use Rattle.syntax.specs.Trees.{root, tree_of}
 use Rattle.bits.specs.Bits.{cell_count, pack, in_front}
 use Rattle.semantics.specs.Sweeps.{readable, greedy}
-use Rattle.semantics.specs.GreedyLaws.{greedy_canonical}
+use Rattle.semantics.proofs.GreedyLaws.{greedy_canonical}
 use Rattle.parser.specs.declared.Parsed.{Parsed}
 use Rattle.parser.specs.Parse.{parsed_answer, Parses}
 use Rattle.parser.specs.ParseLaws.{Tested, tested_zero}

@@ -10,7 +10,7 @@ use Rattle.syntax.specs.Trees.{root}
 use Rattle.bits.specs.Bits.{cell_count}
 use Rattle.semantics.specs.Value.{Value, flat}
 use Rattle.semantics.specs.Sweeps.{readable, greedy}
-use Rattle.semantics.specs.GreedyLaws.{greedy_canonical, readable_iff}
+use Rattle.semantics.proofs.GreedyLaws.{greedy_canonical, readable_iff}
 use Rattle.parser.specs.declared.Parsed.{Parsed}
 use Rattle.parser.specs.declared.Parsed.TheVariants.{Bits, Refused}
 use Rattle.parser.specs.Parse.{parsed_answer, early, ReadsGreedily, Parses}

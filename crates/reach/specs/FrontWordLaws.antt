@@ -24,13 +24,13 @@ use Rattle.bits.specs.Lowest.{lowest_set}
 use Rattle.bits.specs.Unions.{any_to, any_same, any_one, union, union-bit, union_lt}
 use Rattle.semantics.specs.Automaton.{top}
 use Rattle.semantics.specs.Sweeps.{at_end, readable}
-use Rattle.semantics.specs.Basics.{and_fst, and_snd, and_intro, or_left, or_right, or_cases, not-both, eqb_self, eqb_eq}
-use Rattle.semantics.specs.FirstSweepLaws.{bool_ext}
-use Rattle.semantics.specs.VisitLaws.{All}
+use Rattle.semantics.proofs.Basics.{and_fst, and_snd, and_intro, or_left, or_right, or_cases, not-both, eqb_self, eqb_eq}
+use Rattle.semantics.proofs.FirstSweepLaws.{bool_ext}
+use Rattle.semantics.proofs.VisitLaws.{All}
 use Rattle.semantics.specs.Begins.{Begins, Reach}
-use Rattle.semantics.specs.BeginLaws.{root_stocked, onward, begins_iff, begins_none}
+use Rattle.semantics.proofs.BeginLaws.{root_stocked, onward, begins_iff, begins_none}
 use Rattle.semantics.specs.Fronts.{reach_of}
-use Rattle.semantics.specs.FrontLaws.{Follows, reading-reach, reach_of_only}
+use Rattle.semantics.proofs.FrontLaws.{Follows, reading-reach, reach_of_only}
 use Rattle.table.specs.Cells.{follower_in, loops_in, Followed, Holds}
 use Rattle.masks.specs.Leaves.{takes, takers, entry}
 use Rattle.masks.specs.Masks.{MasksOf}

@@ -8,10 +8,10 @@ use Rattle.syntax.specs.Tree.{index}
 use Rattle.syntax.specs.Trees.{root}
 use Rattle.syntax.specs.TreeLaws.{Rules}
 use Rattle.bits.specs.Bits.{test_bit}
-use Rattle.semantics.specs.Basics.{not-both}
+use Rattle.semantics.proofs.Basics.{not-both}
 use Rattle.semantics.specs.Begins.{Ends, Resumes}
-use Rattle.semantics.specs.BeginLaws.{root_stocked}
-use Rattle.semantics.specs.EndLaws.{OpenNode, ends_none, ends_open_iff}
+use Rattle.semantics.proofs.BeginLaws.{root_stocked}
+use Rattle.semantics.proofs.EndLaws.{OpenNode, ends_none, ends_open_iff}
 use Rattle.table.specs.Cells.{NodeAt}
 use Rattle.masks.specs.Nodes.{node_at}
 use Rattle.masks.specs.Planting.{root_planted}

@@ -9,8 +9,8 @@ use Rattle.refusals.specs.Refusals.{answer, refused}
 use Rattle.refusals.specs.RefusalLaws.{refused_same, number_positive}
 use Rattle.refusals.specs.Checks.{First, Clear}
 use Rattle.refusals.specs.CheckLaws.{which_first, first_answered, first_positive, clear_success}
-use Rattle.semantics.specs.BeginLaws.{reach_one}
-use Rattle.semantics.specs.EndLaws.{resumes_one}
+use Rattle.semantics.proofs.BeginLaws.{reach_one}
+use Rattle.semantics.proofs.EndLaws.{resumes_one}
 use Rattle.reach.specs.declared.Located.{Located}
 use Rattle.reach.specs.declared.Located.TheVariants.{Positions, Refused}
 use Rattle.reach.specs.Locate.{located_answer, locate_order, locate_refusal, Tells, Locates}

@@ -12,7 +12,7 @@ use Rattle.semantics.specs.Value.{Value}
 use Rattle.semantics.specs.Automaton.{Location, top, fst, snd, lft, rgt, rnd}
 use Rattle.semantics.specs.Visits.{Visit, label, visit}
 use Rattle.semantics.specs.Decode.{value_of}
-use Rattle.semantics.specs.VisitLaws.{visit_shows}
+use Rattle.semantics.proofs.VisitLaws.{visit_shows}
 use Rattle.spans.specs.Spans.{visit_by, span_visit}
 
 -- a node weighs no more than the tree it stands in

@@ -8,7 +8,7 @@ use Rattle.std.proofs.Math.ListN.{length}
 use Rattle.syntax.specs.declared.Pattern.{Pattern}
 use Rattle.syntax.specs.Trees.{root}
 use Rattle.semantics.specs.Visits.{Visit}
-use Rattle.semantics.specs.VisitLaws.{visit_shows}
+use Rattle.semantics.proofs.VisitLaws.{visit_shows}
 use Rattle.codes.specs.Spells.{code_of_tape}
 use Rattle.spans.specs.declared.Spanned.{Spanned}
 use Rattle.walks.specs.WholeLaws.{whole-handed, whole-value, spells}

@@ -15,7 +15,7 @@ use Rattle.bits.specs.Bits.{bit_at, number_at, held}
 use Rattle.semantics.specs.Value.{Value}
 use Rattle.semantics.specs.Decode.{Read, read}
 use Rattle.semantics.specs.Positions.{Seen, see, seen, and_then}
-use Rattle.semantics.specs.PositionLaws.{see_as}
+use Rattle.semantics.proofs.PositionLaws.{see_as}
 use Rattle.spans.specs.declared.find.Step.{Step}
 use Rattle.walks.specs.Looks.{same_seen, look_stays, look-nothing, look_letter, look_short, look_range, look_outside, look_seq, look_alt_none, look-left}
 use Rattle.walks.specs.Looks.{stops, look-right, look_star_none, look_stop, look-round}

@@ -2,7 +2,7 @@
 use Rattle.std.specs.Prelude.{◌≡◌, refl, Bool, true, false, ◌&&◌, List, ℕ, zero, suc, ◌+◌, ◌*◌, ◌≤◌, ◌<◌, eqb, length, set, replicate}
 use Rattle.std.proofs.Common.{sym, ap, ap₂, ◌∙◌, arith, length-set, get_or-set_same, get_or-set_other, ne_eqb}
 use Rattle.std.proofs.lemmas.List.{length-replicate}
-use Rattle.semantics.specs.Basics.{eqb_self, eqb_eq, and_fst, and_snd}
+use Rattle.semantics.proofs.Basics.{eqb_self, eqb_eq, and_fst, and_snd}
 use Rattle.steps.specs.declared.Words.{Words}
 use Rattle.table.specs.HandDown.{equal}
 use Rattle.steps.specs.Steps.{step_of}

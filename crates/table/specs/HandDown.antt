@@ -14,7 +14,7 @@ use Rattle.syntax.specs.Tree.{Label, Tree, seq, alt, star, index}
 use Rattle.syntax.specs.Trees.{made, tree_of}
 use Rattle.syntax.specs.TreeLaws.{Below, Rules, made-index, tree-line, times}
 use Rattle.syntax.specs.TreeLaws as tree_laws
-use Rattle.semantics.specs.Basics.{or_cases}
+use Rattle.semantics.proofs.Basics.{or_cases}
 use Rattle.semantics.specs.Automaton.{Location, top, fst, snd, lft, rgt, rnd}
 
 pub equal : (m n : ℕ) → Dec (m ≡ n)

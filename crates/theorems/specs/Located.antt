@@ -13,9 +13,9 @@ use Rattle.refusals.specs.Checks.{First}
 use Rattle.refusals.specs.CheckLaws.{first_among, refused_first, zero_clear, clear_success}
 use Rattle.semantics.specs.Value.{Value, flat, nonempty}
 use Rattle.semantics.specs.Sweeps.{readable}
-use Rattle.semantics.specs.GreedyLaws.{readable_iff}
+use Rattle.semantics.proofs.GreedyLaws.{readable_iff}
 use Rattle.semantics.specs.Begins.{Begins, Reach, Resumes}
-use Rattle.semantics.specs.BeginLaws.{breaks_at, stops-early}
+use Rattle.semantics.proofs.BeginLaws.{breaks_at, stops-early}
 use Rattle.loading.specs.Load.{load_table}
 use Rattle.parser.specs.Parse.{parsed_answer, early_order, early}
 use Rattle.parser.specs.ParseLaws.{unreadable_iff}

@@ -26,7 +26,7 @@ use Rattle.bits.specs.Paper03.{numbers}
 use Rattle.semantics.specs.Value.{Value, flat, nonempty, nonproblematic}
 use Rattle.semantics.specs.Code.{code}
 use Rattle.semantics.specs.Decode.{get_bits, checked, read as decoded}
-use Rattle.semantics.specs.DecodeLaws.{read_sound, read_seq, read_left, read_right, read_stop, read-round}
+use Rattle.semantics.proofs.DecodeLaws.{read_sound, read_seq, read_left, read_right, read_stop, read-round}
 use Rattle.theorems.specs.Numbers.{length-numbers, drop-numbers}
 use Rattle.theorems.specs.Paper03Pattern.{Node, letter_byte, node}
 use Rattle.theorems.specs.Paper03Codes.{Read, read, bad, joined, with_hollow, value_from, range_read, rounds_read, side_read, read_node}

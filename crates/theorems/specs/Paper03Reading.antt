@@ -16,7 +16,7 @@ use Rattle.bits.specs.Bits.{cell_count, pack, in_front as put_front}
 use Rattle.bits.specs.Packing.{length-pack}
 use Rattle.bits.specs.Paper03.{bools, packed, packed-pack, mark_bit, mark_bit_test}
 use Rattle.semantics.specs.Code.{Canonical}
-use Rattle.semantics.specs.Promised.{greedy-code_iff}
+use Rattle.semantics.proofs.Promised.{greedy-code_iff}
 use Rattle.steps.specs.StateSets.{words as state_sets}
 use Rattle.parser.specs.Parse.{early as early_of, ReadsGreedily}
 use Rattle.parser.specs.ParseLaws.{root-choices}

@@ -18,8 +18,8 @@ use Rattle.bits.specs.Paper03.{is_bits, numbers, bools}
 use Rattle.semantics.specs.Value.{Value, flat, nonproblematic}
 use Rattle.semantics.specs.Code.{code, IsCode}
 use Rattle.semantics.specs.Decode.{whole_of, value_of, there, is_code as is_code_of, read as decoded}
-use Rattle.semantics.specs.DecodeLaws.{read_code as decoded_code, decode-read}
-use Rattle.semantics.specs.CodeLaws.{is_code_iff, spelled_is, hollow_is}
+use Rattle.semantics.proofs.DecodeLaws.{read_code as decoded_code, decode-read}
+use Rattle.semantics.proofs.CodeLaws.{is_code_iff, spelled_is, hollow_is}
 use Rattle.theorems.specs.Paper03Pattern.{Node, node, root}
 use Rattle.theorems.specs.Paper03Codes.{Read, read, read_node, read_code, is_code, spelled, hollow, Greedy}
 use Rattle.theorems.specs.Paper03.{is_code as is_code_in, spelled as spelled_in, hollow as hollow_in, Greedy as GreedyIn}

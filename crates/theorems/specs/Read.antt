@@ -17,7 +17,7 @@ use Rattle.syntax.specs.Table.{obeys}
 use Rattle.syntax.specs.Trees.{root}
 use Rattle.bits.specs.Bits.{bit, test_bit, cell_count, pack, in_front}
 use Rattle.semantics.specs.Sweeps.{readable, greedy}
-use Rattle.semantics.specs.GreedyLaws.{readable_iff}
+use Rattle.semantics.proofs.GreedyLaws.{readable_iff}
 use Rattle.steps.specs.StateSets.{words}
 use Rattle.first_sweep.specs.Meaning.{words_at}
 use Rattle.parser.specs.declared.Parsed.TheVariants.{Bits, Refused}

@@ -20,8 +20,8 @@ use Rattle.semantics.specs.Accounts.{accounts, totals}
 use Rattle.semantics.specs.Visits.{visit}
 use Rattle.semantics.specs.Decode.{value_of}
 use Rattle.semantics.specs.Sweeps.{greedy}
-use Rattle.semantics.specs.CodeLaws.{value_of-code}
-use Rattle.semantics.specs.GreedyLaws.{canonical_greedy}
+use Rattle.semantics.proofs.CodeLaws.{value_of-code}
+use Rattle.semantics.proofs.GreedyLaws.{canonical_greedy}
 use Rattle.steps.specs.StateSets.{words}
 use Rattle.codes.specs.declared.Flattened.{Flattened}
 use Rattle.codes.specs.declared.Flattened.TheVariants.{Letters, Refused as NotFlattened}

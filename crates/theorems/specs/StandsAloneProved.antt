@@ -15,10 +15,10 @@ use Rattle.semantics.specs.Value.{Value}
 use Rattle.semantics.specs.Code.{Canonical}
 use Rattle.semantics.specs.Cuts.{Cut, cut_by, code_cut, piece, bits_cut}
 use Rattle.semantics.specs.Decode.{value_of}
-use Rattle.semantics.specs.CutLaws.{seen, cut-visit}
-use Rattle.semantics.specs.AlikeLaws.{alike_canonical}
-use Rattle.semantics.specs.PieceLaws.{piece-stands}
-use Rattle.semantics.specs.PieceExamples.{whole, unsettled_cut, unsettled_falls}
+use Rattle.semantics.proofs.CutLaws.{seen, cut-visit}
+use Rattle.semantics.proofs.AlikeLaws.{alike_canonical}
+use Rattle.semantics.proofs.PieceLaws.{piece-stands}
+use Rattle.semantics.proofs.PieceExamples.{whole, unsettled_cut, unsettled_falls}
 use Rattle.parser.specs.declared.Parsed.TheVariants.{Bits}
 use Rattle.parser.specs.ParseLaws.{tested_zero}
 use Rattle.parser.specs.Unique.{parsed_same}

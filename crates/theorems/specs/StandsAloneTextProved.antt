@@ -14,9 +14,9 @@ use Rattle.bits.specs.Bits.{pack, held}
 use Rattle.bits.specs.Handed.{held-pack}
 use Rattle.semantics.specs.Code.{Canonical}
 use Rattle.semantics.specs.Cuts.{Cut, code_cut, piece, bits_cut}
-use Rattle.semantics.specs.CutLaws.{seen}
+use Rattle.semantics.proofs.CutLaws.{seen}
 use Rattle.semantics.specs.Sweeps.{greedy}
-use Rattle.semantics.specs.GreedyLaws.{greedy_canonical}
+use Rattle.semantics.proofs.GreedyLaws.{greedy_canonical}
 use Rattle.parser.specs.Parse.{parsed_answer}
 use Rattle.canonical.specs.Canonicalize.{canonicalized_answer}
 use Rattle.wumbyra.specs.Packed.{shown_answer, span_text}

@@ -6,7 +6,7 @@ use Rattle.std.proofs.lemmas.List.{length-replicate, get_or-replicate}
 use Rattle.syntax.specs.Letter.{letter_limit}
 use Rattle.syntax.specs.Table.{account_limit}
 use Rattle.semantics.specs.Accounts.{litres, total, totals_to, totals}
-use Rattle.semantics.specs.AccountLaws.{litres_small, total_small, getD_totals, totals-length}
+use Rattle.semantics.proofs.AccountLaws.{litres_small, total_small, getD_totals, totals-length}
 use Rattle.entries.specs.Entries.{Entries}
 use Rattle.entries.specs.Gather.{pairs}
 use Rattle.entries.specs.Pairs.{pairs-length, pairs_next}

@@ -10,8 +10,8 @@ use Rattle.bits.specs.Bits.{bit_at, number_at, held}
 use Rattle.bits.specs.Reading.{held-length, held-bit}
 use Rattle.semantics.specs.Value.{Value}
 use Rattle.semantics.specs.Positions.{Seen, see, joined, and_then}
-use Rattle.semantics.specs.PositionLaws.{see_stays, see_nothing, see_letter, see_short, see_range, see_outside, see_seq, see_alt_none, see_left, see_right}
-use Rattle.semantics.specs.PositionLaws.{see_star_none, see_stop, see_round}
+use Rattle.semantics.proofs.PositionLaws.{see_stays, see_nothing, see_letter, see_short, see_range, see_outside, see_seq, see_alt_none, see_left, see_right}
+use Rattle.semantics.proofs.PositionLaws.{see_star_none, see_stop, see_round}
 use Rattle.walks.specs.Handed.{held_number}
 
 -- 01: "`K` writes 0 and a round, again and again, then 1"; 02: "`Z` [..] writes 0 to stop and 1 before a round". A star that takes another

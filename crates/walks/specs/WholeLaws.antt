@@ -9,9 +9,9 @@ use Rattle.syntax.specs.Tree.{Tree}
 use Rattle.bits.specs.Bits.{held, handed_good}
 use Rattle.semantics.specs.Value.{Value, flat}
 use Rattle.semantics.specs.Decode.{value_of, is_code, spelled, spelled_by}
-use Rattle.semantics.specs.CodeLaws.{value_of_sound}
+use Rattle.semantics.proofs.CodeLaws.{value_of_sound}
 use Rattle.semantics.specs.Positions.{see}
-use Rattle.semantics.specs.PositionLaws.{see_whole}
+use Rattle.semantics.proofs.PositionLaws.{see_whole}
 use Rattle.walks.specs.Whole.{whole_code, letters_of}
 
 module _ (t : Tree) (code : List ℕ) (count : ℕ) where

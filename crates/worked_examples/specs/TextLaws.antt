@@ -8,7 +8,7 @@ use Rattle.syntax.specs.Trees.{root, tree_of}
 use Rattle.fields.specs.Text.{rows, digit, one_digit, two_digits, place, single, all_digits, decimal, account_number, account}
 use Rattle.fields.specs.Text.{node_of_none, node_of_one, range_of, parts_of, node_of_two, node_of, line_of, row_line, forms}
 use Rattle.loading.specs.Load.{load_answer, load_table}
-use Rattle.semantics.specs.Examples as short
+use Rattle.semantics.proofs.Examples as short
 use Rattle.worked_examples.specs.Texts.{P1, P2, P3, P4, P5, Z1, Z2, Z3, Z4, Z5, Z6, Z7, H1}
 
 -- a tree whose nodes all have place 0 and no account

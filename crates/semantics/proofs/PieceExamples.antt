@@ -17,8 +17,8 @@ use Rattle.semantics.specs.Accounts.{accounts, litres, total}
 use Rattle.semantics.specs.Cuts.{Cut, cut, code_cut}
 use Rattle.semantics.specs.Decode.{value_of}
 use Rattle.semantics.specs.Sweeps.{greedy}
-use Rattle.semantics.specs.GreedyLaws.{canonical_greedy}
-use Rattle.semantics.specs.CutCases.{seven, settled}
+use Rattle.semantics.proofs.GreedyLaws.{canonical_greedy}
+use Rattle.semantics.proofs.CutCases.{seven, settled}
 use Rattle.semantics.specs.Stands.{Stands}
 
 abbrev pub whole : Cut

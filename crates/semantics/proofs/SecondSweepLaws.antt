@@ -14,9 +14,9 @@ use Rattle.semantics.specs.Value.{nonempty, flat_rounds, nonproblematic_rounds, 
 use Rattle.semantics.specs.Code.{code_rounds, code}
 use Rattle.semantics.specs.Automaton.{top}
 use Rattle.semantics.specs.Sweeps.{After, after_round, can_rounds, can, BitsAfter, another, write_rounds, write}
-use Rattle.semantics.specs.Basics.{and_fst, and_snd, and_intro, not-both, eqb_eq, nonempty_pos, nonempty-append, glue, flag_join, same_rest}
-use Rattle.semantics.specs.BeforeLaws.{before_same, Top, two_top, before_asym, stop_before, round-before}
-use Rattle.semantics.specs.CompleteLaws.{full_round, after_round_full, after_round_on, after_round_yes, Complete, rounds_complete, complete}
+use Rattle.semantics.proofs.Basics.{and_fst, and_snd, and_intro, not-both, eqb_eq, nonempty_pos, nonempty-append, glue, flag_join, same_rest}
+use Rattle.semantics.proofs.BeforeLaws.{before_same, Top, two_top, before_asym, stop_before, round-before}
+use Rattle.semantics.proofs.CompleteLaws.{full_round, after_round_full, after_round_on, after_round_yes, Complete, rounds_complete, complete}
 
 -- of the values without an empty iteration that spell a front of w and leave a rest that k allows, the one whose code comes first
 pub record Best {A : Type 0} (f : A → List ℕ) (s : A → Bool) (c : A → List Bool) (k : After) (b : Bool) (w : List ℕ) : Type 0 where

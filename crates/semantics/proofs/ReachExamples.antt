@@ -6,10 +6,10 @@ use Rattle.syntax.specs.Tree.{Label, Tree, nothing, letter, range, seq, alt, sta
 use Rattle.semantics.specs.Automaton.{Location, top, fst, snd, lft, rgt, rnd}
 use Rattle.semantics.specs.Sweeps.{can, readable}
 use Rattle.semantics.specs.Begins.{Ends}
-use Rattle.semantics.specs.Basics.{not-both}
-use Rattle.semantics.specs.AutomatonLaws.{after}
+use Rattle.semantics.proofs.Basics.{not-both}
+use Rattle.semantics.proofs.AutomatonLaws.{after}
 use Rattle.semantics.specs.Fronts.{reach_of}
-use Rattle.semantics.specs.EndLaws.{OpenNode, ends_none}
+use Rattle.semantics.proofs.EndLaws.{OpenNode, ends_none}
 
 abbrev plain : Label
 plain = record { index = 0; account = 0 }

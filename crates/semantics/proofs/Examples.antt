@@ -14,10 +14,10 @@ use Rattle.semantics.specs.Visits.{Visit, visit}
 use Rattle.semantics.specs.Accounts.{accounts, litres, total, totals_to}
 use Rattle.semantics.specs.Decode.{value_of, is_code, spelled}
 use Rattle.semantics.specs.Sweeps.{readable, greedy}
-use Rattle.semantics.specs.Basics.{not-both}
-use Rattle.semantics.specs.CodeLaws.{is_code_iff, spells_iff}
-use Rattle.semantics.specs.GreedyLaws.{greedy_canonical, readable_iff, code-readable}
-use Rattle.semantics.specs.VisitLaws.{All}
+use Rattle.semantics.proofs.Basics.{not-both}
+use Rattle.semantics.proofs.CodeLaws.{is_code_iff, spells_iff}
+use Rattle.semantics.proofs.GreedyLaws.{greedy_canonical, readable_iff, code-readable}
+use Rattle.semantics.proofs.VisitLaws.{All}
 
 -- what is asked: to read a tape, or to settle (canonicalize) a code
 pub data Asked : Type 0 where

@@ -11,12 +11,12 @@ use Rattle.semantics.specs.Automaton.{top}
 use Rattle.semantics.specs.Decode.{spelled, hollow}
 use Rattle.semantics.specs.Sweeps.{at_end, readable, greedy}
 use Rattle.semantics.specs.Strip.{strip}
-use Rattle.semantics.specs.DecodeLaws.{code_injective}
-use Rattle.semantics.specs.OrderLaws.{less_iff_before, less_asym}
-use Rattle.semantics.specs.CodeLaws.{spelled-code, hollow-code, spelled_is}
-use Rattle.semantics.specs.CompleteLaws.{complete}
-use Rattle.semantics.specs.SecondSweepLaws.{BestOf, wrote}
-use Rattle.semantics.specs.StripLaws.{strip-flat, strip-nonproblematic}
+use Rattle.semantics.proofs.DecodeLaws.{code_injective}
+use Rattle.semantics.proofs.OrderLaws.{less_iff_before, less_asym}
+use Rattle.semantics.proofs.CodeLaws.{spelled-code, hollow-code, spelled_is}
+use Rattle.semantics.proofs.CompleteLaws.{complete}
+use Rattle.semantics.proofs.SecondSweepLaws.{BestOf, wrote}
+use Rattle.semantics.proofs.StripLaws.{strip-flat, strip-nonproblematic}
 
 end_only : (b : Bool) (z : List ℕ) → at_end b z ≡ true → z ≡ []
 end_only b [] h = refl

@@ -10,11 +10,11 @@ use Rattle.semantics.specs.Code.{code}
 use Rattle.semantics.specs.Automaton.{Location, top, fst, snd, lft, rgt, rnd, State, end, at, follower, Above, Guarded, Reads, letter_leaf}
 use Rattle.semantics.specs.Automaton.{range_leaf, Moves, to_first, to_left, to_right, to_round, skip, leave, Accepts, done, reads, moves}
 use Rattle.semantics.specs.Sweeps.{After, after_round, can, BitsAfter, write, at_end, readable}
-use Rattle.semantics.specs.Basics.{and_fst, and_snd, and_intro, or_left, or_right, eqb_self, nonempty-append, flag_join}
-use Rattle.semantics.specs.OrderLaws.{less_iff_before-along}
-use Rattle.semantics.specs.CompleteLaws.{full_round, after_round_full, after_round_on}
-use Rattle.semantics.specs.SecondSweepLaws.{BestOf, wrote, best}
-use Rattle.semantics.specs.FirstSweepLaws.{can_iff, can_flag, can_star}
+use Rattle.semantics.proofs.Basics.{and_fst, and_snd, and_intro, or_left, or_right, eqb_self, nonempty-append, flag_join}
+use Rattle.semantics.proofs.OrderLaws.{less_iff_before-along}
+use Rattle.semantics.proofs.CompleteLaws.{full_round, after_round_full, after_round_on}
+use Rattle.semantics.proofs.SecondSweepLaws.{BestOf, wrote, best}
+use Rattle.semantics.proofs.FirstSweepLaws.{can_iff, can_flag, can_star}
 
 guard : (l b : Bool) → (l ≡ true → b ≡ true) → (not l || b) ≡ true
 guard true b f = f refl

@@ -4,8 +4,8 @@ use Rattle.std.proofs.Common.{inl, inr}
 use Rattle.syntax.specs.Letter.{is_letter, in_range}
 use Rattle.syntax.specs.Tree.{Tree, nothing, letter, range, seq, alt, star}
 use Rattle.semantics.specs.Value.{Value, flat_rounds, flat}
-use Rattle.semantics.specs.Basics.{and_fst}
-use Rattle.semantics.specs.VisitLaws.{All, all_append}
+use Rattle.semantics.proofs.Basics.{and_fst}
+use Rattle.semantics.proofs.VisitLaws.{All, all_append}
 
 abbrev pub Lettered : Tree → Type 0
 Lettered (nothing m) = Unit {0}

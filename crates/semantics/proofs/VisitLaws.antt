@@ -7,7 +7,7 @@ use Rattle.syntax.specs.Tree.{Tree, nothing, letter, range, seq, alt, star}
 use Rattle.semantics.specs.Value.{Value, flat_rounds, flat}
 use Rattle.semantics.specs.Automaton.{Location, top, fst, snd, lft, rgt, rnd}
 use Rattle.semantics.specs.Visits.{label, Visit, visit_of, along, visits, visits_at, nth, visit}
-use Rattle.semantics.specs.Basics.{eqb_eq}
+use Rattle.semantics.proofs.Basics.{eqb_eq}
 
 abbrev pub All : {A : Type 0} → (A → Type 0) → List A → Type 0
 All P [] = Unit {0}

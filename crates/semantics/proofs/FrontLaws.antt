@@ -12,11 +12,11 @@ use Rattle.semantics.specs.Sweeps.{can, readable}
 use Rattle.semantics.specs.Begins.{Begins, Reach}
 use Rattle.semantics.specs.Fronts.{reading, Taker, of_letter, of_range, some, takes, inside, behind, behind_leaf, matched, any_left, nexts, starts}
 use Rattle.semantics.specs.Fronts.{reach_of}
-use Rattle.semantics.specs.Basics.{or_left, not-both}
-use Rattle.semantics.specs.FirstSweepLaws.{can_star}
-use Rattle.semantics.specs.AutomatonLaws.{after}
-use Rattle.semantics.specs.VisitLaws.{All}
-use Rattle.semantics.specs.BeginLaws.{Stocked, onward, begins_iff, begins_front, begins_none, reach_one}
+use Rattle.semantics.proofs.Basics.{or_left, not-both}
+use Rattle.semantics.proofs.FirstSweepLaws.{can_star}
+use Rattle.semantics.proofs.AutomatonLaws.{after}
+use Rattle.semantics.proofs.VisitLaws.{All}
+use Rattle.semantics.proofs.BeginLaws.{Stocked, onward, begins_iff, begins_front, begins_none, reach_one}
 
 -- ---- sets of any kind
 -- Known s u: the set s is the one after the letters u. So u begins a tape, and the set tells of each letter whether u with that letter does.

@@ -9,7 +9,7 @@ use Rattle.bits.specs.Bits.{bits_of}
 use Rattle.semantics.specs.Code.{Canonical}
 use Rattle.semantics.specs.Sweeps.{After, after_round, on_letter, can_rounds, can, BitsAfter, emit, another, write_rounds, write, at_end}
 use Rattle.semantics.specs.Sweeps.{readable, greedy}
-use Rattle.semantics.specs.GreedyLaws.{canonical_greedy, greedy_canonical}
+use Rattle.semantics.proofs.GreedyLaws.{canonical_greedy, greedy_canonical}
 
 -- what may follow, and the bits of what follows, are functions: alike where they are equal on each flag and letters
 abbrev SameAfter : After → After → Type 0

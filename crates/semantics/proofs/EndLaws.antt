@@ -12,13 +12,13 @@ use Rattle.semantics.specs.Automaton.{Location, top, fst, snd, lft, rgt, rnd}
 use Rattle.semantics.specs.Sweeps.{after_round, can, at_end, readable}
 use Rattle.semantics.specs.Begins.{Ends, Resumes}
 use Rattle.semantics.specs.Fronts.{Taker, of_letter, of_range, some, matched, any_left, nexts, starts}
-use Rattle.semantics.specs.Basics.{or_left, or_right, or_cases}
-use Rattle.semantics.specs.CompleteLaws.{complete, after_round_on, after_round_yes}
-use Rattle.semantics.specs.FirstSweepLaws.{Fits, can_iff, can_star}
-use Rattle.semantics.specs.GreedyLaws.{readable_iff}
-use Rattle.semantics.specs.AutomatonLaws.{after, can_iff_accepts, accepts_flag}
-use Rattle.semantics.specs.BeginLaws.{Stocked, some-value, some_solid, stocked_at, begins_iff}
-use Rattle.semantics.specs.FrontLaws.{starts_with, Leaves-behind, starts-behind, matched_on, matched_none}
+use Rattle.semantics.proofs.Basics.{or_left, or_right, or_cases}
+use Rattle.semantics.proofs.CompleteLaws.{complete, after_round_on, after_round_yes}
+use Rattle.semantics.proofs.FirstSweepLaws.{Fits, can_iff, can_star}
+use Rattle.semantics.proofs.GreedyLaws.{readable_iff}
+use Rattle.semantics.proofs.AutomatonLaws.{after, can_iff_accepts, accepts_flag}
+use Rattle.semantics.proofs.BeginLaws.{Stocked, some-value, some_solid, stocked_at, begins_iff}
+use Rattle.semantics.proofs.FrontLaws.{starts_with, Leaves-behind, starts-behind, matched_on, matched_none}
 
 pub ends_iff : (t : Tree) (w : List ℕ) → Ends t w ↔ ((front : List ℕ) × (readable t (front ++ w) ≡ true))
 ends_iff t w = (

@@ -10,12 +10,12 @@ use Rattle.semantics.specs.Automaton.{at}
 use Rattle.semantics.specs.Decode.{spelled}
 use Rattle.semantics.specs.Sweeps.{readable, greedy}
 use Rattle.semantics.specs.Promise.{GreedyCode, node_limit, Settles, SettledEqual, SettledAgain, CodesPart, FewBits, MarksRight}
-use Rattle.semantics.specs.BeforeLaws.{before_irrefl, before_asym}
-use Rattle.semantics.specs.OrderLaws.{Compared, same, above, beneath, less_iff_before}
-use Rattle.semantics.specs.CodeLaws.{is_code_iff, spelled-code, hollow-code, spelled_is, solid_iff, code_compare, codes_compare, codes_part}
-use Rattle.semantics.specs.GreedyLaws.{greedy_canonical, code-readable}
-use Rattle.semantics.specs.AutomatonLaws.{accepts_iff_readable}
-use Rattle.semantics.specs.BoundLaws.{few_bits_none, few_bits_some, code_fits}
+use Rattle.semantics.proofs.BeforeLaws.{before_irrefl, before_asym}
+use Rattle.semantics.proofs.OrderLaws.{Compared, same, above, beneath, less_iff_before}
+use Rattle.semantics.proofs.CodeLaws.{is_code_iff, spelled-code, hollow-code, spelled_is, solid_iff, code_compare, codes_compare, codes_part}
+use Rattle.semantics.proofs.GreedyLaws.{greedy_canonical, code-readable}
+use Rattle.semantics.proofs.AutomatonLaws.{accepts_iff_readable}
+use Rattle.semantics.proofs.BoundLaws.{few_bits_none, few_bits_some, code_fits}
 
 -- ── the greedy code is the code of the greedy value ──
 module _ (t : Tree) (w : List ℕ) (few : choices t ≤ node_limit) (short : length w ≤ letter_limit) where

@@ -9,8 +9,8 @@ use Rattle.syntax.specs.Tree.{Tree, nothing, letter, range, seq, alt, star}
 use Rattle.semantics.specs.Value.{Value, flat_rounds, flat}
 use Rattle.semantics.specs.Order.{less_rounds, less}
 use Rattle.semantics.specs.Code.{code_rounds, code, before}
-use Rattle.semantics.specs.Basics.{same_rest}
-use Rattle.semantics.specs.BeforeLaws.{before-append, before_prefix, before_same, before_irrefl, before_asym, before_trans, stop_before, round-before}
+use Rattle.semantics.proofs.Basics.{same_rest}
+use Rattle.semantics.proofs.BeforeLaws.{before-append, before_prefix, before_same, before_irrefl, before_asym, before_trans, stop_before, round-before}
 
 regroup : (a b c d : List ℕ) (r z : List ℕ) → (a ++ b) ++ r ≡ (c ++ d) ++ z → a ++ (b ++ r) ≡ c ++ (d ++ z)
 regroup a b c d r z e = sym (append_assoc a b r) ∙ e ∙ append_assoc c d z

@@ -8,8 +8,8 @@ use Rattle.semantics.specs.Value.{Value, flat_rounds, flat}
 use Rattle.semantics.specs.Visits.{label}
 use Rattle.semantics.specs.Accounts.{handed_down, owner, join_rounds, entries, accounts, litres, total, count_from, totals_to, totals, digits}
 use Rattle.semantics.specs.Innermost.{innermost, entries_with}
-use Rattle.semantics.specs.Basics.{and_snd, eqb_eq, eqb_no, leb_le}
-use Rattle.semantics.specs.VisitLaws.{All, all_append}
+use Rattle.semantics.proofs.Basics.{and_snd, eqb_eq, eqb_no, leb_le}
+use Rattle.semantics.proofs.VisitLaws.{All, all_append}
 
 -- ── what a node hands down ──
 -- handed 9 it hands down 9, whatever its own account is

@@ -8,10 +8,10 @@ use Rattle.syntax.specs.Tree.{Tree}
 use Rattle.semantics.specs.Value.{Value, flat, nonproblematic}
 use Rattle.semantics.specs.Code.{code, code_limit, IsCode, Spells, NoEmptyRound, before}
 use Rattle.semantics.specs.Decode.{decode, whole_of, value_of, there, spelled_by, hollow_in, is_code, spelled, hollow}
-use Rattle.semantics.specs.Basics.{and_intro, leb_le, le_leb}
-use Rattle.semantics.specs.DecodeLaws.{decode-code, code_split, decode_sound}
-use Rattle.semantics.specs.BeforeLaws.{before_prefix}
-use Rattle.semantics.specs.OrderLaws.{Compared, same, above, beneath, compared_map}
+use Rattle.semantics.proofs.Basics.{and_intro, leb_le, le_leb}
+use Rattle.semantics.proofs.DecodeLaws.{decode-code, code_split, decode_sound}
+use Rattle.semantics.proofs.BeforeLaws.{before_prefix}
+use Rattle.semantics.proofs.OrderLaws.{Compared, same, above, beneath, compared_map}
 
 -- ── the value of a code ──
 pub value_of-code : (t : Tree) (v : Value t) → value_of t (code t v) ≡ some v

@@ -14,8 +14,8 @@ use Rattle.semantics.specs.Value.{Value}
 use Rattle.semantics.specs.Code.{code}
 use Rattle.semantics.specs.Decode.{get_bits, checked, Read, read}
 use Rattle.semantics.specs.Positions.{seen, see, joined, and_then, number_at}
-use Rattle.semantics.specs.Basics.{not-both}
-use Rattle.semantics.specs.DecodeLaws.{read_code, read_sound, read_seq, read_left, read_right, read_stop, read-round}
+use Rattle.semantics.proofs.Basics.{not-both}
+use Rattle.semantics.proofs.DecodeLaws.{read_code, read_sound, read_seq, read_left, read_right, read_stop, read-round}
 
 drop_past : (bs : List Bool) (i : ℕ) → length bs ≤ i → drop i bs ≡ []
 drop_past [] zero h = refl

@@ -16,12 +16,12 @@ use Rattle.semantics.specs.Value.{Value, nonempty, flat, nonproblematic}
 use Rattle.semantics.specs.Automaton.{Location, top, fst, snd, lft, rgt, rnd}
 use Rattle.semantics.specs.Sweeps.{readable}
 use Rattle.semantics.specs.Begins.{Begins, Reach}
-use Rattle.semantics.specs.Basics.{and_fst, and_snd, and_intro, le_leb, not-both}
-use Rattle.semantics.specs.CompleteLaws.{complete}
-use Rattle.semantics.specs.GreedyLaws.{readable_iff}
-use Rattle.semantics.specs.AutomatonLaws.{after}
-use Rattle.semantics.specs.VisitLaws.{All}
-use Rattle.semantics.specs.LetterLaws.{Lettered, flat-letters}
+use Rattle.semantics.proofs.Basics.{and_fst, and_snd, and_intro, le_leb, not-both}
+use Rattle.semantics.proofs.CompleteLaws.{complete}
+use Rattle.semantics.proofs.GreedyLaws.{readable_iff}
+use Rattle.semantics.proofs.AutomatonLaws.{after}
+use Rattle.semantics.proofs.VisitLaws.{All}
+use Rattle.semantics.proofs.LetterLaws.{Lettered, flat-letters}
 
 -- ---- every range has a letter
 abbrev pub Stocked : Tree → Type 0

@@ -7,7 +7,7 @@ use Rattle.syntax.specs.Tree.{Label, Tree, nothing, letter, range, seq, alt, sta
 use Rattle.semantics.specs.Value.{Value}
 use Rattle.semantics.specs.Order.{less_rounds, less, Greedy}
 use Rattle.semantics.specs.Paper001.{list_less, value_less, GreedyValue, no_lazy}
-use Rattle.semantics.specs.Basics.{and_fst, and_snd}
+use Rattle.semantics.proofs.Basics.{and_fst, and_snd}
 
 rounds_same : {A : Type 0} (l k : A → A → Type 0) → ((v x : A) → l v x ≡ k v x) → (vs xs : List A)
     → less_rounds false l vs xs ≡ list_less k vs xs

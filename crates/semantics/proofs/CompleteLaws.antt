@@ -5,7 +5,7 @@ use Rattle.std.proofs.Common.{inl, inr, append_assoc, arith, length-append}
 use Rattle.syntax.specs.Tree.{Tree, nothing, letter, range, seq, alt, star}
 use Rattle.semantics.specs.Value.{nonempty, flat_rounds, nonproblematic_rounds, flat, nonproblematic}
 use Rattle.semantics.specs.Sweeps.{After, after_round, can_rounds, can}
-use Rattle.semantics.specs.Basics.{and_fst, and_snd, and_intro, or_left, or_right, eqb_self, nonempty_pos, nonempty-append}
+use Rattle.semantics.proofs.Basics.{and_fst, and_snd, and_intro, or_left, or_right, eqb_self, nonempty_pos, nonempty-append}
 
 -- a list of rounds without an empty iteration: its first round spells something, has no empty iteration inside it, and the others are such a list
 pub record Full {A : Type 0} (f : A → List ℕ) (s : A → Bool) (v : A) (vs : List A) : Type 0 where

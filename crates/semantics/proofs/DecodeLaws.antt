@@ -16,7 +16,7 @@ use Rattle.syntax.specs.LetterLaws.{letter_small}
 use Rattle.semantics.specs.Value.{Value}
 use Rattle.semantics.specs.Code.{code_rounds, code}
 use Rattle.semantics.specs.Decode.{get_bits, checked, by_bit, decode_rounds, decode, Read, read}
-use Rattle.semantics.specs.Basics.{and_fst, not-both, leb_le, le_leb, nleb_lt, lt_nleb, not_self, glue}
+use Rattle.semantics.proofs.Basics.{and_fst, not-both, leb_le, le_leb, nleb_lt, lt_nleb, not_self, glue}
 
 in_range_small : (low high c : ℕ) → in_range low high c ≡ true → c < 256
 unfolding in_range

@@ -5,11 +5,11 @@ use Rattle.std.proofs.Math.Bool.{false, true}
 use Rattle.syntax.specs.Tree.{Label, Tree, seq, alt, star}
 use Rattle.semantics.specs.Value.{nonempty, flat}
 use Rattle.semantics.specs.Sweeps.{After, after_round, can, another}
-use Rattle.semantics.specs.Basics.{and_fst, and_snd, same_rest}
-use Rattle.semantics.specs.CompleteLaws.{complete}
-use Rattle.semantics.specs.FirstSweepLaws.{can_star}
-use Rattle.semantics.specs.SecondSweepLaws.{Best, BestOf, best, best_unique, seq_best, left_best, right_best, star_round, star_stop, round_best}
-use Rattle.semantics.specs.SecondSweepLaws.{no_round, stop_best, Choice, choice}
+use Rattle.semantics.proofs.Basics.{and_fst, and_snd, same_rest}
+use Rattle.semantics.proofs.CompleteLaws.{complete}
+use Rattle.semantics.proofs.FirstSweepLaws.{can_star}
+use Rattle.semantics.proofs.SecondSweepLaws.{Best, BestOf, best, best_unique, seq_best, left_best, right_best, star_round, star_stop, round_best}
+use Rattle.semantics.proofs.SecondSweepLaws.{no_round, stop_best, Choice, choice}
 
 -- all bests leave the same letters
 pub best-rest : {A : Type 0} {f : A → List ℕ} {s : A → Bool} {c : A → List Bool} {k : After} {b : Bool} {w : List ℕ} (p q : Best f s c k b w)

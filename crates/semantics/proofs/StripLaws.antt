@@ -5,8 +5,8 @@ use Rattle.syntax.specs.Tree.{Tree, nothing, letter, range, seq, alt, star}
 use Rattle.semantics.specs.Value.{Value, nonempty, flat_rounds, nonproblematic_rounds, flat, nonproblematic}
 use Rattle.semantics.specs.Code.{code_rounds, code}
 use Rattle.semantics.specs.Strip.{keep, strip_rounds, strip}
-use Rattle.semantics.specs.Basics.{and_fst, and_snd, and_intro}
-use Rattle.semantics.specs.CompleteLaws.{full_round}
+use Rattle.semantics.proofs.Basics.{and_fst, and_snd, and_intro}
+use Rattle.semantics.proofs.CompleteLaws.{full_round}
 
 empty : (s : List ℕ) → nonempty s ≡ false → s ≡ []
 empty [] e = refl

@@ -8,8 +8,8 @@ use Rattle.syntax.specs.Tree.{Tree, nothing, letter, range, seq, alt, star}
 use Rattle.bits.specs.Numbers.{length-bits_of}
 use Rattle.semantics.specs.Value.{Value, flat_rounds, nonproblematic_rounds, flat, nonproblematic}
 use Rattle.semantics.specs.Code.{code_rounds, code, code_limit, choices}
-use Rattle.semantics.specs.Basics.{and_fst, and_snd, nonempty_pos}
-use Rattle.semantics.specs.CompleteLaws.{full_round}
+use Rattle.semantics.proofs.Basics.{and_fst, and_snd, nonempty_pos}
+use Rattle.semantics.proofs.CompleteLaws.{full_round}
 
 -- a choices, n letters, l bits
 abbrev pub Within : ℕ → ℕ → ℕ → Type 0

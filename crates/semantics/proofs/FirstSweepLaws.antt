@@ -7,9 +7,9 @@ use Rattle.std.proofs.Math.Bool.{or-false, or-true}
 use Rattle.syntax.specs.Tree.{Label, Tree, star}
 use Rattle.semantics.specs.Value.{Value, nonempty, flat_rounds, flat, nonproblematic}
 use Rattle.semantics.specs.Sweeps.{After, after_round, can}
-use Rattle.semantics.specs.Basics.{and_intro, or_left, or_right, or_cases, nonempty-append, glue}
-use Rattle.semantics.specs.CompleteLaws.{full_round, after_round_full, after_round_on, after_round_yes, complete}
-use Rattle.semantics.specs.SecondSweepLaws.{best}
+use Rattle.semantics.proofs.Basics.{and_intro, or_left, or_right, or_cases, nonempty-append, glue}
+use Rattle.semantics.proofs.CompleteLaws.{full_round, after_round_full, after_round_on, after_round_yes, complete}
+use Rattle.semantics.proofs.SecondSweepLaws.{best}
 
 pub bool_ext : (a b : Bool) → (a ≡ true → b ≡ true) → (b ≡ true → a ≡ true) → a ≡ b
 bool_ext true b f g = sym (f refl)

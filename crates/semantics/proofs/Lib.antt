@@ -1,0 +1,33 @@
+-- The laws: that the second layer computes what the first says, and what callers need of both.
+pub mod Basics
+pub mod DecodeLaws
+pub mod BeforeLaws
+pub mod OrderLaws
+pub mod Paper001Laws
+pub mod CodeLaws
+pub mod PositionLaws
+pub mod CompleteLaws
+pub mod SecondSweepLaws
+pub mod PartLaws
+pub mod FirstSweepLaws
+pub mod StripLaws
+pub mod GreedyLaws
+pub mod AutomatonLaws
+pub mod BoundLaws
+pub mod VisitLaws
+pub mod CutLaws
+pub mod AlikeLaws
+pub mod PieceLaws
+pub mod AccountLaws
+pub mod LetterLaws
+pub mod BeginLaws
+pub mod FrontLaws
+pub mod FrontSteps
+pub mod EndLaws
+pub mod Promised
+-- C1 to C11 and the listing of document 01, and rows for `Z`; cuts, and where the law of pieces ends; chains of accounts; how far tapes can be read.
+pub mod Examples
+pub mod CutCases
+pub mod PieceExamples
+pub mod AccountChains
+pub mod ReachExamples
