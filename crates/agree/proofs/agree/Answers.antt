@@ -9,13 +9,13 @@ pub why_unsettled-requires : goal.why_unsettled-requires
 why_unsettled-requires c = refusal_canonicalized _ _ c.in_default.is
 
 pub returns-in_default : goal.returns-in_default
-returns-in_default c =     agrees_first _ _ _ _ _ _ _ _ _ _ _ _ _ _ _ _ _ _ c.canonicalize-first.ensures c.canonicalize-second.ensures _ c.why_unsettled.ensures
+returns-in_default c = agrees_first _ _ _ _ _ _ _ _ _ _ _ _ _ _ _ _ _ _ c.canonicalize-first.ensures c.canonicalize-second.ensures _ c.why_unsettled.ensures
 
 pub why_unsettled-requires-in_default-second : goal.why_unsettled-requires-in_default-second
 why_unsettled-requires-in_default-second c = refusal_canonicalized _ _ c.in_default-second.is
 
 pub returns-in_default-second : goal.returns-in_default-second
-returns-in_default-second c =     agrees-second _ _ _ _ _ _ _ _ _ _ _ _ _ _ _ _ _ _ c.canonicalize-first.ensures c.canonicalize-second.ensures _ _ c.in-Bits.is
+returns-in_default-second c = agrees-second _ _ _ _ _ _ _ _ _ _ _ _ _ _ _ _ _ _ c.canonicalize-first.ensures c.canonicalize-second.ensures _ _ c.in-Bits.is
     c.why_unsettled-in_default-second.ensures
 
 -- LOST slice-reshare-prefix-settle-again : tie.Need-slice-reshare-prefix-settle-preserved
@@ -51,5 +51,5 @@ returns-in_default-second c =     agrees-second _ _ _ _ _ _ _ _ _ _ _ _ _ _ _ _ 
 -- 
 
 pub returns : goal.returns
-returns c =     agrees-both _ _ _ _ _ _ _ _ _ _ _ _ _ _ _ _ _ _ c.canonicalize.ensures c.canonicalize2.ensures _ _ _ _ _ c.first.given.1
+returns c = agrees-both _ _ _ _ _ _ _ _ _ _ _ _ _ _ _ _ _ _ c.canonicalize.ensures c.canonicalize2.ensures _ _ _ _ _ c.first.given.1
     c.second.given.1 c.bytes-for.ensures c.bytes-for2.ensures _ c.settle_again.ensures

@@ -7,4 +7,4 @@ pub returns-then-n-m : goal.returns-then-n-m
 returns-then-n-m c = equal_counts c.args.one.now c.args.two.now _ _ c.if-n-m.true
 
 pub returns : goal.returns
-returns c =     equal_bytes c.args.one.now c.args.two.now _ _ _ c.if-n-m.false c.same.ensures
+returns c = equal_bytes c.args.one.now c.args.two.now _ _ _ c.if-n-m.false c.same.ensures

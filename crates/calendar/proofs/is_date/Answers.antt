@@ -13,4 +13,4 @@ pub returns-then-d-lt1 : goal.returns-then-d-lt1
 returns-then-d-lt1 c = day-zero _ c.if-d-lt-FIRST_YEAR.false c.if-d-gt-LAST_YEAR.false c.if-d-lt1.true
 
 pub returns : goal.returns
-returns c =     day_fits _ c.if-d-lt-FIRST_YEAR.false c.if-d-gt-LAST_YEAR.false c.if-d-lt1.false _ c.month_length.ensures
+returns c = day_fits _ c.if-d-lt-FIRST_YEAR.false c.if-d-gt-LAST_YEAR.false c.if-d-lt1.false _ c.month_length.ensures

@@ -13,7 +13,7 @@ pub returns-then-month-gt-MONTHS : goal.returns-then-month-gt-MONTHS
 returns-then-month-gt-MONTHS c = month_past _ _ c.if-month-lt1.false c.if-month-gt-MONTHS.true
 
 pub overflow_add-result : goal.overflow_add-result
-overflow_add-result c =     let m = c.args.month in
+overflow_add-result c = let m = c.args.month in
     omega (
       arith,
       c.leap_day.ensures,
@@ -23,4 +23,4 @@ overflow_add-result c =     let m = c.args.month in
     )
 
 pub returns : goal.returns
-returns c =     month_days _ _ c.if-month-lt1.false c.if-month-gt-MONTHS.false _ _ c.table_length.ensures c.leap_day.ensures
+returns c = month_days _ _ c.if-month-lt1.false c.if-month-gt-MONTHS.false _ _ c.table_length.ensures c.leap_day.ensures

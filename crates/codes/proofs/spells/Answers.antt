@@ -6,15 +6,15 @@ use borrow.Author.Rules.{rules}
 use Rattle.codes.proofs.spells.Goals as goal
 
 pub enter-measured-requires : goal.enter-measured-requires
-enter-measured-requires c =     ((c.requires.0, c.requires.1.0), search rules)
+enter-measured-requires c = record { good = (c.requires.good, c.requires.l_bound.0); letters_len_bound = search rules }
 
 pub returns-then-not-measured : goal.returns-then-not-measured
-returns-then-not-measured c =     spells_no _ _ _ _ c.requires.1.1 c.enter-measured.ensures (not-true _ c.if-not-measured.true)
+returns-then-not-measured c = spells_no _ _ _ _ c.requires.l_bound.1 c.enter-measured.ensures (not-true _ c.if-not-measured.true)
 
 pub returns-then-measured-tape : goal.returns-then-measured-tape
-returns-then-measured-tape c =     let read = c.enter-measured.ensures in
-    spells_other _ _ _ _ c.requires.1.1 read (not-false _ c.if-not-measured.false) c.if-measured-tape.true
+returns-then-measured-tape c = let read = c.enter-measured.ensures in
+    spells_other _ _ _ _ c.requires.l_bound.1 read (not-false _ c.if-not-measured.false) c.if-measured-tape.true
 
 pub returns : goal.returns
-returns c =     let read = c.enter-measured.ensures in
-    spells_same _ _ _ _ c.requires.1.1 read (not-false _ c.if-not-measured.false) c.if-measured-tape.false refl _ c.begins.ensures
+returns c = let read = c.enter-measured.ensures in
+    spells_same _ _ _ _ c.requires.l_bound.1 read (not-false _ c.if-not-measured.false) c.if-measured-tape.false refl _ c.begins.ensures

@@ -9,33 +9,33 @@ use borrow.Author.Rules.{rules}
 use Rattle.entries.proofs.gather.Goals as goal
 
 pub returns-then-not-obeys_rules : goal.returns-then-not-obeys_rules
-returns-then-not-obeys_rules c = gather_bad _ _ _ _ _ (sym c.obeys_rules.ensures ∙ not-true _ c.if-not-obeys_rules.true-raw)
+returns-then-not-obeys_rules c = gather_bad _ _ _ _ _ (sym c.obeys_rules.ensures ∙ c.if-not-obeys_rules.true)
 
 pub table_of-table-requires : goal.table_of-table-requires
-table_of-table-requires c = (obeys_iff _).0 (sym c.obeys_rules.ensures ∙ not-false _ c.if-not-obeys_rules.false-raw)
+table_of-table-requires c = (obeys_iff _).0 (sym c.obeys_rules.ensures ∙ c.if-not-obeys_rules.false)
 
 pub overflow_sub-root : goal.overflow_sub-root
-overflow_sub-root c =     let o = sym c.obeys_rules.ensures ∙ not-false _ c.if-not-obeys_rules.false-raw in
+overflow_sub-root c = let o = sym c.obeys_rules.ensures ∙ c.if-not-obeys_rules.false in
     omega (arith, ((obeys_iff _).0 o).one)
 
 pub enter-measured-requires : goal.enter-measured-requires
-enter-measured-requires c =     let pre = c.requires in
-    let o = sym c.obeys_rules.ensures ∙ not-false _ c.if-not-obeys_rules.false-raw in
+enter-measured-requires c = let pre = c.requires in
+    let o = sym c.obeys_rules.ensures ∙ c.if-not-obeys_rules.false in
     let r = (obeys_iff _).0 o in
-    ((holds_good _ _ o c.table_of-table.ensures, omega (arith, r.one, r.few)), (omega (arith, pre.0), omega (arith, pre.1)))
+    record { good = (holds_good _ _ o c.table_of-table.ensures, omega (arith, r.one, r.few)); letters_len_bound = (omega (arith, pre.0), omega (arith, pre.1)) }
 
 pub returns-then-not-measured : goal.returns-then-not-measured
-returns-then-not-measured c =     let o = sym c.obeys_rules.ensures ∙ not-false _ c.if-not-obeys_rules.false-raw in
+returns-then-not-measured c = let o = sym c.obeys_rules.ensures ∙ c.if-not-obeys_rules.false in
     let read = reads-root _ _ o c.table_of-table.ensures c.enter-measured.ensures in
     gather_not _ _ _ o read (not-true _ c.if-not-measured.true)
 
 pub returns-then-n-gt-MAX_LETTERS : goal.returns-then-n-gt-MAX_LETTERS
-returns-then-n-gt-MAX_LETTERS c =     let o = sym c.obeys_rules.ensures ∙ not-false _ c.if-not-obeys_rules.false-raw in
+returns-then-n-gt-MAX_LETTERS c = let o = sym c.obeys_rules.ensures ∙ c.if-not-obeys_rules.false in
     let read = reads-root _ _ o c.table_of-table.ensures c.enter-measured.ensures in
     gather_long _ _ _ o read (not-false _ c.if-not-measured.false) c.if-n-gt-MAX_LETTERS.true
 
 pub returns : goal.returns
-returns c =     let pre = c.requires in
-    let o = sym c.obeys_rules.ensures ∙ not-false _ c.if-not-obeys_rules.false-raw in
+returns c = let pre = c.requires in
+    let o = sym c.obeys_rules.ensures ∙ c.if-not-obeys_rules.false in
     let read = reads-root _ _ o c.table_of-table.ensures c.enter-measured.ensures in
     gather_done _ _ _ o read (not-false _ c.if-not-measured.false) c.if-n-gt-MAX_LETTERS.false pre.0 pre.1

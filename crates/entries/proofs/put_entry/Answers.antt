@@ -5,4 +5,4 @@ use borrow.Author.Rules.{rules}
 use Rattle.entries.proofs.put_entry.Goals as goal
 
 pub returns : goal.returns
-returns c =     (c.put_cell.ensures, c.put_cell-2.ensures, ap (went _) c.next_cell-next.ensures)
+returns c = (c.put_cell.ensures, c.put_cell-2.ensures, ap (went _) c.next_cell-next.ensures)

@@ -12,31 +12,26 @@ pub bits_in-requires : goal.bits_in-requires
 bits_in-requires c = c.requires.short
 
 pub overflow_add-at : goal.overflow_add-at
-overflow_add-at c =     omega (arith, c.requires.within, c.requires.short)
+overflow_add-at c = omega (arith, c.requires.within, c.requires.short)
 
 pub returns-then-bits_in-at : goal.returns-then-bits_in-at
-returns-then-bits_in-at c =     not_entered refl refl c.failed.ensures (entries_short _ _ _ _ _ (omega (arith, c.if-bits_in-at.true, c.bits_in.ensures)))
+returns-then-bits_in-at c = not_entered refl refl c.failed.ensures (entries_short _ _ _ _ _ (omega (arith, c.if-bits_in-at.true, c.bits_in.ensures)))
 
 pub byte_at-c-requires : goal.byte_at-c-requires
 byte_at-c-requires c = omega (arith, c.if-bits_in-at.false, c.bits_in.ensures)
 
--- what was asked of the byte
-asked : (c : goal.After-in_range) → let s = c.before.before.before.before.before.before.before in
-    c.in_range.result ≡ in_range s.args.low s.args.high c.byte_at-c.result
-asked c = c.in_range.ensures
-
 pub returns-then-not-in_range : goal.returns-then-not-in_range
-returns-then-not-in_range c =     let out = sym (asked (goal.at.returns-then-not-in_range c).After-in_range) ∙ not-true _ c.if-not-in_range.true-raw in
+returns-then-not-in_range c = let out = sym c.in_range.ensures ∙ c.if-not-in_range.true in
     not_entered refl refl c.failed-then-not-in_range.ensures
     (entries_outside _ _ _ _ _ _ (omega (arith, c.if-bits_in-at.false, c.bits_in.ensures)) c.byte_at-c.ensures out)
 
 pub overflow_add-at-2 : goal.overflow_add-at-2
-overflow_add-at-2 c =     omega (arith, c.requires.within, c.requires.short)
+overflow_add-at-2 c = omega (arith, c.requires.within, c.requires.short)
 
 pub put_entry-requires : goal.put_entry-requires
-put_entry-requires c =     c.requires.few
+put_entry-requires c = c.requires.few
 
 pub returns : goal.returns
-returns c =     let inside = sym (asked (goal.at.returns c).After-in_range) ∙ not-false _ c.if-not-in_range.false-raw in
+returns c = let inside = sym c.in_range.ensures ∙ c.if-not-in_range.false in
     one_entered (entries_range _ _ _ _ _ _ (omega (arith, c.if-bits_in-at.false, c.bits_in.ensures)) c.byte_at-c.ensures inside)
     c.put_entry.ensures.0 c.put_entry.ensures.1 c.put_entry.ensures.2

@@ -9,23 +9,23 @@ use borrow.Author.Rules.{rules}
 use Rattle.terms.proofs.total_dates.Goals as goal
 
 pub returns-then-not-dates : goal.returns-then-not-dates
-returns-then-not-dates c =     let tested = dates_tested _ _ _ c.args.accounts.now c.requires.0 c.requires.2.wide _ c.last_date.ensures _
+returns-then-not-dates c = let tested = dates_tested _ _ _ c.args.accounts.now c.requires.0 c.requires.2.wide _ c.last_date.ensures _
     c.is_date-dates.ensures in
-    rw c.no_term_totals.ensures (dates_undated _ _ _ (tested ∙ not-true _ c.if-not-dates.true-raw))
+    rw c.no_term_totals.ensures (dates_undated _ _ _ (tested ∙ c.if-not-dates.true))
 
 pub returns-then-not-known : goal.returns-then-not-known
-returns-then-not-known c =     let tested = dates_tested _ _ _ c.args.accounts.now c.requires.0 c.requires.2.wide _ c.last_date.ensures _
+returns-then-not-known c = let tested = dates_tested _ _ _ c.args.accounts.now c.requires.0 c.requires.2.wide _ c.last_date.ensures _
     c.is_date-dates.ensures in
-    let no_term = sym c.is_term-known.ensures ∙ not-true _ c.if-not-known.true-raw in
-    rw c.no_term_totals-then-not-known.ensures (dates-no_term _ _ _ (tested ∙ not-false _ c.if-not-dates.false-raw) no_term)
+    let no_term = sym c.is_term-known.ensures ∙ c.if-not-known.true in
+    rw c.no_term_totals-then-not-known.ensures (dates-no_term _ _ _ (tested ∙ c.if-not-dates.false) no_term)
 
 pub add_up-requires : goal.add_up-requires
-add_up-requires c =     let start = c.before.before in
+add_up-requires c = let start = c.before.before in
     let kept = c.select-term.ensures in
     (kept.long, omega (arith, kept.few, start.requires.1), kept.own)
 
 pub returns : goal.returns
-returns c =     let start = c.before.before in
+returns c = let start = c.before.before in
     let tested = dates_tested _ _ _ start.args.accounts.now start.requires.0 start.requires.2.wide _ c.last_date.ensures _
     c.is_date.ensures in
     let term = sym c.is_term.ensures ∙ not-false _ c.if2.false in

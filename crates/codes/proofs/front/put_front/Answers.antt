@@ -8,7 +8,7 @@ pub loop-i-init : goal.loop-i-init
 loop-i-init c = copied_none _ _ _
 
 pub loop-i-preserved : goal.loop-i-preserved
-loop-i-preserved c =     copied_one c.loop-i.invariant c.requires.0 c.requires.1 c.loop-i-test.true
+loop-i-preserved c = copied_one c.loop-i.invariant c.requires.0 c.requires.1 c.loop-i-test.true
 
 pub returns : goal.returns
 returns c = copied_all c.loop-i.invariant c.loop-i-test.false

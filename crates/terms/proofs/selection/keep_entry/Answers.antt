@@ -5,7 +5,7 @@ use borrow.Author.Rules.{rules}
 use Rattle.terms.proofs.selection.keep_entry.Goals as goal
 
 pub returns-then-not-inside : goal.returns-then-not-inside
-returns-then-not-inside c = kept_outside _ _ _ _ _ (not-true _ c.if-not-inside.true-raw)
+returns-then-not-inside c = kept_outside _ _ _ _ _ c.if-not-inside.true
 
 pub returns : goal.returns
-returns c = kept-inside _ _ _ _ _ (not-false _ c.if-not-inside.false-raw)
+returns c = kept-inside _ _ _ _ _ c.if-not-inside.false
