@@ -18,38 +18,20 @@ pub returns-in_default-second : goal.returns-in_default-second
 returns-in_default-second c = agrees-second _ _ _ _ _ _ _ _ _ _ _ _ _ _ _ _ _ _ c.canonicalize-first.ensures c.canonicalize-second.ensures _ _ c.in-Bits.is
     c.why_unsettled-in_default-second.ensures
 
--- LOST slice-reshare-prefix-settle-again : tie.Need-slice-reshare-prefix-settle-preserved
--- slice-reshare-prefix-settle-again c =
---     let c6 = c.before.before.before.before.before.before in
---     let c24 =
---     c6.before.before.before.before.before.before.before.before.before.before.before.before.before.before.before.before.before.before in
---     left_end _ _ _ _ _ _ _ _ _ _ _ c24.canonicalize.ensures c6.first.given.1 _ c.before.bytes-for.ensures
--- 
+pub slice_bounds-settle_again-end : goal.slice_bounds-settle_again-end
+slice_bounds-settle_again-end c = left_end _ _ _ _ _ _ _ _ _ _ _ c.canonicalize-first.ensures c.in-Bits.is _ c.bytes_for-i.ensures
 
--- LOST slice-aggregate-settle-again : tie.Need-slice-aggregate-settle-preserved
--- slice-aggregate-settle-again c =
---     let c2 = c.before.before in
---     let c7 = c2.before.before.before.before.before in
---     let c25 =
---     c7.before.before.before.before.before.before.before.before.before.before.before.before.before.before.before.before.before.before in
---     sym (length-take-le _ _ (left_end _ _ _ _ _ _ _ _ _ _ _ c25.canonicalize.ensures c7.first.given.1 _ c2.bytes-for.ensures))
--- 
+pub slice_bounds-settle_again-end-2 : goal.slice_bounds-settle_again-end-2
+slice_bounds-settle_again-end-2 c =
+    sym (length-take-le _ _ (left_end _ _ _ _ _ _ _ _ _ _ _ c.canonicalize-first.ensures c.in-Bits.is _ c.bytes_for-i.ensures))
 
--- LOST slice-reshare-prefix-settle-again-2 : tie.Need-slice-reshare-prefix-settle-preserved-2
--- slice-reshare-prefix-settle-again-2 c =
---     let c4 = c.before.before.before.before in
---     let c15 = c4.before.before.before.before.before.before.before.before.before.before.before in
---     left_end _ _ _ _ _ _ _ _ _ _ _ c15.canonicalize2.ensures c4.second.given.1 _ c.before.bytes-for2.ensures
--- 
+pub slice_bounds-settle_again-end-3 : goal.slice_bounds-settle_again-end-3
+slice_bounds-settle_again-end-3 c = left_end _ _ _ _ _ _ _ _ _ _ _ c.canonicalize-second.ensures c.in-Bits-second.is _ c.bytes_for-j.ensures
 
--- LOST slice-aggregate-settle-again-2 : tie.Need-slice-aggregate-settle-preserved-2
--- slice-aggregate-settle-again-2 c =
---     let c2 = c.before.before in
---     let c5 = c2.before.before.before in
---     let c16 = c5.before.before.before.before.before.before.before.before.before.before.before in
---     sym (length-take-le _ _ (left_end _ _ _ _ _ _ _ _ _ _ _ c16.canonicalize2.ensures c5.second.given.1 _ c2.bytes-for2.ensures))
--- 
+pub slice_bounds-settle_again-end-4 : goal.slice_bounds-settle_again-end-4
+slice_bounds-settle_again-end-4 c =
+    sym (length-take-le _ _ (left_end _ _ _ _ _ _ _ _ _ _ _ c.canonicalize-second.ensures c.in-Bits-second.is _ c.bytes_for-j.ensures))
 
 pub returns : goal.returns
-returns c = agrees-both _ _ _ _ _ _ _ _ _ _ _ _ _ _ _ _ _ _ c.canonicalize.ensures c.canonicalize2.ensures _ _ _ _ _ c.first.given.1
-    c.second.given.1 c.bytes-for.ensures c.bytes-for2.ensures _ c.settle_again.ensures
+returns c = agrees-both _ _ _ _ _ _ _ _ _ _ _ _ _ _ _ _ _ _ c.canonicalize-first.ensures c.canonicalize-second.ensures _ _ _ _ _ c.in-Bits.is
+    c.in-Bits-second.is c.bytes_for-i.ensures c.bytes_for-j.ensures _ c.settle_again.ensures

@@ -15,31 +15,31 @@ pub slice_bounds-equal-end : goal.slice_bounds-equal-end
 slice_bounds-equal-end c = left_end _ _ _ _ _ _ _ _ _ _ _ c.canonicalize-third.ensures c.in-Bits.is _ c.bytes_for-i.ensures
 
 pub slice_bounds-equal-end-2 : goal.slice_bounds-equal-end-2
-slice_bounds-equal-end-2 c = sym (length-take-le _ _ (left_end _ _ _ _ _ _ _ _ _ _ _ c.canonicalize.ensures c.third.given.1 _ c.bytes-for.ensures))
+slice_bounds-equal-end-2 c = sym (length-take-le _ _ (left_end _ _ _ _ _ _ _ _ _ _ _ c.canonicalize-third.ensures c.in-Bits.is _ c.bytes_for-i.ensures))
 
 pub why_unsettled-requires-in_default-fourth : goal.why_unsettled-requires-in_default-fourth
 why_unsettled-requires-in_default-fourth c = refusal_canonicalized _ _ c.in_default-fourth.is
 
 pub returns-in_default-fourth : goal.returns-in_default-fourth
-returns-in_default-fourth c = again_second _ _ _ c.args.two.now c.args.m _ _ _ _ _ _ _ c.canonicalize.ensures _ c.third.given.1 _ _ _ _
+returns-in_default-fourth c = again_second _ _ _ c.args.two.now c.args.m _ _ _ _ _ _ _ c.canonicalize-third.ensures _ c.in-Bits.is _ _ _ _
     c.canonicalize-fourth.ensures _ c.why_unsettled-in_default-fourth.ensures
 
 pub slice_bounds-equal-end-3 : goal.slice_bounds-equal-end-3
 slice_bounds-equal-end-3 c = left_end _ _ _ _ _ _ _ _ _ _ _ c.canonicalize-fourth.ensures c.in-Bits-fourth.is _ c.bytes_for-j.ensures
 
 pub slice_bounds-equal-end-4 : goal.slice_bounds-equal-end-4
-slice_bounds-equal-end-4 c = sym (length-take-le _ _ (left_end _ _ _ _ _ _ _ _ _ _ _ c.canonicalize2.ensures c.fourth.given.1 _ c.bytes-for2.ensures))
+slice_bounds-equal-end-4 c = sym (length-take-le _ _ (left_end _ _ _ _ _ _ _ _ _ _ _ c.canonicalize-fourth.ensures c.in-Bits-fourth.is _ c.bytes_for-j.ensures))
 
 pub shape_of-tape : goal.shape_of-tape
-shape_of-tape c = tape-length _ _ _ _ _ _ _ _ _ _ _ c.canonicalize2.ensures c.fourth.given.1
-    ∙ tape-length _ _ _ _ _ _ _ _ _ _ _ c.canonicalize.ensures c.third.given.1
+shape_of-tape c = tape-length _ _ _ _ _ _ _ _ _ _ _ c.canonicalize-fourth.ensures c.in-Bits-fourth.is
+    ∙ tape-length _ _ _ _ _ _ _ _ _ _ _ c.canonicalize-third.ensures c.in-Bits.is
 
 pub shape_of-words : goal.shape_of-words
-shape_of-words c = words-kept _ _ _ _ _ _ _ _ _ _ _ c.canonicalize2.ensures c.fourth.given.1
-    ∙ words-kept _ _ _ _ _ _ _ _ _ _ _ c.canonicalize.ensures c.third.given.1
+shape_of-words c = words-kept _ _ _ _ _ _ _ _ _ _ _ c.canonicalize-fourth.ensures c.in-Bits-fourth.is
+    ∙ words-kept _ _ _ _ _ _ _ _ _ _ _ c.canonicalize-third.ensures c.in-Bits.is
 
 pub returns : goal.returns
 returns c = let c39 = c.before in
-    again-both _ _ _ c39.args.two.now c39.args.m _ _ _ _ _ _ _ c.canonicalize.ensures _ c.third.given.1 _ _ _ _
-    c.canonicalize2.ensures _ _ _ c.fourth.given.1 c.bytes-for.ensures c.bytes-for2.ensures _ _ _ c.equal.ensures
+    again-both _ _ _ c.args.two.now c.args.m _ _ _ _ _ _ _ c.canonicalize-third.ensures _ c.in-Bits.is _ _ _ _
+    c.canonicalize-fourth.ensures _ _ _ c.in-Bits-fourth.is c.bytes_for-i.ensures c.bytes_for-j.ensures _ _ _ c.equal-one_back.ensures
     c.equal-two_back.ensures c.equal.ensures _ c.conclude.ensures

@@ -3,9 +3,5 @@ use mathlib.Core.Path.{refl}
 use borrow.Author.Rules.{rules}
 use Rattle.calendar.proofs.table_length.Goals as goal
 
--- LOST array-read-result : tie.Need-array-read-result
--- array-read-result c = search rules
--- 
-
 pub returns : goal.returns
 returns c = refl

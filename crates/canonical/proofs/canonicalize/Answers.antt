@@ -17,17 +17,17 @@ slice_bounds-parse-end c = laid-room _ c.args.code.now _ c.args.tape.now _ _
 
 pub slice_bounds-parse-end-2 : goal.slice_bounds-parse-end-2
 slice_bounds-parse-end-2 c = sym (length-take-le _ _ (laid-room _ c.args.code.now _ c.args.tape.now _ _
-    (laid _ c.args.code.now _ c.args.tape.now _ _ c.flatten.ensures _ c.flattened.given.1)))
+    (laid _ c.args.code.now _ c.args.tape.now _ _ c.flatten-flattened.ensures _ c.in-Letters.is)))
 
 pub why_unread-requires : goal.why_unread-requires
 why_unread-requires c = refusal_parsed _ _ c.in_default-read.is
 
 pub returns-in_default-read : goal.returns-in_default-read
 returns-in_default-read c = settle_read _ c.args.code.now _ c.args.tape.now _ _
-    (laid _ c.args.code.now _ c.args.tape.now _ _ c.flatten.ensures _ c.flattened.given.1)
+    (laid _ c.args.code.now _ c.args.tape.now _ _ c.flatten-flattened.ensures _ c.in-Letters.is)
     _ _ _ _ _ c.parse-read.ensures _ (read-refused _ _ c.why_unread.ensures)
 
 pub returns : goal.returns
 returns c = settle_read _ c.args.code.now _ c.args.tape.now _ _
-    (laid _ c.args.code.now _ c.args.tape.now _ _ c.flatten.ensures _ c.flattened.given.1)
+    (laid _ c.args.code.now _ c.args.tape.now _ _ c.flatten-flattened.ensures _ c.in-Letters.is)
     _ _ _ _ _ c.parse-read.ensures _ (read_bits _ _ c.in-Bits.is)

@@ -20,13 +20,11 @@ returns-then-not-known c = let tested = dates_tested _ _ _ c.args.accounts.now c
     rw c.no_term_totals-then-not-known.ensures (dates-no_term _ _ _ (tested ∙ c.if-not-dates.false) no_term)
 
 pub add_up-requires : goal.add_up-requires
-add_up-requires c = let start = c.before.before in
-    let kept = c.select-term.ensures in
-    (kept.long, omega (arith, kept.few, start.requires.1), kept.own)
+add_up-requires c =     let kept = c.select_term-kept.ensures in
+    (kept.long, omega (arith, kept.few, c.requires.1), kept.own)
 
 pub returns : goal.returns
-returns c = let start = c.before.before in
-    let tested = dates_tested _ _ _ start.args.accounts.now start.requires.0 start.requires.2.wide _ c.last_date.ensures _
-    c.is_date.ensures in
-    let term = sym c.is_term.ensures ∙ not-false _ c.if2.false in
-    dates-added _ _ _ (tested ∙ not-false _ c.if1.false) term _ (c.add_up.ensures ∙ ap totals c.select-term.ensures.is)
+returns c =     let tested = dates_tested _ _ _ c.args.accounts.now c.requires.0 c.requires.2.wide _ c.last_date.ensures _
+    c.is_date-dates.ensures in
+    let term = sym c.is_term-known.ensures ∙ c.if-not-known.false in
+    dates-added _ _ _ (tested ∙ c.if-not-dates.false) term _ (c.add_up.ensures ∙ ap totals c.select_term-kept.ensures.is)
