@@ -9,20 +9,21 @@ use Rattle.first_sweep.specs.Sweep.{stored_step, Sweepable, sweepable_front}
 use Rattle.first_sweep.specs.Sweep.{Sweeping, sweeping_start, sweeping_same, sweeping_room, sweeping_down, sweeping_rest}
 use borrow.Author.Rules.{rules}
 use Rattle.first_sweep.proofs.sweep.Goals as goal
+use Rattle.first_sweep.proofs.sweep.Goals.{In-loop-owners, Then-n-ne0, Then-n-ne0-unread}
 
 pub loop-owners-init : goal.loop-owners-init
 loop-owners-init c = (c.requires, sweeping_start _ _ _ _ _ _ _, learned_start _ _ _, stands-start _ _ _)
 
 -- a letter is left
-some : (c : goal.In-loop-owners) → 0 < c.loop-owners.i
+some : (c : In-loop-owners) → 0 < c.loop-owners.i
 some c = c.goes_on.ensures.some c.loop-owners-test.true
 
 -- it has a cell in the table of letters
-inside : (c : goal.In-loop-owners) → c.loop-owners.i - 1 < length c.args.letters.now
+inside : (c : In-loop-owners) → c.loop-owners.i - 1 < length c.args.letters.now
 inside c = omega (arith, some c, c.loop-owners.invariant.1.inside)
 
 -- the number read is that of a pair
-few : (c : goal.Then-n-ne0) → c.known-n.result < 40
+few : (c : Then-n-ne0) → c.known-n.result < 40
 few c =     let l = c.loop-owners in
     known_small _ _ _ _ _ _ l.invariant.2 _ _ _ _ _ _ l.invariant.3 (c.goes_on.ensures.small c.loop-owners-test.true)
     c.column_of.ensures c.known-n.ensures c.if-n-ne0.true

@@ -9,13 +9,14 @@ use Rattle.scanning.specs.Scans.{finished}
 use Rattle.scanning.specs.Cuts.{ReadsAccount, reads-account_at}
 use borrow.Author.Rules.{rules}
 use Rattle.scanning.proofs.scan_account.Goals as goal
+use Rattle.scanning.proofs.scan_account.Goals.{After-account_from-a}
 
 -- the account that is read, told of the text
-reads : (c : goal.After-account_from-a) → ReadsAccount (drop c.args.at c.args.text.now) c.account_from-a.result
+reads : (c : After-account_from-a) → ReadsAccount (drop c.args.at c.args.text.now) c.account_from-a.result
 reads c =     reads-account_at c.args.text.now c.args.at _ (λ k. omega (arith, c.shared_slice_known-1.given k))
     c.account_from-a.ensures
 
-small : (c : goal.After-account_from-a) → c.account_from-a.result.size ≤ 4
+small : (c : After-account_from-a) → c.account_from-a.result.size ≤ 4
 small c = account_small c.args.text.now c.args.at _ c.account_from-a.ensures
 
 pub returns-then-account-gt-MAX_ACCOUNT : goal.returns-then-account-gt-MAX_ACCOUNT

@@ -9,22 +9,23 @@ use Rattle.scanning.specs.Scans.{account_scanned}
 use Rattle.scanning.specs.Cuts.{Reads, reads_at}
 use borrow.Author.Rules.{rules}
 use Rattle.scanning.proofs.scan_line.Goals as goal
+use Rattle.scanning.proofs.scan_line.Goals.{After-field_from-p, After-field_from-k}
 
 -- the first field that is read, told of the text
-reads : (c : goal.After-field_from-p) → Reads (drop c.args.at c.args.text.now) c.field_from-p.result
+reads : (c : After-field_from-p) → Reads (drop c.args.at c.args.text.now) c.field_from-p.result
 reads c =     reads_at c.args.text.now c.args.at _ (λ k. omega (arith, c.shared_slice_known-1.given k))
     c.field_from-p.ensures
 
-small : (c : goal.After-field_from-p) → c.field_from-p.result.size ≤ 3
+small : (c : After-field_from-p) → c.field_from-p.result.size ≤ 3
 small c = field_small c.args.text.now c.args.at _ c.field_from-p.ensures
 
 -- the second
-reads2 : (c : goal.After-field_from-k) → let a = c.before.before.before.before.before.before in let s = a.before.before in
+reads2 : (c : After-field_from-k) → let a = c.before.before.before.before.before.before in let s = a.before.before in
     Reads (drop (s.args.at + a.field-from.result.size + 1) s.args.text.now) c.field_from-k.result
 reads2 c =     reads_at c.args.text.now (c.args.at + c.field_from-p.result.size + 1) _ (λ k. omega (arith, c.shared_slice_known-1.given k))
     c.field_from-k.ensures
 
-small2 : (c : goal.After-field_from-k) → c.field_from-k.result.size ≤ 3
+small2 : (c : After-field_from-k) → c.field_from-k.result.size ≤ 3
 small2 c =     field_small c.args.text.now (c.args.at + c.field_from-p.result.size + 1) _ c.field_from-k.ensures
 
 pub returns-then-p-ne-TAB : goal.returns-then-p-ne-TAB

@@ -9,22 +9,23 @@ use Rattle.scanning.specs.Scans.{finished}
 use Rattle.scanning.specs.Cuts.{Reads, reads_at}
 use borrow.Author.Rules.{rules}
 use Rattle.scanning.proofs.scan_parts.Goals as goal
+use Rattle.scanning.proofs.scan_parts.Goals.{After-field_from-x, After-field_from-y}
 
 -- the first field that is read, told of the text
-reads : (c : goal.After-field_from-x) → Reads (drop c.args.at c.args.text.now) c.field_from-x.result
+reads : (c : After-field_from-x) → Reads (drop c.args.at c.args.text.now) c.field_from-x.result
 reads c =     reads_at c.args.text.now c.args.at _ (λ k. omega (arith, c.shared_slice_known-1.given k))
     c.field_from-x.ensures
 
-small : (c : goal.After-field_from-x) → c.field_from-x.result.size ≤ 3
+small : (c : After-field_from-x) → c.field_from-x.result.size ≤ 3
 small c = field_small c.args.text.now c.args.at _ c.field_from-x.ensures
 
 -- the second
-reads2 : (c : goal.After-field_from-y) → let a = c.before.before.before.before.before.before in let s = a.before.before in
+reads2 : (c : After-field_from-y) → let a = c.before.before.before.before.before.before in let s = a.before.before in
     Reads (drop (s.args.at + a.field-from.result.size + 1) s.args.text.now) c.field_from-y.result
 reads2 c =     reads_at c.args.text.now (c.args.at + c.field_from-x.result.size + 1) _ (λ k. omega (arith, c.shared_slice_known-1.given k))
     c.field_from-y.ensures
 
-small2 : (c : goal.After-field_from-y) → c.field_from-y.result.size ≤ 3
+small2 : (c : After-field_from-y) → c.field_from-y.result.size ≤ 3
 small2 c =     field_small c.args.text.now (c.args.at + c.field_from-x.result.size + 1) _ c.field_from-y.ensures
 
 pub overflow_add-end : goal.overflow_add-end

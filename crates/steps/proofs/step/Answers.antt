@@ -8,9 +8,10 @@ use Rattle.steps.specs.Stepping.{Stepping, stepping_start, stepping_next, steppi
 use Rattle.bits.specs.Lowest.{Lowest, lowest}
 use borrow.Author.Rules.{rules}
 use Rattle.steps.proofs.step.Goals as goal
+use Rattle.steps.proofs.step.Goals.{In-loop-rest}
 
 -- the lowest leaf left
-here : (c : goal.In-loop-rest) → Lowest 64 c.loop-rest.rest
+here : (c : In-loop-rest) → Lowest 64 c.loop-rest.rest
 here c = lowest 64 c.loop-rest.rest (omega arith) c.loop-rest.invariant.few
 
 pub loop-rest-init : goal.loop-rest-init

@@ -7,9 +7,10 @@ use Rattle.table.specs.HandDown.{PartsInside, parts-inside}
 use Rattle.masks.specs.Firsts.{first-line-same}
 use borrow.Author.Rules.{rules}
 use Rattle.masks.proofs.firsts.line_first.Goals as goal
+use Rattle.masks.proofs.firsts.line_first.Goals.{After-node_at-node}
 
 -- the parts of the line lie inside the arrays
-inside : (c : goal.After-node_at-node) → PartsInside c.args.i c.node_at-node.result
+inside : (c : After-node_at-node) → PartsInside c.args.i c.node_at-node.result
 inside c = parts-inside c.args.i c.node_at-node.result (subst (Below c.args.i) (sym c.node_at-node.ensures) c.requires.1)
 
 pub first_at-a-requires : goal.first_at-a-requires

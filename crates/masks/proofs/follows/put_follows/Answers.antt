@@ -9,16 +9,17 @@ use Rattle.masks.specs.Firsts.{Firsts}
 use Rattle.masks.specs.Follows.{Down, down_start, down_at, down_end}
 use borrow.Author.Rules.{rules}
 use Rattle.masks.proofs.follows.put_follows.Goals as goal
+use Rattle.masks.proofs.follows.put_follows.Goals.{In-loop-i, After-node_at-node}
 
 -- the line lies inside the table, and its parts stand below it
-line : (c : goal.In-loop-i) → c.loop-i.i - 1 < 64
+line : (c : In-loop-i) → c.loop-i.i - 1 < 64
 line c = omega (arith, c.loop-i-test.true, c.loop-i.invariant.2.inside, c.loop-i.invariant.0.few)
 
-below : (c : goal.After-node_at-node) → Below (c.loop-i.i - 1) c.node_at-node.result
+below : (c : After-node_at-node) → Below (c.loop-i.i - 1) c.node_at-node.result
 below c =     let l = c.loop-i in
     subst (Below (l.i - 1)) (sym c.node_at-node.ensures) (l.invariant.0.lower (l.i - 1) (omega (arith, c.loop-i-test.true, l.invariant.2.inside)))
 
-inside : (c : goal.After-node_at-node) → PartsInside (c.loop-i.i - 1) c.node_at-node.result
+inside : (c : After-node_at-node) → PartsInside (c.loop-i.i - 1) c.node_at-node.result
 inside c = parts-inside (c.loop-i.i - 1) c.node_at-node.result (below c)
 
 pub overflow_sub-count : goal.overflow_sub-count

@@ -8,13 +8,14 @@ use Rattle.bits.specs.Words.{word-start, word_next, word_fits}
 use Rattle.masks.specs.Masks.{comes_to_end}
 use borrow.Author.Rules.{rules}
 use Rattle.masks.proofs.scatter.ends_of.Goals as goal
+use Rattle.masks.proofs.scatter.ends_of.Goals.{After-single-e}
 
 -- the lines that come to the end, and the bit of this one
-abbrev ends-in : tie.After-single invariant-loop decreases-loop → ℕ → Bool
-ends-in c = let s = c.before.before.before.before.before.before in comes_to_end s.args.nullable.now s.args.ends.now
+abbrev ends-in : After-single-e → ℕ → Bool
+ends-in c = comes_to_end c.args.nullable.now c.args.ends.now
 
 here :
-    (c : goal.After-single-e)
+    (c : After-single-e)
     → c.single-e.result ≡ bit (ends-in c c.loop-i.i) * 2 ^ c.loop-i.i
 here c = c.single-e.ensures ∙ ap (λ v. bit v * 2 ^ c.loop-i.i) c.both.ensures
 

@@ -8,7 +8,7 @@ use borrow.Author.Rules.{rules}
 use Rattle.masks.proofs.scatter.put_columns.Given as goal
 
 abbrev pub invariant-loop-i : goal.invariant-loop-i
-invariant-loop-i l = (l.i ≤ l.count) × Scattered (λ l. test_bit (row l.firsts l.nullable l.follows l.flag l)) 64 l.i l.cells
+invariant-loop-i l = (l.i ≤ l.count) × Scattered (λ k. test_bit (row l.firsts l.nullable l.follows l.flag k)) 64 l.i l.cells
 
 abbrev pub decreases-loop-i : goal.decreases-loop-i
 decreases-loop-i l = l.count - l.i

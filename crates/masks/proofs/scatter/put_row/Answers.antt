@@ -5,9 +5,10 @@ use Rattle.bits.specs.Lowest.{Lowest, lowest}
 use Rattle.masks.specs.Scatter.{RowLeft, row-start, row_next, row_end}
 use borrow.Author.Rules.{rules}
 use Rattle.masks.proofs.scatter.put_row.Goals as goal
+use Rattle.masks.proofs.scatter.put_row.Goals.{In-loop-rest}
 
 -- the lowest bit left
-here : (c : goal.In-loop-rest) → Lowest 64 c.loop-rest.rest
+here : (c : In-loop-rest) → Lowest 64 c.loop-rest.rest
 here c = lowest 64 c.loop-rest.rest (omega arith) c.loop-rest.invariant.few
 
 pub loop-rest-init : goal.loop-rest-init
