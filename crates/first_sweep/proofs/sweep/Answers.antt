@@ -9,7 +9,7 @@ use Rattle.first_sweep.specs.Sweep.{stored_step, Sweepable, sweepable_front}
 use Rattle.first_sweep.specs.Sweep.{Sweeping, sweeping_start, sweeping_same, sweeping_room, sweeping_down, sweeping_rest}
 use borrow.Author.Rules.{rules}
 use Rattle.first_sweep.proofs.sweep.Goals as goal
-use Rattle.first_sweep.proofs.sweep.Goals.{In-loop-owners, Then-n-ne0, Then-n-ne0-unread}
+use Rattle.first_sweep.proofs.sweep.Goals.{In-loop-owners, After-known-n}
 
 pub loop-owners-init : goal.loop-owners-init
 loop-owners-init c = (c.requires, sweeping_start _ _ _ _ _ _ _, learned_start _ _ _, stands-start _ _ _)
@@ -23,10 +23,10 @@ inside : (c : In-loop-owners) → c.loop-owners.i - 1 < length c.args.letters.no
 inside c = omega (arith, some c, c.loop-owners.invariant.1.inside)
 
 -- the number read is that of a pair
-few : (c : Then-n-ne0) → c.known-n.result < 40
-few c =     let l = c.loop-owners in
+few : (c : After-known-n) → (c.known-n.result ≡ 0 → ⊥) → c.known-n.result < 40
+few c read =     let l = c.loop-owners in
     known_small _ _ _ _ _ _ l.invariant.2 _ _ _ _ _ _ l.invariant.3 (c.goes_on.ensures.small c.loop-owners-test.true)
-    c.column_of.ensures c.known-n.ensures c.if-n-ne0.true
+    c.column_of.ensures c.known-n.ensures read
 
 pub overflow_sub-i : goal.overflow_sub-i
 overflow_sub-i c = omega (arith, some (goal.at.overflow_sub-i c).In-loop-owners)
@@ -54,25 +54,25 @@ pub known-n-requires : goal.known-n-requires
 known-n-requires c =     (c.column_of.ensures, c.goes_on.ensures.small c.loop-owners-test.true)
 
 pub overflow_mul-next : goal.overflow_mul-next
-overflow_mul-next c = omega (arith, few (goal.at.overflow_mul-next c).Then-n-ne0-unread)
+overflow_mul-next c = omega (arith, few (goal.at.overflow_mul-next c).After-known-n c.if-n-ne0.true)
 
 pub overflow_add-next : goal.overflow_add-next
-overflow_add-next c = omega (arith, few (goal.at.overflow_add-next c).Then-n-ne0-unread)
+overflow_add-next c = omega (arith, few (goal.at.overflow_add-next c).After-known-n c.if-n-ne0.true)
 
 pub offset_bounds-pairs-n : goal.offset_bounds-pairs-n
-offset_bounds-pairs-n c = omega (arith, few (goal.at.offset_bounds-pairs-n c).Then-n-ne0-unread)
+offset_bounds-pairs-n c = omega (arith, few (goal.at.offset_bounds-pairs-n c).After-known-n c.if-n-ne0.true)
 
 pub bounds-pairs-n : goal.bounds-pairs-n
-bounds-pairs-n c = omega (arith, few (goal.at.bounds-pairs-n c).Then-n-ne0-unread)
+bounds-pairs-n c = omega (arith, few (goal.at.bounds-pairs-n c).After-known-n c.if-n-ne0.true)
 
 pub overflow_mul-n : goal.overflow_mul-n
-overflow_mul-n c = omega (arith, few (goal.at.overflow_mul-n c).Then-n-ne0)
+overflow_mul-n c = omega (arith, few (goal.at.overflow_mul-n c).After-known-n c.if-n-ne0.true)
 
 pub offset_bounds-pairs-n-then-n-ne0 : goal.offset_bounds-pairs-n-then-n-ne0
-offset_bounds-pairs-n-then-n-ne0 c = omega (arith, few (goal.at.offset_bounds-pairs-n-then-n-ne0 c).Then-n-ne0)
+offset_bounds-pairs-n-then-n-ne0 c = omega (arith, few (goal.at.offset_bounds-pairs-n-then-n-ne0 c).After-known-n c.if-n-ne0.true)
 
 pub bounds-pairs-n-then-n-ne0 : goal.bounds-pairs-n-then-n-ne0
-bounds-pairs-n-then-n-ne0 c = omega (arith, few (goal.at.bounds-pairs-n-then-n-ne0 c).Then-n-ne0)
+bounds-pairs-n-then-n-ne0 c = omega (arith, few (goal.at.bounds-pairs-n-then-n-ne0 c).After-known-n c.if-n-ne0.true)
 
 pub put_words-requires : goal.put_words-requires
 put_words-requires c =     let l = c.loop-owners in
@@ -114,14 +114,14 @@ loop-owners-preserved c =     let l = c.loop-owners in (
     )
 
 pub slice_bounds-sweep_on-end : goal.slice_bounds-sweep_on-end
-slice_bounds-sweep_on-end c = sym (length-take-le _ _ c.loop.invariant.1.inside)
+slice_bounds-sweep_on-end c = sym (length-take-le _ _ c.loop-owners.invariant.1.inside)
 
 pub sweep_on-requires : goal.sweep_on-requires
-sweep_on-requires c =     let l = c.loop in
+sweep_on-requires c =     let l = c.loop-owners in
     sweepable_front _ _ _ _ _ l.invariant.1.inside (sweeping_same _ _ _ _ _ _ _ _ _ _ _ l.invariant.1) l.invariant.0
 
 pub shape_of-words : goal.shape_of-words
-shape_of-words c =     c.words-2-1.given ∙ sweeping_same _ _ _ _ _ _ _ _ _ _ _ c.loop.invariant.1
+shape_of-words c =     c.words-2-1.given ∙ sweeping_same _ _ _ _ _ _ _ _ _ _ _ c.loop-owners.invariant.1
 
 pub returns : goal.returns
-returns c =     record { is = sweeping_rest _ _ _ _ _ _ _ _ _ _ _ _ c.loop.invariant.1 c.sweep_on.ensures.is }
+returns c =     record { is = sweeping_rest _ _ _ _ _ _ _ _ _ _ _ _ c.loop-owners.invariant.1 c.sweep_on.ensures.is }

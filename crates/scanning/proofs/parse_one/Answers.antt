@@ -9,11 +9,11 @@ pub overflow_cast-result : goal.overflow_cast-result
 overflow_cast-result c = record { fits = letter_small _ (sym c.is_field_letter.ensures ∙ c.if-is_field_letter.true) }
 
 pub returns-then-is_field_letter : goal.returns-then-is_field_letter
-returns-then-is_field_letter c =     one_letter _ _ _ c.if-kind-eq-LETTER.true c.Single-of.ensures
+returns-then-is_field_letter c =     one_letter _ _ _ c.if-kind-eq-LETTER.true c.single_of-c.ensures
     (sym c.is_field_letter.ensures ∙ c.if-is_field_letter.true)
 
 pub returns-then-kind-eq-LETTER : goal.returns-then-kind-eq-LETTER
-returns-then-kind-eq-LETTER c =     one_no_letter _ _ _ c.if-kind-eq-LETTER.true c.Single-of.ensures
+returns-then-kind-eq-LETTER c =     one_no_letter _ _ _ c.if-kind-eq-LETTER.true c.single_of-c.ensures
     (sym c.is_field_letter.ensures ∙ c.if-is_field_letter.false)
 
 pub returns-then-kind-eq-STAR : goal.returns-then-kind-eq-STAR

@@ -8,7 +8,7 @@ use Rattle.scanning.proofs.parse_two.Goals as goal
 
 pub returns-then-kind-eq-RANGE : goal.returns-then-kind-eq-RANGE
 returns-then-kind-eq-RANGE c =     c.parse_range.ensures
-    ∙ ap₂ (λ x y. scanned_node (range_of x y)) c.Single-of.ensures c.single_of-then-kind-eq-RANGE.ensures
+    ∙ ap₂ (λ x y. scanned_node (range_of x y)) c.single_of.ensures c.single_of-then-kind-eq-RANGE.ensures
     ∙ two_range _ _ _ c.if-kind-eq-RANGE.true
 
 pub returns-then-p-ge-NO_PLACE : goal.returns-then-p-ge-NO_PLACE

@@ -20,8 +20,7 @@ small : (c : After-field_from-p) → c.field_from-p.result.size ≤ 3
 small c = field_small c.args.text.now c.args.at _ c.field_from-p.ensures
 
 -- the second
-reads2 : (c : After-field_from-k) → let a = c.before.before.before.before.before.before in let s = a.before.before in
-    Reads (drop (s.args.at + a.field-from.result.size + 1) s.args.text.now) c.field_from-k.result
+reads2 : (c : After-field_from-k) → Reads (drop (c.args.at + c.field_from-p.result.size + 1) c.args.text.now) c.field_from-k.result
 reads2 c =     reads_at c.args.text.now (c.args.at + c.field_from-p.result.size + 1) _ (λ k. omega (arith, c.shared_slice_known-1.given k))
     c.field_from-k.ensures
 
@@ -63,6 +62,6 @@ scan_account-requires c =     omega (arith, room c.args.text.now (c.args.at + c.
 pub returns : goal.returns
 returns c =     let next = c.args.at + c.field_from-p.result.size + 1 + c.field_from-k.result.size + 1 in
     c.scan_account.ensures
-    ∙ ap (λ k. account_scanned k next (drop next c.args.text.now)) c.Single-of.ensures
+    ∙ ap (λ k. account_scanned k next (drop next c.args.text.now)) c.single_of.ensures
     ∙ line_on c.args.text.now c.args.at _ (reads (goal.at.returns c).After-field_from-p) _ c.requires.1 c.if-p-ne-TAB.false _ (reads2 (goal.at.returns c).After-field_from-k)
     (sym c.place_of.ensures ∙ c.if-place_of-i.false) c.if-k-ne-TAB.false

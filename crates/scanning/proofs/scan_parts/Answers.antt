@@ -20,8 +20,7 @@ small : (c : After-field_from-x) → c.field_from-x.result.size ≤ 3
 small c = field_small c.args.text.now c.args.at _ c.field_from-x.ensures
 
 -- the second
-reads2 : (c : After-field_from-y) → let a = c.before.before.before.before.before.before in let s = a.before.before in
-    Reads (drop (s.args.at + a.field-from.result.size + 1) s.args.text.now) c.field_from-y.result
+reads2 : (c : After-field_from-y) → Reads (drop (c.args.at + c.field_from-x.result.size + 1) c.args.text.now) c.field_from-y.result
 reads2 c =     reads_at c.args.text.now (c.args.at + c.field_from-x.result.size + 1) _ (λ k. omega (arith, c.shared_slice_known-1.given k))
     c.field_from-y.ensures
 
