@@ -7,9 +7,10 @@ use Rattle.reach.specs.Reaching.{Joined, joined-start, joined_next, each, follow
 use Rattle.bits.specs.Lowest.{Lowest, lowest}
 use borrow.Author.Rules.{rules}
 use Rattle.reach.proofs.follow.Goals as goal
+use Rattle.reach.proofs.follow.Goals.{In-loop-rest}
 
 -- the lowest leaf left
-here : (c : goal.In-loop-rest) → Lowest 64 c.loop-rest.rest
+here : (c : In-loop-rest) → Lowest 64 c.loop-rest.rest
 here c = lowest 64 c.loop-rest.rest (omega arith) c.loop-rest.invariant.few
 
 pub loop-rest-init : goal.loop-rest-init

@@ -5,9 +5,10 @@ use mathlib.Core.Path.{refl}
 use Rattle.reach.specs.Reaching.{Joined, joined-start, joined_next, met, matched_end}
 use Rattle.bits.specs.Lowest.{Lowest, lowest}
 use Rattle.reach.proofs.matched.Goals as goal
+use Rattle.reach.proofs.matched.Goals.{In-loop-rest}
 
 -- the lowest leaf left
-here : (c : goal.In-loop-rest) → Lowest 64 c.loop-rest.rest
+here : (c : In-loop-rest) → Lowest 64 c.loop-rest.rest
 here c = lowest 64 c.loop-rest.rest (omega arith) c.loop-rest.invariant.few
 
 pub loop-rest-init : goal.loop-rest-init

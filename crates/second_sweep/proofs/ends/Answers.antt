@@ -1,10 +1,9 @@
 -- `second_sweep::ends` meets its contract.
-use borrow.Author.Tests.{not-true, not-false}
 use Rattle.second_sweep.specs.SweepLaws.{not-ended, ended}
 use Rattle.second_sweep.proofs.ends.Goals as goal
 
 pub returns-then-not-flag : goal.returns-then-not-flag
-returns-then-not-flag c = not-ended c.args.flag _ (not-true _ c.if-not-flag.true-raw)
+returns-then-not-flag c = not-ended c.args.flag _ c.if-not-flag.true
 
 pub returns : goal.returns
-returns c = ended c.args.flag _ (not-false _ c.if-not-flag.false-raw)
+returns c = ended c.args.flag _ c.if-not-flag.false
