@@ -6,13 +6,8 @@ use native.Mathlib.Omega.{arith}
 use borrow.Author.Rules.{rules}
 use Rattle.spans.proofs.piece.Goals as goal
 
--- LOST part-result-start : tie.Need-slice-bounds-result-start
--- part-result-start c = search rules
--- 
-
--- LOST part-result-end : tie.Need-slice-bounds-result-end
--- part-result-end c = omega (arith, (part _ _ _ _ _ _ _ c.before.before.span.ensures).fits)
--- 
+pub slice_bounds-result-end : goal.slice_bounds-result-end
+slice_bounds-result-end c = omega (arith, (part _ _ _ _ _ _ _ c.span-shown.ensures).fits)
 
 pub returns : goal.returns
 returns c =     part_of_tape _ c.args.tape _ _ _ _ _ _ c.span-shown.ensures refl refl

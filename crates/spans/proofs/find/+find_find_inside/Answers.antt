@@ -1,91 +1,155 @@
-use Rattle.std.proofs.Common.{rules, ◌≡◌, cond, ◌&&◌, ◌*◌, ◌-◌, ◌≤◌, ◌<◌, eqb, length, ℕ, ◌+◌, ◌/◌, ◌%◌, Bool, true, false, nat_lt, List, [], ◌∷◌, ◌++◌, slice_index_or, slice_set, bit_and, bit_or, Fits, w8, w32, w64, Bor, MutBor}
-use Rattle.semantics.specs.Code.{code_limit}
-use Rattle.table.specs.Cells.{Good, tree_in}
-use Rattle.spans.specs.Traces.{trace_at, inside_at, end_of, ended}
-use Rattle.spans.specs.TraceLaws.{step_of}
-use Rattle.spans.specs.Seeks.{Seeking, Finds}
+-- `spans::find::find` and `spans::find::find_inside` meet their contracts: they call each other.
+use Rattle.std.proofs.Common.{ℕ, ◌+◌, ◌<◌, ◌≡◌, Bool, true, false, cond, sym, ap, ◌∙◌, arith}
+use Rattle.syntax.specs.Tree.{Tree, star}
+use Rattle.table.specs.Cells.{account_in, tree_in}
+use Rattle.table.specs.CellLaws.{line-index}
+use Rattle.walks.specs.Lines.{line_as, side_lower, first_lower, second_lower, star_lower}
+use Rattle.bits.specs.Bits.{bit_at}
+use Rattle.spans.specs.Traces.{trace_at, inside_at}
+use Rattle.spans.specs.TraceLaws.{inside_side}
+use Rattle.spans.specs.Apart.{apart}
+use Rattle.spans.specs.Seeks.{seeking_same, found_same, Runs, first_seeking, first_found, second_seeking, second_found}
+use Rattle.spans.specs.Seeks.{inside_seeking, inside_end, inside_found, own_found, leaf_bits, leaf_letters, leaf_missed, pair_runs, alt_in, found_stays}
+use Rattle.spans.specs.Seeks.{turns_start, turns_in, turns_stop, turns_round, turns_found, turns_less, turns_more}
 use Rattle.spans.proofs.find.+find_find_inside.Goals as goal
+use Rattle.spans.proofs.find.+find_find_inside.Goals.{find_inside-In-Sequence, find_inside-In-Alternative, find_inside-After-side_at-side, find_inside-At-loop-l}
 
--- src/find.rt:98:9
+-- ── a node ──
 pub find-find_inside-inside-requires : goal.find-find_inside-inside-requires
-find-find_inside-inside-requires t c = ?
+find-find_inside-inside-requires t c =
+    (omega (arith, c.decreases), (c.requires.good, (c.requires.l_bound, inside_seeking _ _ _ _ c.requires.seeking)))
 
--- src/find.rt:100:9
 pub find-ended-requires : goal.find-ended-requires
-find-ended-requires t c = ?
+find-ended-requires t c = inside_end _ _ _ _ c.find_inside-inside.ensures
 
--- src/find.rt:100:9
 pub find-returns-then-is_here : goal.find-returns-then-is_here
-find-returns-then-is_here t c = ?
+find-returns-then-is_here t c =
+    own_found _ _ _ _ c.find_inside-inside.ensures (line-index c.requires.good c.args.l c.requires.l_bound.0)
+    (sym c.is_here.ensures ∙ c.if-is_here.true) (apart c.requires.good c.args.l c.requires.l_bound.0) c.ended.ensures
 
--- src/find.rt:81:1
 pub find-returns : goal.find-returns
-find-returns t c = ?
+find-returns t c =
+    inside_found _ _ _ _ c.find_inside-inside.ensures (line-index c.requires.good c.args.l c.requires.l_bound.0)
+    (sym c.is_here.ensures ∙ c.if-is_here.false) c.left_inside-left.ensures
 
--- src/find.rt:126:43
+-- ── inside a node ──
 pub find_inside-overflow_add-result-in-Leaf : goal.find_inside-overflow_add-result-in-Leaf
-find_inside-overflow_add-result-in-Leaf t c = ?
+find_inside-overflow_add-result-in-Leaf t c =
+    let e = line_as c.requires.good _ c.requires.l_bound.0 _ c.node_at-part.ensures _ c.in-Leaf.is in
+    let h = leaf_letters _ _ (omega arith) _ (tree_in c.args.table.now) _ e c.requires.l_bound.1 c.requires.seeking c.step_of-step.ensures in
+    omega (arith, c.requires.l_bound, h)
 
--- src/find.rt:129:17
-pub find_inside-find-one-requires : goal.find_inside-find-one-requires
-find_inside-find-one-requires t c = ?
-
--- src/find.rt:131:17
-pub find_inside-returns-in_default : goal.find_inside-returns-in_default
-find_inside-returns-in_default t c = ?
-
--- src/find.rt:133:13
-pub find_inside-find-requires : goal.find_inside-find-requires
-find_inside-find-requires t c = ?
-
--- src/find.rt:136:17
-pub find_inside-side_at-side-requires : goal.find_inside-side_at-side-requires
-find_inside-side_at-side-requires t c = ?
-
--- src/find.rt:137:13
-pub find_inside-find-requires-in-Alternative : goal.find_inside-find-requires-in-Alternative
-find_inside-find-requires-in-Alternative t c = ?
-
--- src/find.rt:143:13
-pub find_inside-loop-l-init : goal.find_inside-loop-l-init
-find_inside-loop-l-init t c = ?
-
--- src/find.rt:144:28
-pub find_inside-overflow_add-next : goal.find_inside-overflow_add-next
-find_inside-overflow_add-next t c = ?
-
--- src/find.rt:145:20
-pub find_inside-stops_at-requires : goal.find_inside-stops_at-requires
-find_inside-stops_at-requires t c = ?
-
--- src/find.rt:146:21
-pub find_inside-returns-then-stops_at : goal.find_inside-returns-then-stops_at
-find_inside-returns-then-stops_at t c = ?
-
--- src/find.rt:148:21
-pub find_inside-find-one-requires-in-loop-l : goal.find_inside-find-one-requires-in-loop-l
-find_inside-find-one-requires-in-loop-l t c = ?
-
--- src/find.rt:150:21
-pub find_inside-returns-in_default-one : goal.find_inside-returns-in_default-one
-find_inside-returns-in_default-one t c = ?
-
--- src/find.rt:143:13
-pub find_inside-loop-l-smaller : goal.find_inside-loop-l-smaller
-find_inside-loop-l-smaller t c = ?
-
--- src/find.rt:143:13
-pub find_inside-loop-l-preserved : goal.find_inside-loop-l-preserved
-find_inside-loop-l-preserved t c = ?
-
--- src/find.rt:106:1
 pub find_inside-returns-in-Leaf : goal.find_inside-returns-in-Leaf
-find_inside-returns-in-Leaf t c = ?
+find_inside-returns-in-Leaf t c =
+    let e = line_as c.requires.good _ c.requires.l_bound.0 _ c.node_at-part.ensures _ c.in-Leaf.is in
+    leaf_missed _ _ (omega arith) _ (tree_in c.args.table.now) _ e c.requires.l_bound.1 c.requires.seeking c.step_of-step.ensures
 
--- src/find.rt:106:1
+pair_is : (t : ℕ) (c : find_inside-In-Sequence t) →
+    Runs (inside_at c.args.code.now c.args.count (tree_in c.args.table.now c.args.l) c.args.at)
+    (trace_at c.args.code.now c.args.count (tree_in c.args.table.now c.in-Sequence.p) c.args.at)
+    (trace_at c.args.code.now c.args.count (tree_in c.args.table.now c.in-Sequence.q))
+pair_is t c =
+    pair_runs _ _ (omega arith) (line_as c.requires.good _ c.requires.l_bound.0 _ c.node_at-part.ensures _ c.in-Sequence.is) c.requires.l_bound.1
+
+pub find_inside-find-one-requires : goal.find_inside-find-one-requires
+find_inside-find-one-requires t c =
+    let h = first_lower c.requires.good _ c.requires.l_bound.0 _ c.node_at-part.ensures _ _ c.in-Sequence.is in
+    let r = first_seeking (pair_is t (goal.at.find_inside-find-one-requires t c).In-Sequence) c.requires.seeking in
+    (omega (arith, c.decreases, c.requires.l_bound, h), (c.requires.good, (omega (arith, c.requires.l_bound, h), r)))
+
+pub find_inside-returns-in_default : goal.find_inside-returns-in_default
+find_inside-returns-in_default t c =
+    first_found (pair_is t (goal.at.find_inside-returns-in_default t c).In-Sequence) c.requires.seeking c.find-one.ensures c.in_default.is
+
+pub find_inside-find-requires : goal.find_inside-find-requires
+find_inside-find-requires t c =
+    let e = c.in-Passed.is in
+    let h = second_lower c.requires.good _ c.requires.l_bound.0 _ c.node_at-part.ensures _ _ c.in-Sequence.is in
+    let g = found_stays _ _ (omega arith) _ c.find-one.ensures c.requires.l_bound.1 e in
+    let r = second_seeking (pair_is t (goal.at.find_inside-find-requires t c).In-Sequence) c.requires.seeking c.find-one.ensures e in
+    (omega (arith, c.decreases, c.requires.l_bound, h, g), (c.requires.good, (omega (arith, c.requires.l_bound, h, g), r)))
+
 pub find_inside-returns-in-Passed : goal.find_inside-returns-in-Passed
-find_inside-returns-in-Passed t c = ?
+find_inside-returns-in-Passed t c =
+    second_found (pair_is t (goal.at.find_inside-returns-in-Passed t c).In-Sequence) c.requires.seeking c.find-one.ensures
+    c.in-Passed.is c.find.ensures
 
--- src/find.rt:106:1
+-- the bit of an alternative that is there is in the code
+choice_in : (t : ℕ) (c : find_inside-In-Alternative t) → c.args.at < c.args.count
+choice_in t c =
+    alt_in _ _ (omega arith) (line_as c.requires.good _ c.requires.l_bound.0 _ c.node_at-part.ensures _ c.in-Alternative.is) _ c.requires.seeking
+
+side : (f : ℕ → Tree) (p q : ℕ) (b : Bool) (r : ℕ) → r ≡ cond b q p → cond b (f q) (f p) ≡ f r
+side f p q true r e = ap f (sym e)
+side f p q false r e = ap f (sym e)
+
+choice_is : (t : ℕ) (c : find_inside-After-side_at-side t) → c.args.at < c.args.count →
+    inside_at c.args.code.now c.args.count (tree_in c.args.table.now c.args.l) c.args.at
+    ≡ trace_at c.args.code.now c.args.count (tree_in c.args.table.now c.side_at-side.result) (c.args.at + 1)
+choice_is t c h =
+    inside_side _ _ (omega arith) (line_as c.requires.good _ c.requires.l_bound.0 _ c.node_at-part.ensures _ c.in-Alternative.is) _ h
+    ∙ ap (λ z. trace_at c.args.code.now c.args.count z (c.args.at + 1))
+    (side (tree_in c.args.table.now) c.in-Alternative.p c.in-Alternative.q (bit_at 8 c.args.code.now c.args.at) c.side_at-side.result c.side_at-side.ensures)
+
+pub find_inside-side_at-side-requires : goal.find_inside-side_at-side-requires
+find_inside-side_at-side-requires t c =
+    let h = choice_in t (goal.at.find_inside-side_at-side-requires t c).In-Alternative in
+    omega (arith, c.requires.l_bound, h)
+
+pub find_inside-find-requires-in-Alternative : goal.find_inside-find-requires-in-Alternative
+find_inside-find-requires-in-Alternative t c =
+    let at = goal.at.find_inside-find-requires-in-Alternative t c in
+    let g = choice_in t at.In-Alternative in
+    let h = side_lower c.requires.good _ c.requires.l_bound.0 _ c.node_at-part.ensures _ _ c.in-Alternative.is
+        (bit_at 8 c.args.code.now c.args.at) _ c.side_at-side.ensures in
+    let r = seeking_same (choice_is t at.After-side_at-side g) c.requires.seeking in
+    (omega (arith, c.decreases, c.requires.l_bound, h, g), (c.requires.good, (omega (arith, c.requires.l_bound, h, g), r)))
+
 pub find_inside-returns-in-Alternative : goal.find_inside-returns-in-Alternative
-find_inside-returns-in-Alternative t c = ?
+find_inside-returns-in-Alternative t c =
+    let at = goal.at.find_inside-returns-in-Alternative t c in
+    found_same (choice_is t at.After-side_at-side (choice_in t at.In-Alternative)) c.find-in-Alternative.ensures
+
+star_is : (t : ℕ) (c : find_inside-At-loop-l t) →
+    tree_in c.args.table.now c.args.l
+    ≡ star (record { index = c.args.l; account = account_in c.args.table.now c.args.l }) c.in-Star.again (tree_in c.args.table.now c.in-Star.p)
+star_is t c = line_as c.requires.good _ c.requires.l_bound.0 _ c.node_at-part.ensures _ c.in-Star.is
+
+-- the bit of a star that is there is in the code
+turn_in : (t : ℕ) (c : find_inside-At-loop-l t) → c.loop-l.here < c.args.count
+turn_in t c = turns_in (omega arith) (star_is t c) c.loop-l.invariant
+
+pub find_inside-stops_at-requires : goal.find_inside-stops_at-requires
+find_inside-stops_at-requires t c =
+    let h = turn_in t (goal.at.find_inside-stops_at-requires t c).At-loop-l in
+    omega (arith, c.requires.l_bound, h)
+
+pub find_inside-returns-then-stops_at : goal.find_inside-returns-then-stops_at
+find_inside-returns-then-stops_at t c =
+    turns_stop (omega arith) (star_is t (goal.at.find_inside-returns-then-stops_at t c).At-loop-l) c.loop-l.invariant c.stops_at.ensures
+    c.if-stops_at.true
+
+pub find_inside-find-one-requires-in-loop-l : goal.find_inside-find-one-requires-in-loop-l
+find_inside-find-one-requires-in-loop-l t c =
+    let at = (goal.at.find_inside-find-one-requires-in-loop-l t c).At-loop-l in
+    let h = star_lower c.requires.good _ c.requires.l_bound.0 _ c.node_at-part.ensures _ _ c.in-Star.is in
+    let g = turn_in t at in
+    let low = c.loop-l.invariant.low in
+    let r = turns_round (omega arith) (star_is t at) c.loop-l.invariant c.stops_at.ensures c.if-stops_at.false in
+    (omega (arith, c.decreases, c.requires.l_bound, h, g, low), (c.requires.good, (omega (arith, c.requires.l_bound, h, g), r)))
+
+pub find_inside-returns-in_default-one : goal.find_inside-returns-in_default-one
+find_inside-returns-in_default-one t c =
+    turns_found (omega arith) (star_is t (goal.at.find_inside-returns-in_default-one t c).At-loop-l) c.loop-l.invariant c.stops_at.ensures
+    c.if-stops_at.false c.find-one-in-loop-l.ensures c.in_default-one.is
+
+pub find_inside-loop-l-smaller : goal.find_inside-loop-l-smaller
+find_inside-loop-l-smaller t c =
+    let h = turns_less (omega arith) (star_is t (goal.at.find_inside-loop-l-smaller t c).At-loop-l) c.loop-l.invariant c.stops_at.ensures
+        c.if-stops_at.false c.find-one-in-loop-l.ensures c.in-Passed-one.is in
+    omega (arith, h)
+
+pub find_inside-loop-l-preserved : goal.find_inside-loop-l-preserved
+find_inside-loop-l-preserved t c =
+    turns_more (omega arith) (star_is t (goal.at.find_inside-loop-l-preserved t c).At-loop-l) c.loop-l.invariant c.stops_at.ensures
+    c.if-stops_at.false c.find-one-in-loop-l.ensures c.in-Passed-one.is

@@ -1,19 +1,17 @@
-use Rattle.std.proofs.Common.{◌≡◌, cond, ◌&&◌, ◌*◌, ◌-◌, ◌≤◌, ◌<◌, eqb, length, ℕ, ◌+◌}
-use Rattle.semantics.specs.Code.{code_limit}
-use Rattle.table.specs.Cells.{Good, tree_in}
-use Rattle.spans.specs.Traces.{trace_at, inside_at, end_of, ended}
-use Rattle.spans.specs.TraceLaws.{step_of}
-use Rattle.spans.specs.Seeks.{Seeking, Finds}
+-- `spans::find::find` and `spans::find::find_inside`: a node's own call comes before the one inside it, and that before those of its parts.
+use Rattle.std.proofs.Common.{◌+◌, ◌*◌, ◌-◌}
+use Rattle.table.specs.Cells.{tree_in}
+use Rattle.spans.specs.Seeks.{Turns}
 use Rattle.spans.proofs.find.+find_find_inside.Given as goal
 
 abbrev pub decreases-find : goal.decreases-find
-decreases-find l = ?
+decreases-find l = ((l.count - l.at) * 64 + l.l) * 2 + 1
 
 abbrev pub decreases-find_inside : goal.decreases-find_inside
-decreases-find_inside l = ?
+decreases-find_inside l = ((l.count - l.at) * 64 + l.l) * 2
 
 abbrev pub invariant-find_inside-loop-l : goal.invariant-find_inside-loop-l
-invariant-find_inside-loop-l l = ?
+invariant-find_inside-loop-l l = Turns l.code l.count (tree_in l.table l.l) l.at l.i l.node l.k l.here l.j l.left
 
 abbrev pub decreases-find_inside-loop-l : goal.decreases-find_inside-loop-l
-decreases-find_inside-loop-l l = ?
+decreases-find_inside-loop-l l = l.count - l.here
