@@ -12,8 +12,8 @@
 #       PREFIX/libexec/wumbyra/tapelist     the proved program that it runs
 #
 #   make uninstall PREFIX=/usr/local        removes exactly these; folders that others may use stay, even if they are empty
-#   make prove                              proves library and program anew, and builds from that; needs `rt`. While it proves, it tells which
-#                                           crate of how many is proved
+#   make prove                              proves what has changed of library and program, and builds from that; needs `rt`. While it proves, it
+#                                           tells which crate of how many is proved
 #   make dist                               proves, and writes dist/ anew; needs `rt`. Each change to what the library is made of ends with this
 #   make check-dist                         the same beside it, and compares every byte
 #   make release                            writes target/release/wumbyra-VERSION.tar.gz: all that a caller needs, without the proofs
@@ -39,7 +39,7 @@ major := $(call part,MAJOR)
 version := $(major).$(call part,MINOR).$(call part,PATCH)
 soname := libwumbyra.so.$(major)
 shared := libwumbyra.so.$(version)
-sources := $(wildcard crates.txt) $(shell test ! -d crates || find crates -path '*/must-fail' -prune -o -type f -print)
+sources := $(wildcard crates.txt) $(shell test ! -d crates || find crates \( -path '*/must-fail' -o -path 'crates/*/out' \) -prune -o -type f -print)
 
 ifeq ($(FROM),dist)
 built := target/dist/$(shell CC='$(CC)' CFLAGS='$(CFLAGS)' packaging/build processor 2>/dev/null || echo none)
@@ -88,12 +88,10 @@ $(library): $(archive) packaging/wumbyra.map include/wumbyra.h
 		-Wl,--whole-archive $(archive) -Wl,--no-whole-archive
 endif
 
-# `rt` knows by itself what it has proved, and leaves what is as it should be. The time says that it was asked.
+# `rt` knows by itself what it has proved. What it builds lies in the crates' own folders, and is copied from there.
 prove:
-	@packaging/prove wumbyra $(RT) staticlib wumbyra
-	@packaging/prove tapelist $(RT) check tapelist
-	@test -x target/bin/tapelist || { echo 'make: `$(RT)` went through and built no program; remove target and try again' >&2; exit 2; }
-	touch -c target/staticlib/libwumbyra.a target/bin/tapelist
+	@packaging/prove wumbyra_c
+	@packaging/prove tapelist
 	$(MAKE) FROM=proved all
 
 dist:

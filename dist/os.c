@@ -1,17 +1,22 @@
-/* What the program tapelist takes from the toolchain's C part beside the C library's own calls: a file opened for reading, errno, and how many
- * arguments there are. The declarations are those of the toolchain's library os. */
+/* What the program tapelist takes from the toolchain's C part beside the C library's own calls: errno, the words that it was started with, and
+ * memory. The declarations are those of the toolchain's libraries os and libc. */
 #include <errno.h>
-#include <fcntl.h>
+#include <stdbool.h>
 #include <stddef.h>
+#include <stdlib.h>
 
-int rattle_open_to_read(const char *path);
+/* Whether there is memory, and where. Where there is none, the pointer is of a byte that nobody uses. */
+struct tried {
+    bool ok;
+    void *memory;
+};
+
 int rattle_errno(void);
 void rattle_set_errno(int error);
-size_t rattle_arg_count(void);
-
-int rattle_open_to_read(const char *path) {
-    return open(path, O_RDONLY | O_NOCTTY | O_CLOEXEC);
-}
+ptrdiff_t rattle_arg(size_t place, unsigned char *buffer, size_t size);
+struct tried rattle_alloc(size_t size, size_t align);
+struct tried rattle_realloc(void *memory, size_t kept, size_t size, size_t align);
+void rattle_dealloc(void *memory);
 
 int rattle_errno(void) {
     return errno;
@@ -21,15 +26,49 @@ void rattle_set_errno(int error) {
     errno = error;
 }
 
-static size_t arguments;
+static size_t count;
+static char **words;
 
 /* The C library of Linux hands a function of .init_array what it hands `main`, which is part of the proved program and takes nothing. */
-static void count_arguments(int count) {
-    arguments = (size_t)count;
+static void keep(int given, char **with) {
+    count = (size_t)given;
+    words = with;
 }
 
-__attribute__((section(".init_array"), used)) static void (*const first)(int) = count_arguments;
+__attribute__((section(".init_array"), used)) static void (*const first)(int, char **) = keep;
 
-size_t rattle_arg_count(void) {
-    return arguments;
+/* Puts a word at the start of the buffer: its length, -1 where there is no such word, or -2 where it does not fit, and the buffer is full. */
+ptrdiff_t rattle_arg(size_t place, unsigned char *buffer, size_t size) {
+    size_t i;
+
+    if (place >= count || words[place] == NULL)
+        return -1;
+    for (i = 0; words[place][i] != 0; i++) {
+        if (i == size)
+            return -2;
+        buffer[i] = (unsigned char)words[place][i];
+    }
+    return (ptrdiff_t)i;
+}
+
+static char nothing;
+
+static struct tried as_tried(void *memory) {
+    struct tried made = {memory != NULL, memory != NULL ? memory : &nothing};
+
+    return made;
+}
+
+/* A block of no bytes has one of its alignment, which is at most 16, as malloc gives it. */
+struct tried rattle_alloc(size_t size, size_t align) {
+    return as_tried(malloc(size != 0 ? size : align));
+}
+
+struct tried rattle_realloc(void *memory, size_t kept, size_t size, size_t align) {
+    (void)kept;
+    return as_tried(realloc(memory, size != 0 ? size : align));
+}
+
+void rattle_dealloc(void *memory) {
+    free(memory);
 }
