@@ -1,6 +1,5 @@
 -- `listing::letters_of` meets its contract.
 use Rattle.listing.specs.ListingLaws.{letters_none, letters-closed, letters_open}
-use borrow.Author.Rules.{rules}
 use Rattle.listing.proofs.letters_of.Goals as goal
 
 pub returns-then-n-eq0 : goal.returns-then-n-eq0

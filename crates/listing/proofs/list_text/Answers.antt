@@ -2,19 +2,18 @@
 use mathlib.Core.Path.{sym}
 use lib.Seq.{length-take-le}
 use Rattle.listing.specs.ListingLaws.{load_refused, load_listed, shows_as, shows_refused}
-use borrow.Author.Rules.{rules}
 use Rattle.listing.proofs.list_text.Goals as goal
 
 pub slice_bounds-list_tape-end : goal.slice_bounds-list_tape-end
-slice_bounds-list_tape-end c = sym (length-take-le _ _ c.letters_of.ensures.within)
+slice_bounds-list_tape-end c = sym (length-take-le _ _ c.letters_of-n.ensures.within)
 
 pub returns-in-Refused : goal.returns-in-Refused
-returns-in-Refused c =     shows_refused _ _ _ _ c.in-Refused.why _ _
+returns-in-Refused c = shows_refused _ _ _ _ c.in-Refused.why _ _
     (load_refused _ c.args.tape.now _ c.load-loaded.ensures _ c.in-Refused.is)
-    c.number_of.ensures c.value_of.ensures c.put_refused.ensures.0 c.put_refused.ensures.1
+    c.number_of.ensures c.value_of.ensures c.put_refused.ensures.puts c.put_refused.ensures.value_len_bound
 
 pub returns-in-Lines : goal.returns-in-Lines
-returns-in-Lines c =     shows_as _ _ _ _ _
-    (load_listed _ c.args.tape.now _ c.load.ensures _ _ c.enum_told.given.1
-    c.letters_of.ensures)
+returns-in-Lines c = shows_as _ _ _ _ _
+    (load_listed _ c.args.tape.now _ c.load-loaded.ensures _ _ c.in-Lines.is
+    c.letters_of-n.ensures)
     c.list_tape.ensures

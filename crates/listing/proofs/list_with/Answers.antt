@@ -2,37 +2,38 @@
 use mathlib.Core.Path.{sym}
 use lib.Seq.{length-take-le}
 use Rattle.listing.specs.ListingLaws.{parse_bits, parse_refused, shows_as, shows_refused}
-use borrow.Author.Rules.{rules}
 use Rattle.listing.proofs.list_with.Goals as goal
 
 pub slice_bounds-list_read-end : goal.slice_bounds-list_read-end
-slice_bounds-list_read-end c =     let given = c.args in
+slice_bounds-list_read-end c =
+    let given = c.args in
     (parse_bits given.p given.tape.now given.words.now _ given.code.now _ c.requires.0 c.requires.1 _ _
-    c.parsed2.given.1 c.parse.ensures _ c.bytes-for.ensures).fits
+    c.in-Bits.is c.parse-parsed.ensures _ c.bytes_for-n.ensures).fits
 
 pub slice_bounds-list_read-end-in-Bits : goal.slice_bounds-list_read-end-in-Bits
-slice_bounds-list_read-end-in-Bits c =     let start = c.before in
-    let given = start.args in
+slice_bounds-list_read-end-in-Bits c =
+    let given = c.args in
     sym (length-take-le _ _
-    (parse_bits given.p given.tape.now given.words.now _ given.code.now _ start.requires.0 start.requires.1 _ _
-    c.parsed2.given.1 c.parse.ensures _ c.bytes-for.ensures).fits)
+    (parse_bits given.p given.tape.now given.words.now _ given.code.now _ c.requires.0 c.requires.1 _ _
+    c.in-Bits.is c.parse-parsed.ensures _ c.bytes_for-n.ensures).fits)
 
 pub list_read-requires : goal.list_read-requires
-list_read-requires c =     let start = c.before in
-    let given = start.args in
-    (parse_bits given.p given.tape.now given.words.now _ given.code.now _ start.requires.0 start.requires.1 _ _
-    c.parsed2.given.1 c.parse.ensures _ c.bytes-for.ensures).read
+list_read-requires c =
+    let given = c.args in
+    (parse_bits given.p given.tape.now given.words.now _ given.code.now _ c.requires.0 c.requires.1 _ _
+    c.in-Bits.is c.parse-parsed.ensures _ c.bytes_for-n.ensures).read
 
 pub returns-in-Refused : goal.returns-in-Refused
-returns-in-Refused c =     let given = c.args in
+returns-in-Refused c =
+    let given = c.args in
     shows_refused _ _ _ _ c.in-Refused.why _ _
     (parse_refused given.p given.tape.now given.words.now _ given.code.now _ c.requires.0 c.requires.1 _ _
     c.in-Refused.is c.parse-parsed.ensures)
-    c.number_of.ensures c.value_of.ensures c.put_refused.ensures.0 c.put_refused.ensures.1
+    c.number_of.ensures c.value_of.ensures c.put_refused.ensures.puts c.put_refused.ensures.value_len_bound
 
 pub returns-in-Bits : goal.returns-in-Bits
-returns-in-Bits c =     let start = c.before in
-    let given = start.args in
+returns-in-Bits c =
+    let given = c.args in
     shows_as _ _ _ _ _
-    (parse_bits given.p given.tape.now given.words.now _ given.code.now _ start.requires.0 start.requires.1 _ _
-    c.parsed2.given.1 c.parse.ensures _ c.bytes-for.ensures).lists c.List-read.ensures
+    (parse_bits given.p given.tape.now given.words.now _ given.code.now _ c.requires.0 c.requires.1 _ _
+    c.in-Bits.is c.parse-parsed.ensures _ c.bytes_for-n.ensures).lists c.list_read.ensures

@@ -2,15 +2,11 @@
 use mathlib.Core.Path.{refl}
 use Rattle.text.specs.Putting.{puts_then}
 use Rattle.listing_lines.specs.Lines.{tape_done}
-use borrow.Author.Rules.{rules}
 use Rattle.listing_lines.proofs.put_tape.Goals as goal
 
--- LOST slice-aggregate-put-entry : tie.Need-slice-aggregate-put-entry
--- slice-aggregate-put-entry c = search rules
--- 
-
 pub returns : goal.returns
-returns c =     let given = c.args in
+returns c =
+    let given = c.args in
     tape_done _ _ given.letters given.bits given.code.now _ _ _ _ _ _ c.put_entry-first.ensures refl refl
     (puts_then _ _ _ _ _ _ _ _ c.put_byte-second.ensures
     (puts_then _ _ _ _ _ _ _ _ c.put_hex-end.ensures c.put_byte.ensures))

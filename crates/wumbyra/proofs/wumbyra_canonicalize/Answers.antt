@@ -1,7 +1,6 @@
 -- `wumbyra::wumbyra_canonicalize` meets its contract.
 use Rattle.wumbyra.specs.PackedLaws.{canonicalize-packed}
-use borrow.Author.Rules.{rules}
 use Rattle.wumbyra.proofs.wumbyra_canonicalize.Goals as goal
 
 pub returns : goal.returns
-returns c =     canonicalize-packed _ _ c.load-loaded.ensures _ _ _ _ _ _ _ _ _ c.canonicalize-canonicalized.ensures _ c.of_canonicalized.ensures
+returns c = canonicalize-packed _ _ c.load-loaded.ensures _ _ _ _ _ _ _ _ _ c.canonicalize-canonicalized.ensures _ c.of_canonicalized.ensures

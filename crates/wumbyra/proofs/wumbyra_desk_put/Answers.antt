@@ -1,8 +1,7 @@
 -- `wumbyra::wumbyra_desk_put` meets its contract.
 use Rattle.wumbyra.specs.DeskLaws.{put-packed}
-use borrow.Author.Rules.{rules}
 use Rattle.wumbyra.proofs.wumbyra_desk_put.Goals as goal
 
 pub returns : goal.returns
-returns c =     put-packed _ _ c.load-loaded.ensures _ _ c.desk_of-held.ensures _ _ _ _ _ _ _ c.put_page-changed.ensures
+returns c = put-packed _ _ c.load-loaded.ensures _ _ c.desk_of-held.ensures _ _ _ _ _ _ _ c.put_page-changed.ensures
     _ c.put_desk.ensures _ c.of_desk_answer.ensures

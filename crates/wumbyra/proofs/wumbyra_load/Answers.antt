@@ -1,6 +1,5 @@
 -- `wumbyra::wumbyra_load` meets its contract.
 use Rattle.wumbyra.specs.PackedLaws.{load_packed}
-use borrow.Author.Rules.{rules}
 use Rattle.wumbyra.proofs.wumbyra_load.Goals as goal
 
 pub returns : goal.returns

@@ -1,6 +1,5 @@
 -- `wumbyra::wumbyra_locate` meets its contract.
 use Rattle.wumbyra.specs.PackedLaws.{locate_packed}
-use borrow.Author.Rules.{rules}
 use Rattle.wumbyra.proofs.wumbyra_locate.Goals as goal
 
 pub returns : goal.returns

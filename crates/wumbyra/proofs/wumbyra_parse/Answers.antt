@@ -1,7 +1,6 @@
 -- `wumbyra::wumbyra_parse` meets its contract.
 use Rattle.wumbyra.specs.PackedLaws.{parse_packed}
-use borrow.Author.Rules.{rules}
 use Rattle.wumbyra.proofs.wumbyra_parse.Goals as goal
 
 pub returns : goal.returns
-returns c =     parse_packed _ _ c.load-loaded.ensures _ _ _ _ _ _ c.parse-parsed.ensures _ c.of_parsed.ensures
+returns c = parse_packed _ _ c.load-loaded.ensures _ _ _ _ _ _ c.parse-parsed.ensures _ c.of_parsed.ensures
