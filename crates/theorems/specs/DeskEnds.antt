@@ -25,7 +25,7 @@ use Rattle.loading.specs.Load.{load_table}
 use Rattle.packing.specs.Packing.{unpacked}
 use Rattle.packing.specs.DeskBytes.{desk_bytes, desk_of_bytes}
 use Rattle.wumbyra.specs.Packed.{DeskPutsText}
-use Rattle.wumbyra.specs.DeskServed.{lengths_all, puts_served, puts_right}
+use Rattle.wumbyra.proofs.DeskServed.{lengths_all, puts_served, puts_right}
 
 -- a word above 0 is one that has a bit
 above-any : (x : ℕ) → 1 ≤ x → has_any x ≡ true

@@ -23,7 +23,7 @@ use Rattle.parser.specs.ParseLaws.{root-choices}
 use Rattle.parser.specs.MarkLaws.{root_mark, marks-value}
 use Rattle.packing.specs.Packing.{unpacked}
 use Rattle.wumbyra.specs.Packed.{ParsesText}
-use Rattle.wumbyra.specs.Unloaded.{not-obeyed}
+use Rattle.wumbyra.proofs.Unloaded.{not-obeyed}
 use Rattle.theorems.specs.Numbers.{numbers-bools, length-bools}
 use Rattle.theorems.specs.Paper03Pattern.{Node, letter_byte, root, Refusal, load_refusal, loaded}
 use Rattle.theorems.specs.Paper03Codes.{Greedy}

@@ -1,11 +1,6 @@
 pub mod Packed
 pub mod PackedLaws
 pub mod CellLaws
-pub mod DeskLaws
-pub mod DeskRefused
-pub mod DeskServed
-pub mod DeskRuns
-pub mod Unloaded
 pub mod SpanParts
 pub mod LocateParts
 pub mod Unique

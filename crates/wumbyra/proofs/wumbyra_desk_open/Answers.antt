@@ -1,6 +1,6 @@
 -- `wumbyra::wumbyra_desk_open` meets its contract.
 use mathlib.Core.Path.{refl}
-use Rattle.wumbyra.specs.DeskLaws.{open_packed_other, open_packed}
+use Rattle.wumbyra.proofs.DeskLaws.{open_packed_other, open_packed}
 use Rattle.wumbyra.proofs.wumbyra_desk_open.Goals as goal
 
 pub returns-then-desk-ne-DESK_BYTES : goal.returns-then-desk-ne-DESK_BYTES

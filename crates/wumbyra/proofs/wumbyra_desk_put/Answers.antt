@@ -1,5 +1,5 @@
 -- `wumbyra::wumbyra_desk_put` meets its contract.
-use Rattle.wumbyra.specs.DeskLaws.{put-packed}
+use Rattle.wumbyra.proofs.DeskLaws.{put-packed}
 use Rattle.wumbyra.proofs.wumbyra_desk_put.Goals as goal
 
 pub returns : goal.returns

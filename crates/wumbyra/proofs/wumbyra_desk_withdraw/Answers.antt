@@ -1,5 +1,5 @@
 -- `wumbyra::wumbyra_desk_withdraw` meets its contract.
-use Rattle.wumbyra.specs.DeskLaws.{withdraw-packed}
+use Rattle.wumbyra.proofs.DeskLaws.{withdraw-packed}
 use Rattle.wumbyra.proofs.wumbyra_desk_withdraw.Goals as goal
 
 pub returns : goal.returns

@@ -8,7 +8,7 @@ use Rattle.packing.specs.Packing.{unpacked}
 use Rattle.packing.specs.DeskBytes.{desk_bytes, desk_of_bytes, other_opened, other_held}
 use Rattle.packing.specs.DeskBytesLaws.{put_other, put_other_refused, withdraw_other, withdraw_other_refused}
 use Rattle.wumbyra.specs.Packed.{desk_open_answer, DeskOpensText, DeskPutsText, DeskWithdrawsText}
-use Rattle.wumbyra.specs.DeskLaws.{open_other, open_other_refused}
+use Rattle.wumbyra.proofs.DeskLaws.{open_other, open_other_refused}
 
 kept : {A : Type 0} (now new old : A) (b : Bool) → now ≡ cond b new old → b ≡ false → now ≡ old
 kept now new old b e h = e ∙ ap (λ t. cond t new old) h

@@ -19,7 +19,7 @@ use Rattle.packing.specs.Packing.{unpacked}
 use Rattle.packing.specs.DeskBytes.{desk_bytes, desk_of_bytes, bytes_of_desk}
 use Rattle.packing.specs.DeskBytesLaws.{desk_back}
 use Rattle.wumbyra.specs.Packed.{desk_open_answer, DeskOpensText, DeskPutsText, DeskWithdrawsText}
-use Rattle.wumbyra.specs.DeskServed.{opens_served, puts_served, withdraws_served}
+use Rattle.wumbyra.proofs.DeskServed.{opens_served, puts_served, withdraws_served}
 
 -- ── runs of calls from C ──
 -- what is known of a call is its promise, with some text of its table

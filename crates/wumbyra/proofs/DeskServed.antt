@@ -20,7 +20,7 @@ use Rattle.packing.specs.Packing.{unpacked}
 use Rattle.packing.specs.DeskBytes.{desk_bytes, desk_of_bytes, bytes_of_desk}
 use Rattle.packing.specs.DeskBytesLaws.{bytes_back, desk_back, again}
 use Rattle.wumbyra.specs.Packed.{desk_open_answer, DeskOpensText, DeskPutsText, DeskWithdrawsText}
-use Rattle.wumbyra.specs.DeskLaws.{open_right}
+use Rattle.wumbyra.proofs.DeskLaws.{open_right}
 
 -- ── the desk that stands in bytes ──
 module _ (desk : List ℕ) (whole : length desk ≡ desk_bytes) where

@@ -17,7 +17,7 @@ use Rattle.desk.specs.Desks.{put_answer, withdraw_answer}
 use Rattle.reach.specs.Locate.{locate_refusal}
 use Rattle.wumbyra.specs.Packed.{span_text, total_text, TotalsText, TermTotalsText, LocatesText}
 use Rattle.wumbyra.specs.Packed.{desk_open_answer, DeskOpensText, DeskPutsText, DeskWithdrawsText}
-use Rattle.wumbyra.specs.DeskRefused.{opens-refused, puts_refused, withdraws_refused}
+use Rattle.wumbyra.proofs.DeskRefused.{opens-refused, puts_refused, withdraws_refused}
 
 zeros : (n i : ℕ) → ◌≡◌ {A = ℕ} (get_or (replicate n 0) i 0) 0
 zeros zero i = refl

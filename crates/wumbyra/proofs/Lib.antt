@@ -1,0 +1,5 @@
+pub mod DeskLaws
+pub mod DeskRefused
+pub mod DeskServed
+pub mod DeskRuns
+pub mod Unloaded
