@@ -137,6 +137,7 @@ fn short_place(a: u16) -> u16
 }
 
 // A number of two digits, `NO_PLACE` where it is no node index.
+#[tactic(auto, unfolding(crate::specs::Text::two_digits))]
 fn long_place(a: u16, b: u16) -> u16
     ensures { result ≡ two_digits a b }
 {
@@ -177,6 +178,7 @@ pub fn single_of(f: Field) -> u16
 }
 
 // The account that a field of one byte writes, `NO_ACCOUNT` where it writes none.
+#[tactic(auto, using(crate::specs::AccountLaws::byte_low))]
 fn short_account(b: u16) -> u8
     ensures { result ≡ account (b ∷ []) }
 {
@@ -194,6 +196,7 @@ fn short_account(b: u16) -> u8
 }
 
 // A number with one digit more behind it, `NO_ACCOUNT` where that is no account. Behind `NO_ACCOUNT` it is none either: the number only grows.
+#[tactic(auto, using(crate::specs::AccountLaws::longer_big))]
 fn longer_account(n: u8, b: u16) -> u8
     ensures { result ≡ longer n b }
 {
@@ -209,6 +212,7 @@ fn longer_account(n: u8, b: u16) -> u8
 }
 
 // The account that a byte and one or two bytes behind it write, `NO_ACCOUNT` where they write none.
+#[tactic(auto, using(crate::specs::AccountLaws::account_low))]
 fn long_account(a: u16, rest: Field) -> u8
     requires { 1 ≤ rest.size }
     ensures { result ≡ account (a ∷ word rest) }
@@ -231,6 +235,7 @@ fn long_account(a: u16, rest: Field) -> u8
 }
 
 // The account that a field's first byte and the rest of the field write, `NO_ACCOUNT` where they write none.
+#[tactic(auto, using(crate::specs::AccountLaws::account_one))]
 fn account_of(a: u16, rest: Field) -> u8
     ensures { result ≡ account (a ∷ word rest) }
 {

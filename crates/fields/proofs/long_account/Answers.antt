@@ -6,9 +6,6 @@ use Rattle.fields.specs.AccountLaws.{account_low, account_no_digit, account_two,
 use borrow.Author.Rules.{rules}
 use Rattle.fields.proofs.long_account.Goals as goal
 
-pub returns-then-first-lt1 : goal.returns-then-first-lt1
-returns-then-first-lt1 c = account_low _ _ c.requires c.digit_of-first.ensures (omega arith)
-
 pub returns-then-first-ge-NO_DIGIT : goal.returns-then-first-ge-NO_DIGIT
 returns-then-first-ge-NO_DIGIT c = account_no_digit _ _ c.requires c.digit_of-first.ensures (omega arith)
 

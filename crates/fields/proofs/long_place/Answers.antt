@@ -5,10 +5,6 @@ use borrow.Author.Tests.{lt-ltb, le-ltb, le-leb, lt-leb}
 use borrow.Author.Rules.{rules}
 use Rattle.fields.proofs.long_place.Goals as goal
 
-pub returns-then-a-lt1 : goal.returns-then-a-lt1
-unfolding two_digits
-returns-then-a-lt1 c = simp (lt-leb 1 c.args.a (omega arith))
-
 pub returns-then-a-gt9 : goal.returns-then-a-gt9
 unfolding two_digits
 returns-then-a-gt9 c = simp (le-leb 1 c.args.a (omega arith), lt-leb _ _ c.if-a-gt9.true)

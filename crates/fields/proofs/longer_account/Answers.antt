@@ -7,8 +7,5 @@ use Rattle.fields.proofs.longer_account.Goals as goal
 pub returns-then-d-ge-NO_DIGIT : goal.returns-then-d-ge-NO_DIGIT
 returns-then-d-ge-NO_DIGIT c = longer_no_digit _ _ c.digit_of-d.ensures c.if-d-ge-NO_DIGIT.true
 
-pub returns-then-m-gt-LAST_ACCOUNT : goal.returns-then-m-gt-LAST_ACCOUNT
-returns-then-m-gt-LAST_ACCOUNT c = longer_big _ _ c.digit_of-d.ensures c.if-d-ge-NO_DIGIT.false (omega arith)
-
 pub returns : goal.returns
 returns c = longer-good _ _ c.digit_of-d.ensures c.if-d-ge-NO_DIGIT.false (omega arith)

@@ -7,7 +7,7 @@ use borrow.Author.Rules.{rules}
 use Rattle.fields.proofs.peek.Goals as goal
 
 pub overflow_cast-result : goal.overflow_cast-result
-overflow_cast-result c = omega (arith, c.shared_slice_known-1.given c.args.at)
+overflow_cast-result c = omega (arith, c.type_inv.text c.args.at)
 
 pub returns-then-at-text : goal.returns-then-at-text
 returns-then-at-text c = getD_inside c.args.text.now c.args.at 0 256 c.if-at-text.true

@@ -7,9 +7,6 @@ use Rattle.fields.proofs.short_account.Goals as goal
 pub returns-then-b-eq-DASH : goal.returns-then-b-eq-DASH
 returns-then-b-eq-DASH c = byte_dash _ c.if-b-eq-DASH.true
 
-pub returns-then-d-lt1 : goal.returns-then-d-lt1
-returns-then-d-lt1 c = byte_low _ c.if-b-eq-DASH.false c.digit_of-d.ensures (omega arith)
-
 pub returns-then-d-ge-NO_DIGIT : goal.returns-then-d-ge-NO_DIGIT
 returns-then-d-ge-NO_DIGIT c = byte_no_digit _ c.if-b-eq-DASH.false c.digit_of-d.ensures (omega arith)
 

@@ -121,7 +121,7 @@ sweep_on-requires c =     let l = c.loop-owners in
     sweepable_front _ _ _ _ _ l.invariant.1.inside (sweeping_same _ _ _ _ _ _ _ _ _ _ _ l.invariant.1) l.invariant.0
 
 pub shape_of-words : goal.shape_of-words
-shape_of-words c =     c.words-2-1.given ∙ sweeping_same _ _ _ _ _ _ _ _ _ _ _ c.loop-owners.invariant.1
+shape_of-words c = omega (arith, sweeping_same _ _ _ _ _ _ _ _ _ _ _ c.loop-owners.invariant.1)
 
 pub returns : goal.returns
 returns c =     record { is = sweeping_rest _ _ _ _ _ _ _ _ _ _ _ _ c.loop-owners.invariant.1 c.sweep_on.ensures.is }

@@ -13,7 +13,7 @@ use Rattle.scanning.proofs.scan_account.Goals.{After-account_from-a}
 
 -- the account that is read, told of the text
 reads : (c : After-account_from-a) → ReadsAccount (drop c.args.at c.args.text.now) c.account_from-a.result
-reads c =     reads-account_at c.args.text.now c.args.at _ (λ k. omega (arith, c.shared_slice_known-1.given k))
+reads c =     reads-account_at c.args.text.now c.args.at _ (λ k. omega (arith, c.type_inv.text k))
     c.account_from-a.ensures
 
 small : (c : After-account_from-a) → c.account_from-a.result.size ≤ 4

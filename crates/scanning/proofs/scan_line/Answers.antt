@@ -13,7 +13,7 @@ use Rattle.scanning.proofs.scan_line.Goals.{After-field_from-p, After-field_from
 
 -- the first field that is read, told of the text
 reads : (c : After-field_from-p) → Reads (drop c.args.at c.args.text.now) c.field_from-p.result
-reads c =     reads_at c.args.text.now c.args.at _ (λ k. omega (arith, c.shared_slice_known-1.given k))
+reads c =     reads_at c.args.text.now c.args.at _ (λ k. omega (arith, c.type_inv.text k))
     c.field_from-p.ensures
 
 small : (c : After-field_from-p) → c.field_from-p.result.size ≤ 3
@@ -21,7 +21,7 @@ small c = field_small c.args.text.now c.args.at _ c.field_from-p.ensures
 
 -- the second
 reads2 : (c : After-field_from-k) → Reads (drop (c.args.at + c.field_from-p.result.size + 1) c.args.text.now) c.field_from-k.result
-reads2 c =     reads_at c.args.text.now (c.args.at + c.field_from-p.result.size + 1) _ (λ k. omega (arith, c.shared_slice_known-1.given k))
+reads2 c =     reads_at c.args.text.now (c.args.at + c.field_from-p.result.size + 1) _ (λ k. omega (arith, c.type_inv.text k))
     c.field_from-k.ensures
 
 small2 : (c : After-field_from-k) → c.field_from-k.result.size ≤ 3

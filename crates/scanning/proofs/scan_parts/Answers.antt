@@ -13,7 +13,7 @@ use Rattle.scanning.proofs.scan_parts.Goals.{After-field_from-x, After-field_fro
 
 -- the first field that is read, told of the text
 reads : (c : After-field_from-x) → Reads (drop c.args.at c.args.text.now) c.field_from-x.result
-reads c =     reads_at c.args.text.now c.args.at _ (λ k. omega (arith, c.shared_slice_known-1.given k))
+reads c =     reads_at c.args.text.now c.args.at _ (λ k. omega (arith, c.type_inv.text k))
     c.field_from-x.ensures
 
 small : (c : After-field_from-x) → c.field_from-x.result.size ≤ 3
@@ -21,7 +21,7 @@ small c = field_small c.args.text.now c.args.at _ c.field_from-x.ensures
 
 -- the second
 reads2 : (c : After-field_from-y) → Reads (drop (c.args.at + c.field_from-x.result.size + 1) c.args.text.now) c.field_from-y.result
-reads2 c =     reads_at c.args.text.now (c.args.at + c.field_from-x.result.size + 1) _ (λ k. omega (arith, c.shared_slice_known-1.given k))
+reads2 c =     reads_at c.args.text.now (c.args.at + c.field_from-x.result.size + 1) _ (λ k. omega (arith, c.type_inv.text k))
     c.field_from-y.ensures
 
 small2 : (c : After-field_from-y) → c.field_from-y.result.size ≤ 3
