@@ -1,7 +1,6 @@
 -- `fields::longer_account` meets its contract.
 use native.Mathlib.Omega.{arith}
-use Rattle.fields.specs.AccountLaws.{longer_no_digit, longer_big, longer-good}
-use borrow.Author.Rules.{rules}
+use Rattle.fields.specs.AccountLaws.{longer_no_digit, longer-good}
 use Rattle.fields.proofs.longer_account.Goals as goal
 
 pub returns-then-d-ge-NO_DIGIT : goal.returns-then-d-ge-NO_DIGIT

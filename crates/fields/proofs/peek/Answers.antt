@@ -3,7 +3,6 @@ use mathlib.Core.Path.{sym}
 use lib.ListN.{get_or-eq_default}
 use native.Mathlib.Omega.{arith}
 use Rattle.fields.specs.Fields.{getD_inside}
-use borrow.Author.Rules.{rules}
 use Rattle.fields.proofs.peek.Goals as goal
 
 pub overflow_cast-result : goal.overflow_cast-result

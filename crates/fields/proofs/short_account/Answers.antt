@@ -1,7 +1,6 @@
 -- `fields::short_account` meets its contract.
 use native.Mathlib.Omega.{arith}
-use Rattle.fields.specs.AccountLaws.{byte_dash, byte_low, byte_no_digit, byte_digit}
-use borrow.Author.Rules.{rules}
+use Rattle.fields.specs.AccountLaws.{byte_dash, byte_no_digit, byte_digit}
 use Rattle.fields.proofs.short_account.Goals as goal
 
 pub returns-then-b-eq-DASH : goal.returns-then-b-eq-DASH

@@ -1,5 +1,4 @@
 use mathlib.Core.Path.{refl}
-use borrow.Author.Rules.{rules}
 use Rattle.first_sweep.proofs.cell_of.Goals as goal
 
 pub returns-then-turned : goal.returns-then-turned

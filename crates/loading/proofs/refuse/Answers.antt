@@ -1,5 +1,4 @@
 -- `loading::refuse` meets its contract.
-use borrow.Author.Rules.{rules}
 use Rattle.loading.proofs.refuse.Goals as goal
 
 pub returns : goal.returns

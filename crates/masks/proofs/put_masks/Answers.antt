@@ -15,14 +15,14 @@ put_follows-requires c = (
 )
 
 pub put_columns-requires : goal.put_columns-requires
-put_columns-requires c =     (c.requires.0.whole.few, omega arith, c.requires.1.zeros)
+put_columns-requires c = (c.requires.0.whole.few, omega arith, c.requires.1.zeros)
 
 pub put_columns-requires-2 : goal.put_columns-requires-2
-put_columns-requires-2 c =     (c.requires.0.whole.few, omega arith, c.requires.1.ones)
+put_columns-requires-2 c = (c.requires.0.whole.few, omega arith, c.requires.1.ones)
 
 pub ends_of-requires : goal.ends_of-requires
-ends_of-requires c =     c.requires.0.whole.few
+ends_of-requires c = c.requires.0.whole.few
 
 pub returns : goal.returns
-returns c =     masks-made _ _ c.requires.0 _ _ _ _ _ _ _ c.put_firsts.ensures c.put_follows.ensures
+returns c = masks-made _ _ c.requires.0 _ _ _ _ _ _ _ c.put_firsts.ensures c.put_follows.ensures
     c.put_columns.ensures c.put_columns-2.ensures c.ends_of.ensures

@@ -1,5 +1,4 @@
 -- `scanning::finish` meets its contract.
-use borrow.Author.Rules.{rules}
 use Rattle.scanning.proofs.finish.Goals as goal
 
 pub returns-in-Node : goal.returns-in-Node

@@ -1,7 +1,6 @@
 -- `scanning::is_field_letter` meets its contract.
 use mathlib.Core.Path.{sym}
 use Rattle.scanning.specs.Parsing.{big_no_letter}
-use borrow.Author.Rules.{rules}
 use Rattle.scanning.proofs.is_field_letter.Goals as goal
 
 pub returns-then-b-gt255 : goal.returns-then-b-gt255

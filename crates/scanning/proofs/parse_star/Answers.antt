@@ -1,6 +1,5 @@
 -- `scanning::parse_star` meets its contract.
 use Rattle.scanning.specs.Parsing.{star_good, star_bad}
-use borrow.Author.Rules.{rules}
 use Rattle.scanning.proofs.parse_star.Goals as goal
 
 pub returns-then-p-lt-NO_PLACE : goal.returns-then-p-lt-NO_PLACE

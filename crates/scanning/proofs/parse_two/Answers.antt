@@ -3,11 +3,10 @@ use Rattle.fields.specs.Text.{range_of}
 use Rattle.scanning.specs.Scans.{scanned_node}
 use mathlib.Core.Path.{ap₂, ◌∙◌}
 use Rattle.scanning.specs.Parsing.{two_range, two_no_first, two_no_second, two_sequence, two_alternative, two_other}
-use borrow.Author.Rules.{rules}
 use Rattle.scanning.proofs.parse_two.Goals as goal
 
 pub returns-then-kind-eq-RANGE : goal.returns-then-kind-eq-RANGE
-returns-then-kind-eq-RANGE c =     c.parse_range.ensures
+returns-then-kind-eq-RANGE c = c.parse_range.ensures
     ∙ ap₂ (λ x y. scanned_node (range_of x y)) c.single_of.ensures c.single_of-then-kind-eq-RANGE.ensures
     ∙ two_range _ _ _ c.if-kind-eq-RANGE.true
 
@@ -18,11 +17,11 @@ pub returns-then-q-ge-NO_PLACE : goal.returns-then-q-ge-NO_PLACE
 returns-then-q-ge-NO_PLACE c = two_no_second _ _ _ c.if-kind-eq-RANGE.false _ c.place_of-q.ensures c.if-q-ge-NO_PLACE.true
 
 pub returns-then-kind-eq-SEQUENCE : goal.returns-then-kind-eq-SEQUENCE
-returns-then-kind-eq-SEQUENCE c =     two_sequence _ _ _ c.if-kind-eq-RANGE.false _ _ c.place_of-p.ensures
+returns-then-kind-eq-SEQUENCE c = two_sequence _ _ _ c.if-kind-eq-RANGE.false _ _ c.place_of-p.ensures
     c.place_of-q.ensures c.if-p-ge-NO_PLACE.false c.if-q-ge-NO_PLACE.false c.if-kind-eq-SEQUENCE.true
 
 pub returns-then-kind-eq-ALTERNATIVE : goal.returns-then-kind-eq-ALTERNATIVE
-returns-then-kind-eq-ALTERNATIVE c =     two_alternative _ _ _ c.if-kind-eq-RANGE.false _ _
+returns-then-kind-eq-ALTERNATIVE c = two_alternative _ _ _ c.if-kind-eq-RANGE.false _ _
     c.place_of-p.ensures c.place_of-q.ensures
     c.if-p-ge-NO_PLACE.false c.if-q-ge-NO_PLACE.false c.if-kind-eq-SEQUENCE.false c.if-kind-eq-ALTERNATIVE.true
 

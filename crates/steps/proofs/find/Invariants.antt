@@ -1,7 +1,4 @@
 use Prim.Native.Nat.{◌+◌, ◌-◌, ◌≤◌, ◌<◌}
-use native.Mathlib.Omega.{arith}
-use Rattle.steps.specs.Memo.{found_here, found_none}
-use borrow.Author.Rules.{rules}
 use Rattle.steps.proofs.find.Given as goal
 
 abbrev pub invariant-loop-n : goal.invariant-loop-n

@@ -1,6 +1,5 @@
 use mathlib.Core.Path.{sym}
 use mathlib.Core.Bool.{true≢false}
-use borrow.Author.Rules.{rules}
 use Rattle.steps.proofs.goes_on.Goals as goal
 
 pub returns-then-pair-ge-PAIRS : goal.returns-then-pair-ge-PAIRS

@@ -1,5 +1,4 @@
 use Rattle.steps.specs.Memo.{extends_counted}
-use borrow.Author.Rules.{rules}
 use Rattle.steps.proofs.is_noted.Goals as goal
 
 pub returns : goal.returns

@@ -1,11 +1,10 @@
 -- `steps::learn` meets its contract.
 use native.Mathlib.Omega.{arith}
 use Rattle.steps.specs.Memo.{learned_extends, noted_from, noted_right, stands_past, stands_extends, stands-numbered}
-use borrow.Author.Rules.{rules}
 use Rattle.steps.proofs.learn.Goals as goal
 
 pub returns-then-is_noted : goal.returns-then-is_noted
-returns-then-is_noted c =     let numbers = c.number_of-to.ensures in
+returns-then-is_noted c = let numbers = c.number_of-to.ensures in
     record {
       learned = λ zs os ts next last l p e.
           let learned = learned_extends zs os ts _ _ _ l _ c.is_noted.ensures in

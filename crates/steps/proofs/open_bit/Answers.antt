@@ -2,7 +2,6 @@ use mathlib.Core.Path.{refl, sym}
 use native.Mathlib.Omega.{arith}
 use borrow.Author.Tests.{lt-ltb, le-ltb}
 use Rattle.bits.specs.Numbers.{bit_parity}
-use borrow.Author.Rules.{rules}
 use Rattle.steps.proofs.open_bit.Goals as goal
 
 pub returns-then-state-lt64 : goal.returns-then-state-lt64

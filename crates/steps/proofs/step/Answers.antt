@@ -1,12 +1,9 @@
-use Prim.Native.Nat.{◌-◌}
 use native.Mathlib.Omega.{arith}
 use mathlib.Core.Path.{refl, ap, ◌∙◌}
 use Rattle.bits.specs.Bits.{bit}
 use Rattle.steps.specs.Steps.{open_next}
-use Rattle.table.specs.Cells.{follower_in}
-use Rattle.steps.specs.Stepping.{Stepping, stepping_start, stepping_next, stepping_end}
+use Rattle.steps.specs.Stepping.{stepping_start, stepping_next, stepping_end}
 use Rattle.bits.specs.Lowest.{Lowest, lowest}
-use borrow.Author.Rules.{rules}
 use Rattle.steps.proofs.step.Goals as goal
 use Rattle.steps.proofs.step.Goals.{In-loop-rest}
 
@@ -48,7 +45,7 @@ pub loop-rest-smaller : goal.loop-rest-smaller
 loop-rest-smaller c = (here (goal.at.loop-rest-smaller c).In-loop-rest).less
 
 pub loop-rest-preserved : goal.loop-rest-preserved
-loop-rest-preserved c =     stepping_next _ _ _ _ _ _ _ _ _ _ _ c.loop-rest.invariant (omega (arith, c.loop-rest-test.true)) refl
+loop-rest-preserved c = stepping_next _ _ _ _ _ _ _ _ _ _ _ c.loop-rest.invariant (omega (arith, c.loop-rest-test.true)) refl
     (c.open_bit-e.ensures.0 ∙ ap (λ f. bit (open_next c.args.next c.args.last f)) c.follower_at.ensures)
     c.times-a.ensures c.times-b.ensures
 

@@ -1,6 +1,5 @@
 use Rattle.bits.specs.Unions.{times_small}
 use native.Mathlib.Omega.{arith}
-use borrow.Author.Rules.{rules}
 use Rattle.steps.proofs.times.Goals as goal
 
 pub overflow_mul-result : goal.overflow_mul-result

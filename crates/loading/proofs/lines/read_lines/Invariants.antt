@@ -1,10 +1,7 @@
 -- `loading::lines::read_lines` meets its contract.
 use Prim.Native.Nat.{◌-◌}
-use native.Mathlib.Omega.{arith}
 use lib.ListN.{length}
 use Rattle.loading.specs.ReadLines.{ReadSoFar}
-use Rattle.loading.specs.Lines.{read-start, read_end, read_many, read_fault, read-less, read_on}
-use borrow.Author.Rules.{rules}
 use Rattle.loading.proofs.lines.read_lines.Given as goal
 
 abbrev pub invariant-loop-at : goal.invariant-loop-at

@@ -1,4 +1,3 @@
-use borrow.Author.Rules.{rules}
 use Rattle.masks.proofs.firsts.either_of.Goals as goal
 
 pub returns : goal.returns

@@ -1,5 +1,4 @@
 use mathlib.Core.Path.{refl}
-use borrow.Author.Rules.{rules}
 use Rattle.masks.proofs.firsts.first_of.Goals as goal
 
 pub returns-in-Leaf : goal.returns-in-Leaf

@@ -1,5 +1,4 @@
 use Rattle.masks.specs.Firsts.{first_same}
-use borrow.Author.Rules.{rules}
 use Rattle.masks.proofs.firsts.in_turn.Goals as goal
 
 pub returns : goal.returns

@@ -5,7 +5,6 @@ use Rattle.syntax.specs.TreeLaws.{Below}
 use Rattle.table.specs.Cells.{line_in}
 use Rattle.table.specs.HandDown.{PartsInside, parts-inside}
 use Rattle.masks.specs.Firsts.{first-line-same}
-use borrow.Author.Rules.{rules}
 use Rattle.masks.proofs.firsts.line_first.Goals as goal
 use Rattle.masks.proofs.firsts.line_first.Goals.{After-node_at-node}
 
@@ -23,6 +22,6 @@ pub first_of-requires : goal.first_of-requires
 first_of-requires c = c.requires.0
 
 pub returns : goal.returns
-returns c =     first-line-same (line_in c.args.table.now) _ c.args.firsts.now c.args.nullable.now
+returns c = first-line-same (line_in c.args.table.now) _ c.args.firsts.now c.args.nullable.now
     c.node_at-node.ensures c.first_part.ensures
     c.second_part.ensures c.first_at-a.ensures c.first_at-b.ensures c.first_of.ensures

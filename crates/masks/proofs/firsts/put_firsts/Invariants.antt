@@ -1,9 +1,7 @@
 -- `masks::firsts::put_firsts` meets its contract.
-use native.Mathlib.Omega.{arith}
 use Prim.Native.Nat.{◌≤◌, ◌-◌}
 use Rattle.table.specs.Cells.{line_in}
-use Rattle.masks.specs.Firsts.{Firsts, firsts_start, firsts_next, firsts_end}
-use borrow.Author.Rules.{rules}
+use Rattle.masks.specs.Firsts.{Firsts}
 use Rattle.masks.proofs.firsts.put_firsts.Given as goal
 
 abbrev pub invariant-loop-i : goal.invariant-loop-i

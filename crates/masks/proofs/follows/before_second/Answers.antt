@@ -1,5 +1,4 @@
 use Rattle.masks.specs.Follows.{follow_same}
-use borrow.Author.Rules.{rules}
 use Rattle.masks.proofs.follows.before_second.Goals as goal
 
 pub returns : goal.returns

@@ -1,17 +1,12 @@
 -- `masks::follows::put_follows` meets its contract.
-use mathlib.Core.Path.{sym, subst}
-use native.Mathlib.Omega.{arith}
-use Prim.Native.Nat.{◌-◌, ◌<◌}
-use Rattle.syntax.specs.TreeLaws.{Below}
 use Rattle.table.specs.Cells.{line_in}
-use Rattle.table.specs.HandDown.{Rooted, PartsInside, parts-inside}
+use Rattle.table.specs.HandDown.{Rooted}
 use Rattle.masks.specs.Firsts.{Firsts}
-use Rattle.masks.specs.Follows.{Down, down_start, down_at, down_end}
-use borrow.Author.Rules.{rules}
+use Rattle.masks.specs.Follows.{Down}
 use Rattle.masks.proofs.follows.put_follows.Given as goal
 
 abbrev pub invariant-loop-i : goal.invariant-loop-i
-invariant-loop-i l =     Rooted (line_in l.table) l.count × Firsts (line_in l.table) l.count l.firsts l.nullable × Down (line_in l.table) l.count l.i l.follows l.ends
+invariant-loop-i l = Rooted (line_in l.table) l.count × Firsts (line_in l.table) l.count l.firsts l.nullable × Down (line_in l.table) l.count l.i l.follows l.ends
 
 abbrev pub decreases-loop-i : goal.decreases-loop-i
 decreases-loop-i l = l.i

@@ -1,5 +1,4 @@
 -- `masks::follows::to_first` meets its contract.
-use borrow.Author.Rules.{rules}
 use Rattle.masks.proofs.follows.to_first.Goals as goal
 
 pub returns-in-Sequence : goal.returns-in-Sequence

@@ -2,11 +2,10 @@
 use mathlib.Core.Path.{◌≡◌, ap, ◌∙◌}
 use native.Mathlib.Omega.{arith}
 use mathlib.Core.Bool.{Bool}
-use Prim.Native.Nat.{ℕ, ◌≤◌, ◌-◌, ◌*◌, ◌^◌}
+use Prim.Native.Nat.{ℕ, ◌*◌, ◌^◌}
 use Rattle.bits.specs.Bits.{bit, word_of}
 use Rattle.bits.specs.Words.{word-start, word_next, word_fits}
 use Rattle.masks.specs.Masks.{comes_to_end}
-use borrow.Author.Rules.{rules}
 use Rattle.masks.proofs.scatter.ends_of.Goals as goal
 use Rattle.masks.proofs.scatter.ends_of.Goals.{After-single-e}
 
@@ -26,15 +25,15 @@ pub single-e-requires : goal.single-e-requires
 single-e-requires c = omega (arith, c.loop-i-test.true, c.requires)
 
 pub overflow_add-word : goal.overflow_add-word
-overflow_add-word c =     omega (
-      arith,
-      word_fits 64 c.loop-i.i (ends-in (goal.at.overflow_add-word c).After-single-e) c.loop-i.word c.single-e.result
-          (omega (arith, c.loop-i-test.true, c.requires)) c.loop-i.invariant.1 (here (goal.at.overflow_add-word c).After-single-e),
-    )
+overflow_add-word c = omega (
+  arith,
+  word_fits 64 c.loop-i.i (ends-in (goal.at.overflow_add-word c).After-single-e) c.loop-i.word c.single-e.result
+      (omega (arith, c.loop-i-test.true, c.requires)) c.loop-i.invariant.1 (here (goal.at.overflow_add-word c).After-single-e),
+)
 
 pub loop-i-preserved : goal.loop-i-preserved
-loop-i-preserved c =     (omega (arith, c.loop-i-test.true), word_next c.loop-i.i (ends-in (goal.at.loop-i-preserved c).After-single-e) _ _ c.loop-i.invariant.1 (here (goal.at.loop-i-preserved c).After-single-e))
+loop-i-preserved c = (omega (arith, c.loop-i-test.true), word_next c.loop-i.i (ends-in (goal.at.loop-i-preserved c).After-single-e) _ _ c.loop-i.invariant.1 (here (goal.at.loop-i-preserved c).After-single-e))
 
 pub returns : goal.returns
-returns c =     let e : c.loop-i.i ≡ c.args.count = omega (arith, c.loop-i.invariant.0, c.loop-i-test.false) in
+returns c = let e : c.loop-i.i ≡ c.args.count = omega (arith, c.loop-i.invariant.0, c.loop-i-test.false) in
     c.loop-i.invariant.1 ∙ ap (λ k. word_of k (comes_to_end c.args.nullable.now c.args.ends.now)) e

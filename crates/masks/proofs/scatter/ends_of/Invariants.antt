@@ -1,12 +1,8 @@
 -- `masks::scatter::ends_of` meets its contract.
-use mathlib.Core.Path.{◌≡◌, ap, ◌∙◌}
-use native.Mathlib.Omega.{arith}
-use mathlib.Core.Bool.{Bool}
-use Prim.Native.Nat.{ℕ, ◌≤◌, ◌-◌, ◌*◌, ◌^◌}
-use Rattle.bits.specs.Bits.{bit, word_of}
-use Rattle.bits.specs.Words.{word-start, word_next, word_fits}
+use mathlib.Core.Path.{◌≡◌}
+use Prim.Native.Nat.{◌≤◌, ◌-◌}
+use Rattle.bits.specs.Bits.{word_of}
 use Rattle.masks.specs.Masks.{comes_to_end}
-use borrow.Author.Rules.{rules}
 use Rattle.masks.proofs.scatter.ends_of.Given as goal
 
 abbrev pub invariant-loop-i : goal.invariant-loop-i

@@ -1,9 +1,6 @@
 -- `masks::scatter::put_between` meets its contract.
-use native.Mathlib.Omega.{arith}
 use Prim.Native.Nat.{◌+◌, ◌-◌}
-use mathlib.Core.Path.{refl}
-use Rattle.masks.specs.Scatter.{Marking, between, marking_start, range-next, range_end}
-use borrow.Author.Rules.{rules}
+use Rattle.masks.specs.Scatter.{Marking, between}
 use Rattle.masks.proofs.scatter.put_between.Given as goal
 
 abbrev pub invariant-loop-c : goal.invariant-loop-c

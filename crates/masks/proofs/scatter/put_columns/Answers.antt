@@ -1,10 +1,7 @@
 -- `masks::scatter::put_columns` meets its contract.
 use native.Mathlib.Omega.{arith}
-use Prim.Native.Nat.{◌≤◌, ◌-◌}
-use Rattle.bits.specs.Bits.{test_bit}
 use Rattle.masks.specs.Masks.{row}
-use Rattle.masks.specs.Scatter.{Scattered, scattered_start, columns_next, columns-end}
-use borrow.Author.Rules.{rules}
+use Rattle.masks.specs.Scatter.{scattered_start, columns_next, columns-end}
 use Rattle.masks.proofs.scatter.put_columns.Goals as goal
 
 pub loop-i-init : goal.loop-i-init
@@ -26,13 +23,13 @@ put_row-requires c = (
 )
 
 pub loop-i-preserved : goal.loop-i-preserved
-loop-i-preserved c =     (
-      omega (arith, c.loop-i-test.true),
-      columns_next
-          (row c.args.firsts.now c.args.nullable.now c.args.follows.now c.args.flag) _ _ _ _
-          c.loop-i.invariant.1 c.join-line.ensures c.put_row.ensures,
-    )
+loop-i-preserved c = (
+  omega (arith, c.loop-i-test.true),
+  columns_next
+      (row c.args.firsts.now c.args.nullable.now c.args.follows.now c.args.flag) _ _ _ _
+      c.loop-i.invariant.1 c.join-line.ensures c.put_row.ensures,
+)
 
 pub returns : goal.returns
-returns c =     columns-end (row c.args.firsts.now c.args.nullable.now c.args.follows.now c.args.flag) _ _ _ c.requires.0
+returns c = columns-end (row c.args.firsts.now c.args.nullable.now c.args.follows.now c.args.flag) _ _ _ c.requires.0
     (omega (arith, c.loop-i.invariant.0, c.loop-i-test.false)) c.loop-i.invariant.1

@@ -1,10 +1,8 @@
 -- `masks::scatter::put_columns` meets its contract.
-use native.Mathlib.Omega.{arith}
 use Prim.Native.Nat.{◌≤◌, ◌-◌}
 use Rattle.bits.specs.Bits.{test_bit}
 use Rattle.masks.specs.Masks.{row}
-use Rattle.masks.specs.Scatter.{Scattered, scattered_start, columns_next, columns-end}
-use borrow.Author.Rules.{rules}
+use Rattle.masks.specs.Scatter.{Scattered}
 use Rattle.masks.proofs.scatter.put_columns.Given as goal
 
 abbrev pub invariant-loop-i : goal.invariant-loop-i

@@ -2,8 +2,7 @@
 use native.Mathlib.Omega.{arith}
 use mathlib.Core.Path.{refl}
 use Rattle.bits.specs.Lowest.{Lowest, lowest}
-use Rattle.masks.specs.Scatter.{RowLeft, row-start, row_next, row_end}
-use borrow.Author.Rules.{rules}
+use Rattle.masks.specs.Scatter.{row-start, row_next, row_end}
 use Rattle.masks.proofs.scatter.put_row.Goals as goal
 use Rattle.masks.proofs.scatter.put_row.Goals.{In-loop-rest}
 
@@ -33,7 +32,7 @@ pub loop-rest-smaller : goal.loop-rest-smaller
 loop-rest-smaller c = (here (goal.at.loop-rest-smaller c).In-loop-rest).less
 
 pub loop-rest-preserved : goal.loop-rest-preserved
-loop-rest-preserved c =     row_next _ _ _ _ c.single-mark.ensures _ _ _ _ c.requires.1 c.loop-rest.invariant
+loop-rest-preserved c = row_next _ _ _ _ c.single-mark.ensures _ _ _ _ c.requires.1 c.loop-rest.invariant
     (omega (arith, c.loop-rest-test.true)) refl refl
 
 pub returns : goal.returns

@@ -1,9 +1,5 @@
 -- `masks::scatter::put_row` meets its contract.
-use native.Mathlib.Omega.{arith}
-use mathlib.Core.Path.{refl}
-use Rattle.bits.specs.Lowest.{Lowest, lowest}
-use Rattle.masks.specs.Scatter.{RowLeft, row-start, row_next, row_end}
-use borrow.Author.Rules.{rules}
+use Rattle.masks.specs.Scatter.{RowLeft}
 use Rattle.masks.proofs.scatter.put_row.Given as goal
 
 abbrev pub invariant-loop-rest : goal.invariant-loop-rest

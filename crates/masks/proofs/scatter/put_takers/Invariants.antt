@@ -1,12 +1,8 @@
 -- `masks::scatter::put_takers` meets its contract.
-use mathlib.Core.Path.{ap, ◌∙◌}
-use native.Mathlib.Omega.{arith}
 use Prim.Native.Nat.{◌≤◌, ◌-◌}
-use Rattle.syntax.specs.Table.{node_good}
 use Rattle.table.specs.Cells.{line_in}
 use Rattle.masks.specs.Leaves.{letter_cells}
-use Rattle.masks.specs.Scatter.{Scattered, line_takes, scattered_start, takers-next, takers-end}
-use borrow.Author.Rules.{rules}
+use Rattle.masks.specs.Scatter.{Scattered, line_takes}
 use Rattle.masks.proofs.scatter.put_takers.Given as goal
 
 abbrev pub invariant-loop-i : goal.invariant-loop-i

@@ -2,7 +2,6 @@ use mathlib.Core.Path.{sym}
 use native.Mathlib.Nat.{mod-eq_of_lt, zero-mul}
 use native.Mathlib.Omega.{arith}
 use lib.Pow.{pow-lt}
-use borrow.Author.Rules.{rules}
 use Rattle.masks.proofs.word.single.Goals as goal
 
 pub returns-then-v : goal.returns-then-v
