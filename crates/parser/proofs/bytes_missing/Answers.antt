@@ -7,7 +7,7 @@ pub returns-then-tape-size : goal.returns-then-tape-size
 returns-then-tape-size c = λ s. missing_none s _ c.if-tape-size.true
 
 pub sweep-count-requires : goal.sweep-count-requires
-sweep-count-requires c =     let pre = c.requires in
+sweep-count-requires c = let pre = c.requires in
     (pre.0, pre.1, pre.2.ready)
 
 pub returns-then-size-needed : goal.returns-then-size-needed

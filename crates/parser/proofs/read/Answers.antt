@@ -11,7 +11,7 @@ use Rattle.parser.proofs.read.Goals.{Else-words-needed}
 -- the tests are passed
 tested : (c : Else-words-needed) →
     Tested c.args.p c.args.tape.now c.args.words.now
-tested c =     let t = c.requires in
+tested c = let t = c.requires in
     record { good = t.good; few = t.few; letters = t.letters; room = c.if-words-needed.false }
 
 pub overflow_add-needed : goal.overflow_add-needed
@@ -30,28 +30,28 @@ pub table_of-table-requires : goal.table_of-table-requires
 table_of-table-requires c = (obeys_iff _).0 (tested (goal.at.table_of-table-requires c).Else-words-needed).good
 
 pub fill-requires : goal.fill-requires
-fill-requires c =     (fillable (tested (goal.at.fill-requires c).Else-words-needed), c.table_of-table.ensures)
+fill-requires c = (fillable (tested (goal.at.fill-requires c).Else-words-needed), c.table_of-table.ensures)
 
 pub overflow_sub-root : goal.overflow_sub-root
-overflow_sub-root c =     let d = tested (goal.at.overflow_sub-root c).Else-words-needed in
+overflow_sub-root c = let d = tested (goal.at.overflow_sub-root c).Else-words-needed in
     omega (arith, obeys_few _ d.good)
 
 pub is_open-requires : goal.is_open-requires
-is_open-requires c =     let d = tested (goal.at.is_open-requires c).Else-words-needed in
+is_open-requires c = let d = tested (goal.at.is_open-requires c).Else-words-needed in
     (omega (arith, filled_long d c.fill.ensures, d.room), omega (arith, obeys_few _ d.good))
 
 pub returns-then-not-is_open : goal.returns-then-not-is_open
-returns-then-not-is_open c =     let d = tested (goal.at.returns-then-not-is_open c).Else-words-needed in
+returns-then-not-is_open c = let d = tested (goal.at.returns-then-not-is_open c).Else-words-needed in
     parse_unreadable d c.fill.ensures c.is_open.ensures _ c.if-not-is_open.true
 
 pub write_code-requires : goal.write_code-requires
-write_code-requires c =     let d = tested (goal.at.write_code-requires c).Else-words-needed in
+write_code-requires c = let d = tested (goal.at.write_code-requires c).Else-words-needed in
     let first = first_swept d c.fill.ensures c.is_open.ensures c.if-not-is_open.false in
     let holds = c.table_of-table.ensures in
     (holds_good _ _ d.good holds, omega (arith, obeys_few _ d.good), root_writable _ _ _ first _ holds)
 
 pub returns : goal.returns
-returns c =     let d = tested (goal.at.returns c).Else-words-needed in
+returns c = let d = tested (goal.at.returns c).Else-words-needed in
     let e = c.if-not-is_open.false in
     let first = first_swept d c.fill.ensures c.is_open.ensures e in
     let w = c.write_code.ensures (root_writable _ _ _ first _ c.table_of-table.ensures) in

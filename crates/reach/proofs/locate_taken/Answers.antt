@@ -8,4 +8,4 @@ pub table_of-table-requires : goal.table_of-table-requires
 table_of-table-requires c = (obeys_iff _).0 c.requires.good
 
 pub positions-requires : goal.positions-requires
-positions-requires c =     (locatable _ _ c.requires, c.table_of-table.ensures)
+positions-requires c = (locatable _ _ c.requires, c.table_of-table.ensures)

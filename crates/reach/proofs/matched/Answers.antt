@@ -33,7 +33,7 @@ pub loop-rest-smaller : goal.loop-rest-smaller
 loop-rest-smaller c = (here (goal.at.loop-rest-smaller c).In-loop-rest).less
 
 pub loop-rest-preserved : goal.loop-rest-preserved
-loop-rest-preserved c =     joined_next _ _ _ _ _ _ _ c.loop-rest.invariant (omega (arith, c.loop-rest-test.true)) refl c.chosen-leaves.ensures
+loop-rest-preserved c = joined_next _ _ _ _ _ _ _ c.loop-rest.invariant (omega (arith, c.loop-rest-test.true)) refl c.chosen-leaves.ensures
 
 pub returns : goal.returns
 returns c = matched_end _ _ _ _ _ c.loop-rest.invariant c.loop-rest-test.false

@@ -7,23 +7,23 @@ use borrow.Author.Rules.{rules}
 use Rattle.reach.proofs.positions.Goals as goal
 
 pub put_masks-end-requires : goal.put_masks-end-requires
-put_masks-end-requires c =     (holds_maskable _ c.requires.0.rules _ c.requires.1, record { zeros = none_marked 64; ones = none_marked 64 })
+put_masks-end-requires c = (holds_maskable _ c.requires.0.rules _ c.requires.1, record { zeros = none_marked 64; ones = none_marked 64 })
 
 pub put_takers-requires : goal.put_takers-requires
-put_takers-requires c =     let table = holds_maskable _ c.requires.0.rules _ c.requires.1 in
+put_takers-requires c = let table = holds_maskable _ c.requires.0.rules _ c.requires.1 in
     (table.whole.few, table.good, none_marked letter_cells)
 
 pub overflow_cast-result : goal.overflow_cast-result
-overflow_cast-result c =     let f = reach_fits _ _ _ _ _ _ _ c.requires.0 c.requires.1
+overflow_cast-result c = let f = reach_fits _ _ _ _ _ _ _ c.requires.0 c.requires.1
     (masks-of-pattern _ c.requires.0.rules _ c.requires.1 _ _ _ _ c.put_masks-end.ensures c.put_takers.ensures) _ c.reach_over-reach.ensures in
     omega (arith, f)
 
 pub overflow_cast-result-2 : goal.overflow_cast-result-2
-overflow_cast-result-2 c =     let f = resume_fits _ _ _ _ _ _ _ c.requires.0 c.requires.1
+overflow_cast-result-2 c = let f = resume_fits _ _ _ _ _ _ _ c.requires.0 c.requires.1
     (masks-of-pattern _ c.requires.0.rules _ c.requires.1 _ _ _ _ c.put_masks-end.ensures c.put_takers.ensures) _ c.resume_over-resume.ensures in
     omega (arith, f)
 
 pub returns : goal.returns
-returns c =     told _ _ _ _ _ _ _ c.requires.0 c.requires.1
+returns c = told _ _ _ _ _ _ _ c.requires.0 c.requires.1
     (masks-of-pattern _ c.requires.0.rules _ c.requires.1 _ _ _ _ c.put_masks-end.ensures c.put_takers.ensures) _ _
     c.reach_over-reach.ensures c.resume_over-resume.ensures

@@ -28,10 +28,10 @@ pub bounds-takers-c : goal.bounds-takers-c
 bounds-takers-c c = omega (arith, letter (goal.at.bounds-takers-c c).In-loop-i)
 
 pub returns-then-leaves-eq0 : goal.returns-then-leaves-eq0
-returns-then-leaves-eq0 c =     reading-stops _ _ _ _ _ _ _ c.loop-i.invariant c.loop-i-test.true _ _ refl c.matched-leaves.ensures c.if-leaves-eq0.true
+returns-then-leaves-eq0 c = reading-stops _ _ _ _ _ _ _ c.loop-i.invariant c.loop-i-test.true _ _ refl c.matched-leaves.ensures c.if-leaves-eq0.true
 
 pub loop-i-preserved : goal.loop-i-preserved
-loop-i-preserved c =     reading_on _ _ _ _ _ _ _ c.loop-i.invariant c.loop-i-test.true _ _ refl c.matched-leaves.ensures
+loop-i-preserved c = reading_on _ _ _ _ _ _ _ c.loop-i.invariant c.loop-i-test.true _ _ refl c.matched-leaves.ensures
     c.if-leaves-eq0.false _ c.follow-nodes.ensures
 
 pub returns : goal.returns

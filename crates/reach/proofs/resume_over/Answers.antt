@@ -29,9 +29,9 @@ pub bounds-takers-c : goal.bounds-takers-c
 bounds-takers-c c = letter (goal.at.bounds-takers-c c).In-loop-i
 
 pub loop-i-preserved : goal.loop-i-preserved
-loop-i-preserved c =     let l = c.loop-i in
+loop-i-preserved c = let l = c.loop-i in
     resuming_down _ _ _ _ _ _ _ _ _ _ _ _ _ c.loop-i-test.true l.invariant refl c.step-w.ensures c.earlier-found.ensures
 
 pub returns : goal.returns
-returns c =     let z : c.loop-i.i ≡ 0 = omega arith in
+returns c = let z : c.loop-i.i ≡ 0 = omega arith in
     resuming_end _ _ _ _ _ _ _ _ _ (rw z at c.loop-i.invariant)

@@ -1,5 +1,5 @@
 -- `second_sweep::sweep` meets its contract.
-use Rattle.std.proofs.Common.{ℕ, arith, ◌<◌}
+use Rattle.std.proofs.Common.{ℕ, arith}
 use Rattle.second_sweep.specs.Sweeping.{Ready}
 use Rattle.second_sweep.specs.Ways.{LineNode, lower, leaf_ready, leaf_done, seq_first, Last, last_met, seq_last, side_last}
 use Rattle.second_sweep.specs.Ways.{Going, going_start, star_stop, round_ready, round-less, round_done}
@@ -21,9 +21,9 @@ last_part : (t : ℕ) (c : Joined-node_at t) → LineNode c.args.table.now c.arg
     Last s c.args.code.now c.match-node_at.code c.match-node_at.here c.match-node_at.flag c.match-node_at.last
 last_part t c n s =
     elim c.match-node_at.branch [
-      in-Sequence w ↦ last_met w.code-is w.here-is w.flag-is w.last-is
+      | in-Sequence w ↦ last_met w.code-is w.here-is w.flag-is w.last-is
           (seq_last n w.in-Sequence.is w.sweep-here.ensures w.flag_behind-flag.ensures s)
-    | in-Alternative w ↦ last_met w.code-is w.here-is w.flag-is w.last-is (side_last n w.in-Alternative.is w.choose-last.ensures s)
+      | in-Alternative w ↦ last_met w.code-is w.here-is w.flag-is w.last-is (side_last n w.in-Alternative.is w.choose-last.ensures s)
     ]
 
 pub sweep_leaf-requires : goal.sweep_leaf-requires
@@ -66,13 +66,13 @@ pub loop-flag-smaller : goal.loop-flag-smaller
 loop-flag-smaller t c =
     let at = goal.at.loop-flag-smaller t c in
     let less = round-less (line t at.After-node_at) c.in-Star.is c.requires.2 (going t at.At-loop-flag) c.goes_on.ensures
-        c.loop-flag-test.true c.put_bit.ensures c.sweep-here-in-loop-flag.ensures in
+    c.loop-flag-test.true c.put_bit.ensures c.sweep-here-in-loop-flag.ensures in
     omega arith
 
 pub loop-flag-preserved : goal.loop-flag-preserved
 loop-flag-preserved t c =
     λ s. round_done (line t (goal.at.loop-flag-preserved t c).After-node_at) c.in-Star.is s (c.loop-flag.invariant s) c.goes_on.ensures
-        c.loop-flag-test.true c.put_bit.ensures c.sweep-here-in-loop-flag.ensures
+    c.loop-flag-test.true c.put_bit.ensures c.sweep-here-in-loop-flag.ensures
 
 pub stop-requires : goal.stop-requires
 stop-requires t c = omega (arith, (going t (goal.at.stop-requires t c).At-loop-flag).now.few)
@@ -80,7 +80,7 @@ stop-requires t c = omega (arith, (going t (goal.at.stop-requires t c).At-loop-f
 pub returns-in-Star : goal.returns-in-Star
 returns-in-Star t c =
     λ s. star_stop (line t (goal.at.returns-in-Star t c).After-node_at) c.in-Star.is s (c.loop-flag.invariant s) c.goes_on.ensures
-        c.loop-flag-test.false c.stop.ensures
+    c.loop-flag-test.false c.stop.ensures
 
 pub sweep-here-requires-2 : goal.sweep-here-requires-2
 sweep-here-requires-2 t c =

@@ -6,5 +6,5 @@ use borrow.Author.Rules.{rules}
 use Rattle.second_sweep.proofs.flag_behind.Goals as goal
 
 pub returns : goal.returns
-returns c =     let a = c.args in
+returns c = let a = c.args in
     flag_else a.taken (ltb a.from a.to) c.if-taken.false refl

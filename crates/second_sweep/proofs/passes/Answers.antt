@@ -8,4 +8,4 @@ pub returns-then-flag : goal.returns-then-flag
 returns-then-flag c = passes_taken (loops_in c.args.table.now c.args.l) _ c.if-flag.true
 
 pub returns : goal.returns
-returns c =     passes_else (loops_in c.args.table.now c.args.l) _ c.if-flag.false c.loops_at.ensures
+returns c = passes_else (loops_in c.args.table.now c.args.l) _ c.if-flag.false c.loops_at.ensures

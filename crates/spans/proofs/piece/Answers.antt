@@ -10,4 +10,4 @@ pub slice_bounds-result-end : goal.slice_bounds-result-end
 slice_bounds-result-end c = omega (arith, (part _ _ _ _ _ _ _ c.span-shown.ensures).fits)
 
 pub returns : goal.returns
-returns c =     part_of_tape _ c.args.tape _ _ _ _ _ _ c.span-shown.ensures refl refl
+returns c = part_of_tape _ c.args.tape _ _ _ _ _ _ c.span-shown.ensures refl refl

@@ -11,21 +11,21 @@ pub table_of-table-requires : goal.table_of-table-requires
 table_of-table-requires c = (obeys_iff _).0 c.requires.good
 
 pub overflow_sub-root : goal.overflow_sub-root
-overflow_sub-root c =     let r = (obeys_iff _).0 c.requires.good in
+overflow_sub-root c = let r = (obeys_iff _).0 c.requires.good in
     omega (arith, r.one)
 
 pub spells-requires : goal.spells-requires
-spells-requires c =     let t = c.requires in
+spells-requires c = let t = c.requires in
     let r = (obeys_iff _).0 t.good in
     record { good = holds_good _ _ t.good c.table_of-table.ensures; l_bound = (omega (arith, r.one, r.few), t.few) }
 
 pub returns-then-not-spells : goal.returns-then-not-spells
-returns-then-not-spells c =     let t = c.requires in
+returns-then-not-spells c = let t = c.requires in
     let n = tape-root _ _ t.good c.table_of-table.ensures _ _ _ _ c.spells.ensures ∙ c.if-not-spells.true in
     span_not _ _ _ _ _ _ t n _ c.no_span.ensures
 
 pub find-found-requires : goal.find-found-requires
-find-found-requires c =     let t = c.requires in
+find-found-requires c = let t = c.requires in
     let r = (obeys_iff _).0 t.good in
     let w = sym c.spells.ensures ∙ c.if-not-spells.false in
     let h = tape_bits _ _ _ _ w in
@@ -36,13 +36,13 @@ find-found-requires c =     let t = c.requires in
     }
 
 pub returns-in_default : goal.returns-in_default
-returns-in_default c =     let t = c.requires in
+returns-in_default c = let t = c.requires in
     let w = tape-root _ _ t.good c.table_of-table.ensures _ _ _ _ c.spells.ensures ∙ c.if-not-spells.false in
     let r = found_root _ _ t.good c.table_of-table.ensures _ _ _ _ _ c.find-found.ensures in
     span_none _ _ _ _ _ _ t w _ r _ _ _ c.in_default.is _ c.no_span-in_default.ensures
 
 pub returns : goal.returns
-returns c =     let t = c.requires in
+returns c = let t = c.requires in
     let w = tape-root _ _ t.good c.table_of-table.ensures _ _ _ _ c.spells.ensures ∙ c.if-not-spells.false in
     let r = found_root _ _ t.good c.table_of-table.ensures _ _ _ _ _ c.find-found.ensures in
     span_found _ _ _ _ _ _ t w _ r _ _ c.in-Hit.is

@@ -9,4 +9,4 @@ pub show-requires : goal.show-requires
 show-requires c = is_taken _ _ _ c.check_tape.ensures c.in-Taken.is
 
 pub returns-in-Refused : goal.returns-in-Refused
-returns-in-Refused c =     span_refused _ _ _ _ _ _ _ (first_more _ (c.check_tape.ensures.refuses _ c.in-Refused.is)) _ c.no_span.ensures
+returns-in-Refused c = span_refused _ _ _ _ _ _ _ (first_more _ (c.check_tape.ensures.refuses _ c.in-Refused.is)) _ c.no_span.ensures

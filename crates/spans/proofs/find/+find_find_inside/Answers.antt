@@ -9,8 +9,8 @@ use Rattle.spans.specs.Traces.{trace_at, inside_at}
 use Rattle.spans.specs.TraceLaws.{inside_side}
 use Rattle.spans.specs.Apart.{apart}
 use Rattle.spans.specs.Seeks.{seeking_same, found_same, Runs, first_seeking, first_found, second_seeking, second_found}
-use Rattle.spans.specs.Seeks.{inside_seeking, inside_end, inside_found, own_found, leaf_bits, leaf_letters, leaf_missed, pair_runs, alt_in, found_stays}
-use Rattle.spans.specs.Seeks.{turns_start, turns_in, turns_stop, turns_round, turns_found, turns_less, turns_more}
+use Rattle.spans.specs.Seeks.{inside_seeking, inside_end, inside_found, own_found, leaf_letters, leaf_missed, pair_runs, alt_in, found_stays}
+use Rattle.spans.specs.Seeks.{turns_in, turns_stop, turns_round, turns_found, turns_less, turns_more}
 use Rattle.spans.proofs.find.+find_find_inside.Goals as goal
 use Rattle.spans.proofs.find.+find_find_inside.Goals.{find_inside-In-Sequence, find_inside-In-Alternative, find_inside-After-side_at-side, find_inside-At-loop-l}
 
@@ -101,7 +101,7 @@ find_inside-find-requires-in-Alternative t c =
     let at = goal.at.find_inside-find-requires-in-Alternative t c in
     let g = choice_in t at.In-Alternative in
     let h = side_lower c.requires.good _ c.requires.l_bound.0 _ c.node_at-part.ensures _ _ c.in-Alternative.is
-        (bit_at 8 c.args.code.now c.args.at) _ c.side_at-side.ensures in
+    (bit_at 8 c.args.code.now c.args.at) _ c.side_at-side.ensures in
     let r = seeking_same (choice_is t at.After-side_at-side g) c.requires.seeking in
     (omega (arith, c.decreases, c.requires.l_bound, h, g), (c.requires.good, (omega (arith, c.requires.l_bound, h, g), r)))
 
@@ -146,7 +146,7 @@ find_inside-returns-in_default-one t c =
 pub find_inside-loop-l-smaller : goal.find_inside-loop-l-smaller
 find_inside-loop-l-smaller t c =
     let h = turns_less (omega arith) (star_is t (goal.at.find_inside-loop-l-smaller t c).At-loop-l) c.loop-l.invariant c.stops_at.ensures
-        c.if-stops_at.false c.find-one-in-loop-l.ensures c.in-Passed-one.is in
+    c.if-stops_at.false c.find-one-in-loop-l.ensures c.in-Passed-one.is in
     omega (arith, h)
 
 pub find_inside-loop-l-preserved : goal.find_inside-loop-l-preserved
