@@ -1,6 +1,5 @@
 -- `text::digits::hex_digit` meets its contract: a digit below 10 and one from 10 on.
 use Rattle.text.specs.Digits.{hex_low, hex_high}
-use borrow.Author.Rules.{rules}
 use Rattle.text.proofs.digits.hex_digit.Goals as goal
 
 pub returns-then-d-lt10 : goal.returns-then-d-lt10

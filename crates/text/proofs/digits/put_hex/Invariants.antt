@@ -1,12 +1,8 @@
 -- `text::digits::put_hex` meets its contract. The invariant: what is left to put gives what was to be put. The measure is what is left of the bytes.
-use mathlib.Core.Path.{refl}
-use mathlib.Core.Logic.{inl}
 use Prim.Native.Nat.{◌-◌}
-use native.Mathlib.Omega.{arith}
 use lib.ListN.{length, drop}
 use Rattle.text.specs.Text.{hex}
-use Rattle.text.specs.Putting.{ToPut, put-start, put_turn, put_done, hex_turn, hex_over}
-use borrow.Author.Rules.{rules}
+use Rattle.text.specs.Putting.{ToPut}
 use Rattle.text.proofs.digits.put_hex.Given as goal
 
 abbrev pub invariant-loop-i : goal.invariant-loop-i

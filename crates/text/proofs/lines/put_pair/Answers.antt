@@ -1,6 +1,5 @@
 -- `text::lines::put_pair` meets its contract: two puts are one of the joined bytes.
 use Rattle.text.specs.Putting.{puts_then}
-use borrow.Author.Rules.{rules}
 use Rattle.text.proofs.lines.put_pair.Goals as goal
 
 pub returns : goal.returns

@@ -1,6 +1,5 @@
 -- `text::lines::put_parted` meets its contract: two puts are one of the joined bytes.
 use Rattle.text.specs.Putting.{puts_then}
-use borrow.Author.Rules.{rules}
 use Rattle.text.proofs.lines.put_parted.Goals as goal
 
 pub returns : goal.returns

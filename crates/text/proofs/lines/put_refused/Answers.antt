@@ -3,15 +3,10 @@ use mathlib.Core.Path.{refl}
 use native.Mathlib.Omega.{arith}
 use Rattle.text.specs.Putting.{refused_done}
 use Rattle.text.specs.Lengths.{refused-length}
-use borrow.Author.Rules.{rules}
 use Rattle.text.proofs.lines.put_refused.Goals as goal
 
--- LOST slice-aggregate-put-line : tie.Need-slice-aggregate-put-line
--- slice-aggregate-put-line c = search rules
--- 
-
 pub returns : goal.returns
-returns c =     (
-      refused_done _ _ _ _ _ _ _ c.put_line.ensures refl,
-      refused-length _ _ (omega (arith, c.ranges.number)) (omega (arith, c.ranges.value)),
-    )
+returns c = record {
+  puts = refused_done _ _ _ _ _ _ _ c.put_line.ensures refl;
+  value_len_bound = refused-length _ _ (omega (arith, c.ranges.number)) (omega (arith, c.ranges.value));
+}

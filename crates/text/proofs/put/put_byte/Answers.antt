@@ -1,7 +1,6 @@
 -- `text::put::put_byte` meets its contract: one law for the byte that fits and one for the one that does not.
 use native.Mathlib.Omega.{arith}
 use Rattle.text.specs.Putting.{put_in, put_full}
-use borrow.Author.Rules.{rules}
 use Rattle.text.proofs.put.put_byte.Goals as goal
 
 pub returns-then-at-out : goal.returns-then-at-out

@@ -1,21 +1,18 @@
 -- `text::put::put_bytes` meets its contract. The invariant: what is left to put gives what was to be put. The measure is what is left of the bytes.
 use mathlib.Core.Path.{refl}
 use mathlib.Core.Logic.{inl}
-use Prim.Native.Nat.{◌-◌}
 use native.Mathlib.Omega.{arith}
-use lib.ListN.{length, drop}
-use Rattle.text.specs.Putting.{ToPut, put-start, put_turn, put_done, drop_next, drop_done}
-use borrow.Author.Rules.{rules}
+use Rattle.text.specs.Putting.{put-start, put_turn, put_done, drop_next, drop_done}
 use Rattle.text.proofs.put.put_bytes.Goals as goal
 
 pub loop-i-init : goal.loop-i-init
 loop-i-init c = put-start _ _ _ _ _ _ (omega arith) c.least-end.ensures refl
 
 pub loop-i-preserved : goal.loop-i-preserved
-loop-i-preserved c =     let bytes = c.args.bytes.now in
+loop-i-preserved c = let bytes = c.args.bytes.now in
     put_turn _ _ _ _ _ _ _ _ _ _ _ _ c.loop-i.invariant (drop_next c.loop-i.i bytes c.loop-i-test.true) c.loop-i.invariant.long
     c.put_byte-end.ensures
 
 pub returns : goal.returns
-returns c =     let bytes = c.args.bytes.now in
+returns c = let bytes = c.args.bytes.now in
     put_done _ _ _ _ _ _ _ c.loop-i.invariant (inl (drop_done c.loop-i.i bytes c.loop-i-test.false))

@@ -1,11 +1,7 @@
 -- `text::put::put_bytes` meets its contract. The invariant: what is left to put gives what was to be put. The measure is what is left of the bytes.
-use mathlib.Core.Path.{refl}
-use mathlib.Core.Logic.{inl}
 use Prim.Native.Nat.{◌-◌}
-use native.Mathlib.Omega.{arith}
 use lib.ListN.{length, drop}
-use Rattle.text.specs.Putting.{ToPut, put-start, put_turn, put_done, drop_next, drop_done}
-use borrow.Author.Rules.{rules}
+use Rattle.text.specs.Putting.{ToPut}
 use Rattle.text.proofs.put.put_bytes.Given as goal
 
 abbrev pub invariant-loop-i : goal.invariant-loop-i

@@ -1,0 +1,5 @@
+-- `text::digits::put_decimal` meets its contract. The number falls with each call.
+use Rattle.text.proofs.digits.+put_decimal.Given as goal
+
+abbrev pub decreases-put_decimal : goal.decreases-put_decimal
+decreases-put_decimal l = l.n
