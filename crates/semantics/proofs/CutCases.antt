@@ -7,7 +7,7 @@ use Rattle.syntax.specs.Letter.{is_letter, in_range}
 use Rattle.syntax.specs.Table.{table}
 use Rattle.syntax.specs.Trees.{root, tree_of}
 use Rattle.syntax.specs.Subpattern.{sub_pattern}
-use Rattle.syntax.specs.SubpatternCases.{mixed, fourth}
+use Rattle.syntax.proofs.SubpatternCases.{mixed, fourth}
 use Rattle.bits.specs.Bits.{bits_of}
 use Rattle.semantics.specs.Cuts.{Cut, cut, code_cut, piece, bits_cut}
 use Rattle.semantics.specs.Decode.{value_of}

@@ -10,7 +10,7 @@ use Rattle.syntax.specs.Tree.{Tree}
 use Rattle.syntax.specs.Table.{table}
 use Rattle.syntax.specs.Trees.{root, tree_of}
 use Rattle.syntax.specs.Subpattern.{sub_pattern}
-use Rattle.syntax.specs.SubpatternCases.{mixed, fourth}
+use Rattle.syntax.proofs.SubpatternCases.{mixed, fourth}
 use Rattle.bits.specs.Bits.{bits_of}
 use Rattle.semantics.specs.Value.{Value}
 use Rattle.semantics.specs.Accounts.{accounts, litres, total}

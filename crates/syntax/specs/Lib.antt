@@ -12,5 +12,3 @@ pub mod Naming
 pub mod Names
 pub mod TableTest
 pub mod TreeLaws
-pub mod SubpatternCases
-pub mod SubpatternLaws

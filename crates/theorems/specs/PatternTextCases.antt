@@ -4,7 +4,7 @@ use Rattle.syntax.specs.declared.Node.TheVariants.{Sequence}
 use Rattle.syntax.specs.Table.{table}
 use Rattle.syntax.specs.Trees.{tree_of}
 use Rattle.syntax.specs.Subpattern.{sub_lines}
-use Rattle.syntax.specs.SubpatternCases.{line, letter_line, mixed, fourth}
+use Rattle.syntax.proofs.SubpatternCases.{line, letter_line, mixed, fourth}
 use Rattle.text.specs.Text.{digits, decimal}
 use Rattle.theorems.specs.PatternText.{text_of}
 

@@ -8,7 +8,7 @@ use Rattle.syntax.specs.Letter.{first_bad, letter_limit}
 use Rattle.syntax.specs.Table.{obeys}
 use Rattle.syntax.specs.Trees.{root}
 use Rattle.syntax.specs.Subpattern.{sub_pattern}
-use Rattle.syntax.specs.SubpatternCases.{fourth}
+use Rattle.syntax.proofs.SubpatternCases.{fourth}
 use Rattle.bits.specs.Bits.{pack}
 use Rattle.bits.specs.Handed.{held-pack}
 use Rattle.semantics.specs.Value.{Value}

@@ -1,0 +1,2 @@
+pub mod SubpatternCases
+pub mod SubpatternLaws
