@@ -4,5 +4,5 @@ use borrow.Author.Rules.{rules}
 use Rattle.table.proofs.cell_of.Goals as goal
 
 pub returns : goal.returns
-returns c =     let e = c.pack.ensures in
+returns c = let e = c.pack.ensures in
     cell-packed c.args.line c.row_of-row.result _ c.row_of-row.ensures e.0 e.1 e.2 e.3

@@ -10,7 +10,7 @@ pub loop-i-init : goal.loop-i-init
 loop-i-init c = rw c.requires.1 (filled-start _)
 
 pub loop-i-preserved : goal.loop-i-preserved
-loop-i-preserved c =     filled_next _ _ _ c.loop-i.invariant c.loop-i-test.true
+loop-i-preserved c = filled_next _ _ _ c.loop-i.invariant c.loop-i-test.true
     c.requires.0 _ c.cell_of-cell.ensures
 
 pub shape_of-table : goal.shape_of-table

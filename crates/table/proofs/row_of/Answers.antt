@@ -11,4 +11,4 @@ pub returns-in-Alternative : goal.returns-in-Alternative
 returns-in-Alternative c = rw c.in-Alternative.is c.row-in-Alternative.ensures
 
 pub returns-in-Star : goal.returns-in-Star
-returns-in-Star c =     rw c.in-Star.is (c.row-in-Star.ensures ∙ ap (λ k. row k c.in-Star.p 0) c.star_kind.ensures)
+returns-in-Star c = rw c.in-Star.is (c.row-in-Star.ensures ∙ ap (λ k. row k c.in-Star.p 0) c.star_kind.ensures)

@@ -4,8 +4,8 @@ use borrow.Author.Rules.{rules}
 use Rattle.table.proofs.table_of.Goals as goal
 
 pub put_followers-requires : goal.put_followers-requires
-put_followers-requires c =     let lines = put-filled _ _ _ _ _ _ c.put_lines.ensures c.put_follower.ensures in
+put_followers-requires c = let lines = put-filled _ _ _ _ _ _ c.put_lines.ensures c.put_follower.ensures in
     (filled_rooted _ c.requires _ lines, lines.long, c.put_follower.ensures.stores.here)
 
 pub returns : goal.returns
-returns c =     followed_holds _ c.requires _ (put-filled _ _ _ _ _ _ c.put_lines.ensures c.put_follower.ensures) _ c.put_followers.ensures
+returns c = followed_holds _ c.requires _ (put-filled _ _ _ _ _ _ c.put_lines.ensures c.put_follower.ensures) _ c.put_followers.ensures
