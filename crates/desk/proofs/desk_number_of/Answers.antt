@@ -1,7 +1,6 @@
 -- `desk::desk_number_of` meets its contract: each cause has its number.
 use mathlib.Core.Path.{sym, ap, ◌∙◌}
 use Rattle.desk.specs.Desks.{desk_number}
-use borrow.Author.Rules.{rules}
 use Rattle.desk.proofs.desk_number_of.Goals as goal
 
 pub returns-in-Base : goal.returns-in-Base

@@ -1,11 +1,10 @@
 -- `packing::give_totals` meets its contract.
 use mathlib.Core.Path.{refl, sym, ◌∙◌}
 use Rattle.packing.specs.CellsLaws.{gives_none, gives_all}
-use borrow.Author.Rules.{rules}
 use Rattle.packing.proofs.give_totals.Goals as goal
 
 pub returns-then-litres_beyond : goal.returns-then-litres_beyond
-returns-then-litres_beyond c =     gives_none _ _ _ _ _ (sym c.if-litres_beyond.true ∙ c.litres_beyond.ensures) c.put_totals.ensures c.packed.ensures
+returns-then-litres_beyond c = gives_none _ _ _ _ _ (sym c.if-litres_beyond.true ∙ c.litres_beyond.ensures) c.put_totals.ensures c.packed.ensures
 
 pub returns : goal.returns
-returns c =     gives_all _ _ _ _ _ (sym c.if-litres_beyond.false ∙ c.litres_beyond.ensures) c.put_totals-2.ensures refl
+returns c = gives_all _ _ _ _ _ (sym c.if-litres_beyond.false ∙ c.litres_beyond.ensures) c.put_totals-2.ensures refl

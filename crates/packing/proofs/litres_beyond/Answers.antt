@@ -1,10 +1,6 @@
 -- `packing::litres_beyond` meets its contract: at each turn the accounts that are left have litres exactly if those without a cell have.
-use mathlib.Core.Path.{◌≡◌, refl}
-use Prim.Native.Nat.{◌-◌}
-use lib.ListN.{length}
-use Rattle.packing.specs.Cells.{beyond}
+use mathlib.Core.Path.{refl}
 use Rattle.packing.specs.CellsLaws.{litres_found, litres_next, litres_none}
-use borrow.Author.Rules.{rules}
 use Rattle.packing.proofs.litres_beyond.Goals as goal
 
 pub loop-account-init : goal.loop-account-init

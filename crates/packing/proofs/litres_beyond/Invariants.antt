@@ -1,10 +1,8 @@
 -- `packing::litres_beyond` meets its contract: at each turn the accounts that are left have litres exactly if those without a cell have.
-use mathlib.Core.Path.{◌≡◌, refl}
+use mathlib.Core.Path.{◌≡◌}
 use Prim.Native.Nat.{◌-◌}
 use lib.ListN.{length}
 use Rattle.packing.specs.Cells.{beyond}
-use Rattle.packing.specs.CellsLaws.{litres_found, litres_next, litres_none}
-use borrow.Author.Rules.{rules}
 use Rattle.packing.proofs.litres_beyond.Given as goal
 
 abbrev pub invariant-loop-account : goal.invariant-loop-account

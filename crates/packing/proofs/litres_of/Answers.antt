@@ -1,7 +1,6 @@
 -- `packing::litres_of` meets its contract.
 use mathlib.Core.Path.{sym}
 use lib.ListN.{get_or-eq_default}
-use borrow.Author.Rules.{rules}
 use Rattle.packing.proofs.litres_of.Goals as goal
 
 pub returns-then-litres-i : goal.returns-then-litres-i

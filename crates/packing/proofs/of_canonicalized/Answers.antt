@@ -2,13 +2,12 @@
 use mathlib.Core.Path.{sym, ap, ap₂, ◌∙◌}
 use Rattle.refusals.specs.Refusals.{answer}
 use Rattle.canonical.specs.Canonicalize.{canonicalized_answer}
-use borrow.Author.Rules.{rules}
 use Rattle.packing.proofs.of_canonicalized.Goals as goal
 
 pub returns-in-Bits : goal.returns-in-Bits
 returns-in-Bits c = c.packed.ensures ∙ sym (ap canonicalized_answer c.in-Bits.is)
 
 pub returns-in-Refused : goal.returns-in-Refused
-returns-in-Refused c =     c.packed-in-Refused.ensures
+returns-in-Refused c = c.packed-in-Refused.ensures
     ∙ ap₂ (λ n v. answer n v) c.number_of.ensures c.value_of.ensures
     ∙ sym (ap canonicalized_answer c.in-Refused.is)

@@ -2,13 +2,12 @@
 use mathlib.Core.Path.{sym, ap, ap₂, ◌∙◌}
 use Rattle.refusals.specs.Refusals.{answer}
 use Rattle.loading.specs.Load.{outcome_answer}
-use borrow.Author.Rules.{rules}
 use Rattle.packing.proofs.of_outcome.Goals as goal
 
 pub returns-in-Lines : goal.returns-in-Lines
 returns-in-Lines c = c.packed.ensures ∙ sym (ap outcome_answer c.in-Lines.is)
 
 pub returns-in-Refused : goal.returns-in-Refused
-returns-in-Refused c =     c.packed-in-Refused.ensures
+returns-in-Refused c = c.packed-in-Refused.ensures
     ∙ ap₂ (λ n v. answer n v) c.number_of.ensures c.value_of.ensures
     ∙ sym (ap outcome_answer c.in-Refused.is)

@@ -3,14 +3,13 @@ use mathlib.Core.Path.{◌≡◌, sym, ap, ap₂, ◌∙◌}
 use Rattle.refusals.specs.Refusals.{answer}
 use Rattle.terms.specs.Terms.{term_outcome}
 use Rattle.packing.specs.Packing.{unpacked}
-use borrow.Author.Rules.{rules}
 use Rattle.packing.proofs.of_term_totals.Goals as goal
 
 pub returns-in-Added : goal.returns-in-Added
-returns-in-Added c =     let said : unpacked c.packed.result ≡ answer 0 0 = c.packed.ensures in
+returns-in-Added c = let said : unpacked c.packed.result ≡ answer 0 0 = c.packed.ensures in
     said ∙ sym (ap term_outcome c.in-Added.is)
 
 pub returns-in-Refused : goal.returns-in-Refused
-returns-in-Refused c =     c.packed-in-Refused.ensures
+returns-in-Refused c = c.packed-in-Refused.ensures
     ∙ ap₂ (λ n v. answer n v) c.term_number_of.ensures c.term_value_of.ensures
     ∙ sym (ap term_outcome c.in-Refused.is)

@@ -2,13 +2,12 @@
 use mathlib.Core.Path.{sym, ap, ap₂, ◌∙◌}
 use Rattle.refusals.specs.Refusals.{answer}
 use Rattle.totals.specs.Totals.{totals_outcome}
-use borrow.Author.Rules.{rules}
 use Rattle.packing.proofs.of_totals.Goals as goal
 
 pub returns-in-Added : goal.returns-in-Added
 returns-in-Added c = c.packed.ensures ∙ sym (ap totals_outcome c.in-Added.is)
 
 pub returns-in-Refused : goal.returns-in-Refused
-returns-in-Refused c =     c.packed-in-Refused.ensures
+returns-in-Refused c = c.packed-in-Refused.ensures
     ∙ ap₂ (λ n v. answer n v) c.number_of.ensures c.value_of.ensures
     ∙ sym (ap totals_outcome c.in-Refused.is)

@@ -1,7 +1,6 @@
 -- `packing::packed` meets its contract.
 use Rattle.packing.specs.PackingLaws.{unpack}
 use native.Mathlib.Omega.{arith}
-use borrow.Author.Rules.{rules}
 use Rattle.packing.proofs.packed.Goals as goal
 
 pub returns : goal.returns

@@ -1,7 +1,5 @@
 -- `packing::put_totals` meets its contract: at each turn as many totals are laid as turns were made.
-use Prim.Native.Nat.{◌-◌}
-use Rattle.packing.specs.Laying.{Laid, laid_none, laid_one, laid_all}
-use borrow.Author.Rules.{rules}
+use Rattle.packing.specs.Laying.{laid_none, laid_one, laid_all}
 use Rattle.packing.proofs.put_totals.Goals as goal
 
 pub loop-i-init : goal.loop-i-init

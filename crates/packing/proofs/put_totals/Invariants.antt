@@ -1,7 +1,6 @@
 -- `packing::put_totals` meets its contract: at each turn as many totals are laid as turns were made.
 use Prim.Native.Nat.{◌-◌}
-use Rattle.packing.specs.Laying.{Laid, laid_none, laid_one, laid_all}
-use borrow.Author.Rules.{rules}
+use Rattle.packing.specs.Laying.{Laid}
 use Rattle.packing.proofs.put_totals.Given as goal
 
 abbrev pub invariant-loop-i : goal.invariant-loop-i

@@ -1,20 +1,20 @@
 -- `desk::calls::open_desk` meets its contract.
-use mathlib.Core.Path.{ap}
+use Rattle.std.specs.Prelude.{length}
+use Rattle.desk.specs.Desks.{open_order}
 use Rattle.desk.specs.DeskWays.{open_refused, open_clear}
 use Rattle.desk.specs.Checking.{not_taken, when_taken}
-use borrow.Author.Rules.{rules}
 use Rattle.desk.proofs.calls.open_desk.Goals as goal
 
 pub empty-requires : goal.empty-requires
-empty-requires c = when_taken _ _ c.check_open-checked.ensures c.in-Taken.is
+empty-requires c = when_taken (open_order c.args.p (length c.args.words.now)) _ c.check_open-checked.ensures c.in-Taken.is
 
 pub returns-in-Taken : goal.returns-in-Taken
-returns-in-Taken c =     rw c.empty.ensures.0
+returns-in-Taken c = rw c.empty.ensures.0
     (open_clear c.args.p c.args.desk c.args.words.now
-    (when_taken _ _ c.check_open-checked.ensures c.in-Taken.is)
+    (when_taken (open_order c.args.p (length c.args.words.now)) _ c.check_open-checked.ensures c.in-Taken.is)
     _ c.empty.ensures.1)
 
 pub returns-in-Refused : goal.returns-in-Refused
-returns-in-Refused c =     rw c.unchanged.ensures
+returns-in-Refused c = rw c.unchanged.ensures
     (open_refused c.args.p c.args.desk c.args.words.now _
     (not_taken _ _ c.check_open-checked.ensures _ c.in-Refused.is))

@@ -1,16 +1,15 @@
 -- `desk::calls::put_page` meets its contract.
 use Rattle.desk.specs.DeskWays.{put_why, put-held}
-use borrow.Author.Rules.{rules}
 use Rattle.desk.proofs.calls.put_page.Goals as goal
 
 pub put_on-requires : goal.put_on-requires
-put_on-requires c =     put-held c.args.p c.args.desk c.args.page.now c.args.letters.now c.args.words.now _
+put_on-requires c = put-held c.args.p c.args.desk c.args.page.now c.args.letters.now c.args.words.now _
     c.check_put-checked.ensures _ c.in-Held.is
 
 pub returns-in-Refused : goal.returns-in-Refused
-returns-in-Refused c =     rw c.unchanged.ensures
+returns-in-Refused c = rw c.unchanged.ensures
     (put_why c.args.p c.args.desk c.args.page.now c.args.letters.now c.args.words.now
     _ c.check_put-checked.ensures _ c.in-Refused.is)
 
 pub returns-in-Held : goal.returns-in-Held
-returns-in-Held c =     c.put_on.ensures
+returns-in-Held c = c.put_on.ensures

@@ -1,18 +1,17 @@
 -- `desk::calls::withdraw_page` meets its contract.
 use Rattle.desk.specs.DeskWays.{withdraw_why, withdraw_held, takeable, withdraw_done}
-use borrow.Author.Rules.{rules}
 use Rattle.desk.proofs.calls.withdraw_page.Goals as goal
 
 pub take_page-requires : goal.take_page-requires
-take_page-requires c =     takeable c.args.p c.args.desk c.args.letters.now _ c.check_withdraw-checked.ensures _
+take_page-requires c = takeable c.args.p c.args.desk c.args.letters.now _ c.check_withdraw-checked.ensures _
     c.in-Held.is
 
 pub returns-in-Refused : goal.returns-in-Refused
-returns-in-Refused c =     rw c.unchanged.ensures
+returns-in-Refused c = rw c.unchanged.ensures
     (withdraw_why c.args.p c.args.desk c.args.letters.now _ c.check_withdraw-checked.ensures
     _ c.in-Refused.is)
 
 pub returns-in-Held : goal.returns-in-Held
-returns-in-Held c =     withdraw_done c.args.p c.args.desk c.args.letters.now
+returns-in-Held c = withdraw_done c.args.p c.args.desk c.args.letters.now
     (withdraw_held c.args.p c.args.desk c.args.letters.now _ c.check_withdraw-checked.ensures
     _ c.in-Held.is).0 _ c.take_page.ensures

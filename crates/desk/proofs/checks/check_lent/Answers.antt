@@ -2,7 +2,6 @@
 use mathlib.Core.Path.{sym, ◌∙◌}
 use borrow.Author.Tests.{not-true, not-false}
 use Rattle.desk.specs.Checking.{lent_2, lent_9, lent_taken}
-use borrow.Author.Rules.{rules}
 use Rattle.desk.proofs.checks.check_lent.Goals as goal
 
 pub returns-then-not-obeys_rules : goal.returns-then-not-obeys_rules

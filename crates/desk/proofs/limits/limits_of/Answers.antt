@@ -11,8 +11,5 @@ returns-then-count-gt-MAX_PAGES c = count_over _ c.args.lengths.now c.if-count-g
 pub slice_bounds-sum_pages-end : goal.slice_bounds-sum_pages-end
 slice_bounds-sum_pages-end c = sym (length-take-le _ _ (omega arith))
 
-pub sum_pages-requires : goal.sum_pages-requires
-sum_pages-requires c = omega (arith, slice-aggregate-sum-pages (goal.at.sum_pages-requires c).Else-count-gt-MAX_PAGES)
-
 pub returns : goal.returns
 returns c = limits_summed _ _ (omega arith) _ c.sum_pages.ensures

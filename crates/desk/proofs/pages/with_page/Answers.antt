@@ -1,6 +1,5 @@
 -- `desk::pages::with_page` meets its contract.
 use Rattle.desk.specs.Pages.{with_page-made}
-use borrow.Author.Rules.{rules}
 use Rattle.desk.proofs.pages.with_page.Goals as goal
 
 pub returns : goal.returns

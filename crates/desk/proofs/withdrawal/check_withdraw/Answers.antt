@@ -3,16 +3,16 @@ use lib.ListN.{length}
 use Rattle.refusals.specs.CheckLaws.{first_more}
 use Rattle.desk.specs.Desks.{held, lent_order, held_order}
 use Rattle.desk.specs.Checking.{not_taken, when_taken, lent_cells, checks_behind}
-use borrow.Author.Rules.{rules}
 use Rattle.desk.proofs.withdrawal.check_withdraw.Goals as goal
 
 pub check_held-requires : goal.check_held-requires
-check_held-requires c =     lent_cells c.args.p _ (when_taken _ _ c.check_lent-lent.ensures c.in-Taken.is)
+check_held-requires c = lent_cells c.args.p _ (when_taken (lent_order c.args.p (length c.args.letters.now)) _ c.check_lent-lent.ensures c.in-Taken.is)
 
 pub returns-in-Taken : goal.returns-in-Taken
-returns-in-Taken c =     checks_behind (lent_order c.args.p (length c.args.letters.now)) (held_order c.args.desk c.args.letters.now)
+returns-in-Taken c = checks_behind (lent_order c.args.p (length c.args.letters.now)) (held_order c.args.desk c.args.letters.now)
     (held c.args.desk) c.check_held.result
-    (when_taken _ _ c.check_lent-lent.ensures c.in-Taken.is) c.check_held.ensures
+    (when_taken (lent_order c.args.p (length c.args.letters.now)) _ c.check_lent-lent.ensures c.in-Taken.is) c.check_held.ensures
 
 pub returns-in-Refused : goal.returns-in-Refused
-returns-in-Refused c = first_more _ (not_taken _ _ c.check_lent-lent.ensures _ c.in-Refused.is)
+returns-in-Refused c = first_more {cs = lent_order c.args.p (length c.args.letters.now)}
+    (held_order c.args.desk c.args.letters.now) (not_taken (lent_order c.args.p (length c.args.letters.now)) _ c.check_lent-lent.ensures _ c.in-Refused.is)

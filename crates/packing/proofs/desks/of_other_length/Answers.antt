@@ -1,18 +1,18 @@
 -- `packing::desks::of_other_length` meets its contract.
 use mathlib.Core.Path.{◌≡◌, ap₂, ◌∙◌}
 use Rattle.refusals.specs.Refusals.{answer}
+use Rattle.desk.specs.Desks.{open_order}
 use Rattle.desk.specs.Checking.{not_taken, when_taken}
 use Rattle.packing.specs.Packing.{unpacked}
 use Rattle.packing.specs.DeskBytesLaws.{other_first, other_13}
-use borrow.Author.Rules.{rules}
 use Rattle.packing.proofs.desks.of_other_length.Goals as goal
 
 pub returns-in-Taken : goal.returns-in-Taken
-returns-in-Taken c =     let said : unpacked c.packed.result ≡ answer 13 0 = c.packed.ensures in
+returns-in-Taken c = let said : unpacked c.packed.result ≡ answer 13 0 = c.packed.ensures in
     said
-    ∙ other_13 c.args.p c.args.words (when_taken _ _ c.check_open-checked.ensures c.in-Taken.is)
+    ∙ other_13 c.args.p c.args.words (when_taken (open_order c.args.p c.args.words) _ c.check_open-checked.ensures c.in-Taken.is)
 
 pub returns-in-Refused : goal.returns-in-Refused
-returns-in-Refused c =     c.packed-in-Refused.ensures
+returns-in-Refused c = c.packed-in-Refused.ensures
     ∙ ap₂ (λ n v. answer n v) c.desk_number_of.ensures c.desk_value_of.ensures
     ∙ other_first c.args.p c.args.words _ (not_taken _ _ c.check_open-checked.ensures _ c.in-Refused.is)
