@@ -1,22 +1,11 @@
-/* What the program tapelist takes from the toolchain's C part beside the C library's own calls: errno, the words that it was started with, and
- * memory. The declarations are those of the toolchain's libraries os and libc. */
+/* What the program tapelist takes from the toolchain's C part beside the C library's own calls: errno, and the words that it was started with.
+ * The declarations are those of the toolchain's library os. */
 #include <errno.h>
-#include <stdbool.h>
 #include <stddef.h>
-#include <stdlib.h>
-
-/* Whether there is memory, and where. Where there is none, the pointer is of a byte that nobody uses. */
-struct tried {
-    bool ok;
-    void *memory;
-};
 
 int rattle_errno(void);
 void rattle_set_errno(int error);
 ptrdiff_t rattle_arg(size_t place, unsigned char *buffer, size_t size);
-struct tried rattle_alloc(size_t size, size_t align);
-struct tried rattle_realloc(void *memory, size_t kept, size_t size, size_t align);
-void rattle_dealloc(void *memory);
 
 int rattle_errno(void) {
     return errno;
@@ -49,26 +38,4 @@ ptrdiff_t rattle_arg(size_t place, unsigned char *buffer, size_t size) {
         buffer[i] = (unsigned char)words[place][i];
     }
     return (ptrdiff_t)i;
-}
-
-static char nothing;
-
-static struct tried as_tried(void *memory) {
-    struct tried made = {memory != NULL, memory != NULL ? memory : &nothing};
-
-    return made;
-}
-
-/* A block of no bytes has one of its alignment, which is at most 16, as malloc gives it. */
-struct tried rattle_alloc(size_t size, size_t align) {
-    return as_tried(malloc(size != 0 ? size : align));
-}
-
-struct tried rattle_realloc(void *memory, size_t kept, size_t size, size_t align) {
-    (void)kept;
-    return as_tried(realloc(memory, size != 0 ? size : align));
-}
-
-void rattle_dealloc(void *memory) {
-    free(memory);
 }
