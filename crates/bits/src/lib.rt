@@ -90,6 +90,7 @@ pub fn bytes_for(count: u32) -> usize
 }
 
 // Whether bytes and a bit count can be a code at all: exactly enough bytes, at most 65,536, and the unused bits 0.
+#[tactic(auto, using(binary::specs::Handed::handed_over))]
 pub fn handed_good(code: &[u8], count: u32) -> bool
     ensures { result ≡ handed_good code.now count }
 {

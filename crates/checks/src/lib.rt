@@ -13,6 +13,7 @@ pub enum TapeCheck {
     Refused(Refusal),
 }
 
+#[tactic(auto, using(crate::specs::TapeLaws::check_3))]
 pub fn check_tape(p: Pattern, tape: &[u8]) -> TapeCheck
     ensures { ChecksTape p tape.now result }
 {

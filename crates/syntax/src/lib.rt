@@ -128,6 +128,7 @@ pub fn first_bad(tape: &[u8]) -> usize
 }
 
 // Whether a table obeys the pattern rules. Nothing at or past its count is looked at.
+#[tactic(auto, using(crate::specs::TableTest::big_count))]
 pub fn obeys_rules(p: Pattern) -> bool
     ensures { result ≡ obeys p }
 {

@@ -27,6 +27,7 @@ fn good_leaf(leaf: Leaf) -> bool
     }
 }
 
+#[tactic(auto, unfolding(crate::specs::Table::line_good))]
 fn good_line(line: Line) -> bool
     ensures { result ≡ line_good line }
 {

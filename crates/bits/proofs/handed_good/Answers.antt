@@ -5,12 +5,9 @@ use Prim.Native.Nat.{◌/◌, ◌%◌}
 use lib.Dec.{eqb}
 use lib.ListN.{get_or}
 use Rattle.binary.specs.Bits.{high_bits}
-use Rattle.binary.specs.Handed.{handed_over, handed-within, exact_wrong, exact-whole, exact_begun}
+use Rattle.binary.specs.Handed.{handed-within, exact_wrong, exact-whole, exact_begun}
 use borrow.Author.Rules.{rules}
 use Rattle.bits.proofs.handed_good.Goals as goal
-
-pub returns-then-n-gt-MAX_CODE_BYTES : goal.returns-then-n-gt-MAX_CODE_BYTES
-returns-then-n-gt-MAX_CODE_BYTES c = sym (handed_over c.args.code.now c.args.count (omega arith))
 
 pub returns-then-n-bytes_for : goal.returns-then-n-bytes_for
 returns-then-n-bytes_for c = let xs = c.args.code.now in

@@ -2,23 +2,20 @@
 use mathlib.Core.Path.{sym, ◌∙◌}
 use native.Mathlib.Omega.{arith}
 use borrow.Author.Tests.{not-true, not-false}
-use Rattle.checks.specs.TapeLaws.{check_2, check_3, check_4, check_taken}
+use Rattle.checks.specs.TapeLaws.{check_2, check_4, check_taken}
 use borrow.Author.Rules.{rules}
 use Rattle.checks.proofs.check_tape.Goals as goal
 
 pub returns-then-not-obeys_rules : goal.returns-then-not-obeys_rules
 returns-then-not-obeys_rules c = check_2 _ _ (sym c.obeys_rules.ensures ∙ not-true _ c.if-not-obeys_rules.true-raw)
 
-pub returns-then-n-gt-MAX_LETTERS : goal.returns-then-n-gt-MAX_LETTERS
-returns-then-n-gt-MAX_LETTERS c =     check_3 _ _ (sym c.obeys_rules.ensures ∙ not-false _ c.if-not-obeys_rules.false-raw) c.if-n-gt-MAX_LETTERS.true
-
 pub returns-then-bad-n : goal.returns-then-bad-n
-returns-then-bad-n c =     let good = sym c.obeys_rules.ensures ∙ not-false _ c.if-not-obeys_rules.false-raw in
-    check_4 _ _ good c.if-n-gt-MAX_LETTERS.false _ c.first_bad-bad.ensures c.if-bad-n.true
+returns-then-bad-n c = let good = sym c.obeys_rules.ensures ∙ not-false _ c.if-not-obeys_rules.false-raw in
+    check_4 _ _ good (omega arith) _ c.first_bad-bad.ensures c.if-bad-n.true
 
 pub returns : goal.returns
-returns c =     check_taken _ _ (record {
-      good = sym c.obeys_rules.ensures ∙ not-false _ c.if-not-obeys_rules.false-raw;
-      few = c.if-n-gt-MAX_LETTERS.false;
-      letters = omega (arith, c.first_bad-bad.ensures, c.if-bad-n.false);
-    })
+returns c = check_taken _ _ (record {
+  good = sym c.obeys_rules.ensures ∙ not-false _ c.if-not-obeys_rules.false-raw;
+  few = omega arith;
+  letters = omega (arith, c.first_bad-bad.ensures, c.if-bad-n.false);
+})

@@ -1,6 +1,7 @@
 -- `syntax::obeys_rules` meets its contract.
-use Rattle.syntax.specs.TableTest.{no_count, big_count, bad-lines, bad-tree, good-table, fault_found, fault_none}
+use Rattle.syntax.specs.TableTest.{no_count, bad-lines, bad-tree, good-table, fault_found, fault_none}
 use borrow.Author.Tests.{not-true, not-false}
+use native.Mathlib.Omega.{arith}
 use mathlib.Core.Path.{sym, ◌∙◌}
 use borrow.Author.Rules.{rules}
 use Rattle.syntax.proofs.obeys_rules.Goals as goal
@@ -8,19 +9,16 @@ use Rattle.syntax.proofs.obeys_rules.Goals as goal
 pub returns-then-count-lt1 : goal.returns-then-count-lt1
 returns-then-count-lt1 c = no_count _ c.if-count-lt1.true
 
-pub returns-then-count-gt-MAX_LINES : goal.returns-then-count-gt-MAX_LINES
-returns-then-count-gt-MAX_LINES c = big_count _ c.if-count-lt1.false c.if-count-gt-MAX_LINES.true
-
 pub returns-then-not-good_lines : goal.returns-then-not-good_lines
-returns-then-not-good_lines c = bad-lines _ c.if-count-lt1.false c.if-count-gt-MAX_LINES.false
+returns-then-not-good_lines c = bad-lines _ c.if-count-lt1.false (omega arith)
     (sym c.good_lines.ensures ∙ not-true _ c.if-not-good_lines.true-raw)
 
 pub returns-in-Line : goal.returns-in-Line
-returns-in-Line c = bad-tree _ c.if-count-lt1.false c.if-count-gt-MAX_LINES.false
+returns-in-Line c = bad-tree _ c.if-count-lt1.false (omega arith)
     (sym c.good_lines.ensures ∙ not-false _ c.if-not-good_lines.false-raw) _
     (fault_found _ _ _ c.tree_fault_of.ensures c.in-Line.is)
 
 pub returns-in-Nothing : goal.returns-in-Nothing
-returns-in-Nothing c = good-table _ c.if-count-lt1.false c.if-count-gt-MAX_LINES.false
+returns-in-Nothing c = good-table _ c.if-count-lt1.false (omega arith)
     (sym c.good_lines.ensures ∙ not-false _ c.if-not-good_lines.false-raw)
     (fault_none _ _ c.tree_fault_of.ensures c.in-Nothing.is)
