@@ -5,12 +5,7 @@ pub mod Limits
 pub mod Pages
 pub mod Moves
 pub mod Checking
-pub mod DeskWays
 pub mod Decided
 pub mod Unique
-pub mod Orders
-pub mod WordLaws
-pub mod Untouched
 pub mod Stacks
 pub mod StackPages
-pub mod StackLaws

@@ -15,10 +15,10 @@ use Rattle.first_sweep.specs.RightWords.{RightWords, right_one}
 use Rattle.desk.specs.Desks.{held, letters_held, good_page, desk_good, page_letters, DeskTest, put_order, desk_answer, Puts}
 use Rattle.desk.specs.Numbers.{desk_number_positive}
 use Rattle.desk.specs.Checking.{put_upto, put_cells}
-use Rattle.desk.specs.DeskWays.{put-rules}
+use Rattle.desk.proofs.DeskWays.{put-rules}
 use Rattle.desk.specs.Moves.{held-length}
-use Rattle.desk.specs.Orders.{Answered, put_answered}
-use Rattle.desk.specs.WordLaws.{put-before}
+use Rattle.desk.proofs.Orders.{Answered, put_answered}
+use Rattle.desk.proofs.WordLaws.{put-before}
 use Rattle.reach.specs.FrontWords.{has_any}
 use Rattle.reach.specs.StateEnds.{state_ends_iff}
 use Rattle.loading.specs.Load.{load_table}

@@ -12,9 +12,9 @@ use Rattle.desk.specs.declared.DeskRefusal.TheVariants.{DeskLimits}
 use Rattle.desk.specs.declared.DeskAnswer.{DeskAnswer}
 use Rattle.desk.specs.Desks.{letters_held, empty_desk, desk_refused, desk_answer, DeskTest, open_order}
 use Rattle.desk.specs.Numbers.{desk_number_positive}
-use Rattle.desk.specs.DeskWays.{open_clear}
+use Rattle.desk.proofs.DeskWays.{open_clear}
 use Rattle.desk.specs.Stacks.{joined, Call, opening, putting, withdrawing, stack_answers, stack_behind, Does, Run, rest, next}
-use Rattle.desk.specs.StackLaws.{desk_is_a_stack}
+use Rattle.desk.proofs.StackLaws.{desk_is_a_stack}
 use Rattle.packing.specs.Packing.{unpacked}
 use Rattle.packing.specs.DeskBytes.{desk_bytes, desk_of_bytes, bytes_of_desk}
 use Rattle.packing.specs.DeskBytesLaws.{desk_back}

@@ -15,7 +15,7 @@ use Rattle.desk.specs.declared.DeskAnswer.{DeskAnswer}
 use Rattle.desk.specs.declared.DeskAnswer.TheVariants.{Letters, Refused}
 use Rattle.desk.specs.Desks.{page_limit, letters_held, empty_desk, with_page, without_page, desk_refused, desk_answer, if_accepted, DeskTest}
 use Rattle.desk.specs.Desks.{open_order, open_answer, Opens, Puts, Withdraws}
-use Rattle.desk.specs.WordLaws.{put_right, withdraw_right}
+use Rattle.desk.proofs.WordLaws.{put_right, withdraw_right}
 use Rattle.packing.specs.Packing.{unpacked}
 use Rattle.packing.specs.DeskBytes.{desk_bytes, desk_of_bytes, bytes_of_desk}
 use Rattle.packing.specs.DeskBytesLaws.{bytes_back, desk_back, again}

@@ -1,7 +1,7 @@
 -- `desk::calls::open_desk` meets its contract.
 use Rattle.std.specs.Prelude.{length}
 use Rattle.desk.specs.Desks.{open_order}
-use Rattle.desk.specs.DeskWays.{open_refused, open_clear}
+use Rattle.desk.proofs.DeskWays.{open_refused, open_clear}
 use Rattle.desk.specs.Checking.{not_taken, when_taken}
 use Rattle.desk.proofs.calls.open_desk.Goals as goal
 

@@ -1,7 +1,7 @@
 -- `desk::calls::put_on` meets its contract.
 use native.Mathlib.Omega.{arith}
 use Rattle.desk.specs.Checking.{put-room, put-page_upto}
-use Rattle.desk.specs.DeskWays.{put-rules, behind_upto, put_growable, put-made}
+use Rattle.desk.proofs.DeskWays.{put-rules, behind_upto, put_growable, put-made}
 use Rattle.desk.proofs.calls.put_on.Goals as goal
 
 pub overflow_add-total : goal.overflow_add-total

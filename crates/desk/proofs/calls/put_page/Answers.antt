@@ -1,5 +1,5 @@
 -- `desk::calls::put_page` meets its contract.
-use Rattle.desk.specs.DeskWays.{put_why, put-held}
+use Rattle.desk.proofs.DeskWays.{put_why, put-held}
 use Rattle.desk.proofs.calls.put_page.Goals as goal
 
 pub put_on-requires : goal.put_on-requires

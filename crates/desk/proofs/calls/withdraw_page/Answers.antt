@@ -1,5 +1,5 @@
 -- `desk::calls::withdraw_page` meets its contract.
-use Rattle.desk.specs.DeskWays.{withdraw_why, withdraw_held, takeable, withdraw_done}
+use Rattle.desk.proofs.DeskWays.{withdraw_why, withdraw_held, takeable, withdraw_done}
 use Rattle.desk.proofs.calls.withdraw_page.Goals as goal
 
 pub take_page-requires : goal.take_page-requires

@@ -10,7 +10,7 @@ use Rattle.desk.specs.declared.DeskAnswer.{DeskAnswer}
 use Rattle.desk.specs.Desks.{held, put_order, Puts}
 use Rattle.desk.specs.Checking.{put_upto}
 use Rattle.desk.specs.Moves.{sets-before, sets_behind}
-use Rattle.desk.specs.Orders.{Answered, put_answered, was_put, put_only}
+use Rattle.desk.proofs.Orders.{Answered, put_answered, was_put, put_only}
 
 -- outside of the stretch that is stored
 outside : (vs l : List ℕ) (at end i : ℕ) → at + length vs ≡ end → (i < at) ⊎ (end ≤ i) → get_or (sets l at vs) i 0 ≡ get_or l i 0

@@ -11,9 +11,9 @@ use Rattle.desk.specs.declared.Desk.{Desk}
 use Rattle.desk.specs.declared.DeskAnswer.{DeskAnswer}
 use Rattle.desk.specs.Desks.{page_limit, held, letters_held, without_page, open_order, put_order, withdraw_order, Opens, Puts, Withdraws}
 use Rattle.desk.specs.Checking.{put-room, put_upto, put_cells, withdraw_few, withdraw_cells}
-use Rattle.desk.specs.DeskWays.{put-rules, put_words-room}
+use Rattle.desk.proofs.DeskWays.{put-rules, put_words-room}
 use Rattle.desk.specs.Moves.{none_held, held-length, put-letters, less-letters}
-use Rattle.desk.specs.Orders.{Answered, opened, put_answered, was_put, put_only, withdraw_answered, was_withdrawn, withdraw_only}
+use Rattle.desk.proofs.Orders.{Answered, opened, put_answered, was_put, put_only, withdraw_answered, was_withdrawn, withdraw_only}
 
 -- an accepted opening, whatever the words were
 pub open_right : (p : Pattern) (d e : Desk) (words now letters : List ℕ) (r : DeskAnswer) → Opens p d e words now r → Clear (open_order p (length words))

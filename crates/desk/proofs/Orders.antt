@@ -16,7 +16,7 @@ use Rattle.desk.specs.declared.DeskAnswer.TheVariants.{Letters, Refused}
 use Rattle.desk.specs.Desks.{held, empty_desk, with_page, without_page, DeskTest, open_order, put_order, withdraw_order}
 use Rattle.desk.specs.Desks.{Opens, Puts, Withdraws}
 use Rattle.desk.specs.Pages.{less_page}
-use Rattle.desk.specs.DeskWays.{open_refused, open_clear, put_refused, put_done, withdraw_refused, withdraw_done}
+use Rattle.desk.proofs.DeskWays.{open_refused, open_clear, put_refused, put_done, withdraw_refused, withdraw_done}
 use Rattle.desk.specs.Unique.{opens_one, puts_one, withdraws_one}
 
 -- 01: "A number is returned if its cause holds and none before it in the service's order does, and never otherwise."

@@ -1,0 +1,5 @@
+pub mod DeskWays
+pub mod Orders
+pub mod WordLaws
+pub mod Untouched
+pub mod StackLaws
