@@ -1,7 +1,6 @@
 -- `bits::bit_at` meets its contract: a shift and a remainder are `bit_at`, word for word. Assumes nothing.
 use mathlib.Core.Path.{refl}
 use Rattle.binary.specs.Bits.{bit_at}
-use borrow.Author.Rules.{rules}
 use Rattle.bits.proofs.bit_at.Goals as goal
 
 pub returns : goal.returns

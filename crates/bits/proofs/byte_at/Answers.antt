@@ -4,7 +4,6 @@ use mathlib.Core.Path.{◌≡◌, sym, ap₂, ◌∙◌}
 use Prim.Native.Nat.{◌+◌, ◌*◌, ◌-◌, ◌/◌, ◌%◌, ◌^◌}
 use lib.ListN.{get_or}
 use Rattle.binary.specs.Reading.{number_at-whole, number_at-parts}
-use borrow.Author.Rules.{rules}
 use Rattle.bits.proofs.byte_at.Goals as goal
 
 pub returns-then-r-eq0 : goal.returns-then-r-eq0

@@ -6,7 +6,6 @@ use lib.Dec.{eqb}
 use lib.ListN.{get_or}
 use Rattle.binary.specs.Bits.{high_bits}
 use Rattle.binary.specs.Handed.{handed-within, exact_wrong, exact-whole, exact_begun}
-use borrow.Author.Rules.{rules}
 use Rattle.bits.proofs.handed_good.Goals as goal
 
 pub returns-then-n-bytes_for : goal.returns-then-n-bytes_for

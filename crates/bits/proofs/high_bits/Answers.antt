@@ -3,7 +3,6 @@ use native.Mathlib.Omega.{arith}
 use mathlib.Core.Path.{ap, ◌∙◌}
 use Rattle.binary.specs.Bits.{high_bits}
 use Rattle.binary.specs.Writing.{high_shift, high_le}
-use borrow.Author.Rules.{rules}
 use Rattle.bits.proofs.high_bits.Goals as goal
 
 pub overflow_cast-result : goal.overflow_cast-result

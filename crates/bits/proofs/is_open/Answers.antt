@@ -1,6 +1,5 @@
 -- `bits::is_open` meets its contract.
 use Rattle.binary.specs.Words.{word_one, word-zero}
-use borrow.Author.Rules.{rules}
 use Rattle.bits.proofs.is_open.Goals as goal
 
 pub returns-then-taken : goal.returns-then-taken

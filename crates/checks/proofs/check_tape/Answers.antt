@@ -3,7 +3,6 @@ use mathlib.Core.Path.{sym, ◌∙◌}
 use native.Mathlib.Omega.{arith}
 use borrow.Author.Tests.{not-true, not-false}
 use Rattle.checks.specs.TapeLaws.{check_2, check_4, check_taken}
-use borrow.Author.Rules.{rules}
 use Rattle.checks.proofs.check_tape.Goals as goal
 
 pub returns-then-not-obeys_rules : goal.returns-then-not-obeys_rules

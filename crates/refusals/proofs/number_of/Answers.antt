@@ -1,7 +1,6 @@
 -- `answers::number_of` meets its contract: each cause has the number of its row. Assumes nothing.
 use mathlib.Core.Path.{sym, ap}
 use Rattle.refusals.specs.Refusals.{number}
-use borrow.Author.Rules.{rules}
 use Rattle.refusals.proofs.number_of.Goals as goal
 
 pub returns-in-LineForm : goal.returns-in-LineForm

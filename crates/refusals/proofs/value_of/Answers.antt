@@ -1,7 +1,6 @@
 -- `answers::value_of` meets its contract: each cause has the value of its row. Assumes nothing.
 use mathlib.Core.Path.{sym, ap}
 use Rattle.refusals.specs.Refusals.{value}
-use borrow.Author.Rules.{rules}
 use Rattle.refusals.proofs.value_of.Goals as goal
 
 pub returns-in-LineForm : goal.returns-in-LineForm

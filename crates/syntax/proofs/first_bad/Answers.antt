@@ -1,11 +1,8 @@
 -- `syntax::first_bad` meets its contract.
 use mathlib.Core.Path.{sym, ◌∙◌}
-use Prim.Native.Nat.{◌-◌}
 use native.Mathlib.Omega.{arith}
 use borrow.Author.Tests.{not-true, not-false}
-use lib.ListN.{length}
-use Rattle.syntax.specs.LetterLaws.{BadFrom, bad-start, bad_end, bad-here, bad_next}
-use borrow.Author.Rules.{rules}
+use Rattle.syntax.specs.LetterLaws.{bad-start, bad_end, bad-here, bad_next}
 use Rattle.syntax.proofs.first_bad.Goals as goal
 
 pub loop-i-init : goal.loop-i-init

@@ -2,7 +2,6 @@
 use mathlib.Core.Path.{◌≡◌, ◌∙◌}
 use Rattle.syntax.specs.Letter.{is_letter}
 use Rattle.syntax.specs.LetterLaws.{range_low, range_high, range_between}
-use borrow.Author.Rules.{rules}
 use Rattle.syntax.proofs.in_range.Goals as goal
 
 pub returns-then-c-low : goal.returns-then-c-low

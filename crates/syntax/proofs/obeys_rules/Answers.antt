@@ -3,7 +3,6 @@ use Rattle.syntax.specs.TableTest.{no_count, bad-lines, bad-tree, good-table, fa
 use borrow.Author.Tests.{not-true, not-false}
 use native.Mathlib.Omega.{arith}
 use mathlib.Core.Path.{sym, ◌∙◌}
-use borrow.Author.Rules.{rules}
 use Rattle.syntax.proofs.obeys_rules.Goals as goal
 
 pub returns-then-count-lt1 : goal.returns-then-count-lt1

@@ -1,6 +1,5 @@
 -- `table::cell_of` meets its contract.
 use Rattle.table.specs.CellLaws.{cell-packed}
-use borrow.Author.Rules.{rules}
 use Rattle.table.proofs.cell_of.Goals as goal
 
 pub returns : goal.returns

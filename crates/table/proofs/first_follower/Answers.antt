@@ -1,7 +1,6 @@
 -- `table::first_follower` meets its contract.
 use mathlib.Core.Path.{refl}
 use native.Mathlib.Omega.{arith}
-use borrow.Author.Rules.{rules}
 use Rattle.table.proofs.first_follower.Goals as goal
 
 pub returns-in-Star : goal.returns-in-Star

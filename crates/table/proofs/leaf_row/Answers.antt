@@ -1,5 +1,4 @@
 -- `table::leaf_row` meets its contract.
-use borrow.Author.Rules.{rules}
 use Rattle.table.proofs.leaf_row.Goals as goal
 
 pub returns-in-Nothing : goal.returns-in-Nothing

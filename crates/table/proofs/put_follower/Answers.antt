@@ -1,6 +1,5 @@
 -- `table::put_follower` meets its contract.
 use Rattle.table.specs.CellLaws.{follower-put}
-use borrow.Author.Rules.{rules}
 use Rattle.table.proofs.put_follower.Goals as goal
 
 pub returns : goal.returns

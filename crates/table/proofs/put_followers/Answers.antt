@@ -1,10 +1,8 @@
 -- `table::put_followers` meets its contract.
 use native.Mathlib.Omega.{arith}
 use Prim.Native.Nat.{◌-◌, ◌<◌}
-use Rattle.table.specs.Cells.{line_in}
-use Rattle.table.specs.HandDown.{Rooted, PartsInside}
-use Rattle.table.specs.CellLaws.{Following, following-start, following-inside, following-next, following_end}
-use borrow.Author.Rules.{rules}
+use Rattle.table.specs.HandDown.{PartsInside}
+use Rattle.table.specs.CellLaws.{following-start, following-inside, following-next, following_end}
 use Rattle.table.proofs.put_followers.Goals as goal
 use Rattle.table.proofs.put_followers.Goals.{In-loop-i, After-node_at-node}
 

@@ -1,10 +1,7 @@
 -- `table::put_followers` meets its contract.
-use native.Mathlib.Omega.{arith}
-use Prim.Native.Nat.{◌-◌, ◌<◌}
 use Rattle.table.specs.Cells.{line_in}
-use Rattle.table.specs.HandDown.{Rooted, PartsInside}
-use Rattle.table.specs.CellLaws.{Following, following-start, following-inside, following-next, following_end}
-use borrow.Author.Rules.{rules}
+use Rattle.table.specs.HandDown.{Rooted}
+use Rattle.table.specs.CellLaws.{Following}
 use Rattle.table.proofs.put_followers.Given as goal
 
 abbrev pub invariant-loop-i : goal.invariant-loop-i

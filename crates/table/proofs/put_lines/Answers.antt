@@ -1,9 +1,7 @@
 -- `table::put_lines` meets its contract.
 use mathlib.Core.Path.{sym, ap, ◌∙◌}
-use Prim.Native.Nat.{◌-◌}
 use lib.ListN.{length}
-use Rattle.table.specs.CellLaws.{Filled, filled-start, filled_next, filled_end}
-use borrow.Author.Rules.{rules}
+use Rattle.table.specs.CellLaws.{filled-start, filled_next, filled_end}
 use Rattle.table.proofs.put_lines.Goals as goal
 
 pub loop-i-init : goal.loop-i-init

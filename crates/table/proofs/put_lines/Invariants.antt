@@ -1,9 +1,6 @@
 -- `table::put_lines` meets its contract.
-use mathlib.Core.Path.{sym, ap, ◌∙◌}
 use Prim.Native.Nat.{◌-◌}
-use lib.ListN.{length}
-use Rattle.table.specs.CellLaws.{Filled, filled-start, filled_next, filled_end}
-use borrow.Author.Rules.{rules}
+use Rattle.table.specs.CellLaws.{Filled}
 use Rattle.table.proofs.put_lines.Given as goal
 
 abbrev pub invariant-loop-i : goal.invariant-loop-i

@@ -1,7 +1,6 @@
 -- `table::row_of` meets its contract.
 use mathlib.Core.Path.{ap, ◌∙◌}
 use Rattle.table.specs.Cells.{row}
-use borrow.Author.Rules.{rules}
 use Rattle.table.proofs.row_of.Goals as goal
 
 pub returns-in-Sequence : goal.returns-in-Sequence

@@ -1,6 +1,5 @@
 -- `table::table_of` meets its contract.
 use Rattle.table.specs.CellLaws.{put-filled, filled_rooted, followed_holds}
-use borrow.Author.Rules.{rules}
 use Rattle.table.proofs.table_of.Goals as goal
 
 pub put_followers-requires : goal.put_followers-requires

@@ -1,6 +1,5 @@
 -- `walks::stops_at` meets its contract.
 use Rattle.walks.specs.Looks.{stops-lazy, stops-greedy}
-use borrow.Author.Rules.{rules}
 use Rattle.walks.proofs.stops_at.Goals as goal
 
 pub returns-then-again : goal.returns-then-again

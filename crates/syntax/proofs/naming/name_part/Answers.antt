@@ -1,6 +1,5 @@
 -- `syntax::naming::name_part` meets its contract.
 use Rattle.syntax.specs.Names.{one_high, one_again, one_new}
-use borrow.Author.Rules.{rules}
 use Rattle.syntax.proofs.naming.name_part.Goals as goal
 
 pub returns-then-i-q : goal.returns-then-i-q

@@ -1,7 +1,6 @@
 -- `syntax::naming::name_parts` meets its contract.
 use Rattle.syntax.specs.Names.{one_all}
 use mathlib.Core.Path.{◌∙◌}
-use borrow.Author.Rules.{rules}
 use Rattle.syntax.proofs.naming.name_parts.Goals as goal
 
 pub returns-in-Leaf : goal.returns-in-Leaf

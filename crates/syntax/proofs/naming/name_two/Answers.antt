@@ -4,7 +4,6 @@ use mathlib.Core.Path.{ap, ◌∙◌}
 use Rattle.syntax.specs.Names.{one_all, next_stop, next_on}
 use Rattle.syntax.specs.Naming.{name_next, name_all}
 use mathlib.Core.List.{[], ◌∷◌}
-use borrow.Author.Rules.{rules}
 use Rattle.syntax.proofs.naming.name_two.Goals as goal
 
 pub returns-then-not-one : goal.returns-then-not-one

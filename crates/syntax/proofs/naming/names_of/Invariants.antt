@@ -1,9 +1,6 @@
 -- `syntax::naming::names_of` meets its contract.
 use Prim.Native.Nat.{◌-◌}
-use borrow.Author.Tests.{not-true, not-false}
 use Rattle.syntax.specs.Naming.{NamedSoFar}
-use Rattle.syntax.specs.Names.{names_start, names_end, names_wrong, names_on}
-use borrow.Author.Rules.{rules}
 use Rattle.syntax.proofs.naming.names_of.Given as goal
 
 abbrev pub invariant-loop-i : goal.invariant-loop-i

@@ -1,7 +1,6 @@
 -- `syntax::naming::tree_fault_of` meets its contract.
 use mathlib.Core.Path.{◌∙◌}
 use Rattle.syntax.specs.Names.{fault_wrong, fault_unnamed}
-use borrow.Author.Rules.{rules}
 use Rattle.syntax.proofs.naming.tree_fault_of.Goals as goal
 
 pub returns-then-line-p : goal.returns-then-line-p

@@ -1,10 +1,8 @@
 -- `syntax::naming::unnamed_of` meets its contract.
-use Prim.Native.Nat.{◌-◌, ◌≤◌}
 use native.Mathlib.Omega.{arith}
 use mathlib.Core.Path.{sym, ap}
-use Rattle.syntax.specs.Lowest.{Searched, searched_start, searched_end, searched_here, searched_on}
-use Rattle.syntax.specs.Naming.{not_flagged, fault_of}
-use borrow.Author.Rules.{rules}
+use Rattle.syntax.specs.Lowest.{searched_start, searched_end, searched_here, searched_on}
+use Rattle.syntax.specs.Naming.{fault_of}
 use Rattle.syntax.proofs.naming.unnamed_of.Goals as goal
 
 pub loop-l-init : goal.loop-l-init

@@ -1,10 +1,7 @@
 -- `syntax::naming::unnamed_of` meets its contract.
 use Prim.Native.Nat.{◌-◌, ◌≤◌}
-use native.Mathlib.Omega.{arith}
-use mathlib.Core.Path.{sym, ap}
-use Rattle.syntax.specs.Lowest.{Searched, searched_start, searched_end, searched_here, searched_on}
-use Rattle.syntax.specs.Naming.{not_flagged, fault_of}
-use borrow.Author.Rules.{rules}
+use Rattle.syntax.specs.Lowest.{Searched}
+use Rattle.syntax.specs.Naming.{not_flagged}
 use Rattle.syntax.proofs.naming.unnamed_of.Given as goal
 
 abbrev pub invariant-loop-l : goal.invariant-loop-l

@@ -1,5 +1,4 @@
 -- `syntax::table::good_leaf` meets its contract.
-use borrow.Author.Rules.{rules}
 use Rattle.syntax.proofs.table.good_leaf.Goals as goal
 
 pub returns-in-Letter : goal.returns-in-Letter

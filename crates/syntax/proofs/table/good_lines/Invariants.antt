@@ -1,10 +1,7 @@
 -- `syntax::table::good_lines` meets its contract.
-use mathlib.Core.Path.{sym, ap, ◌∙◌}
-use mathlib.Core.Bool.{not}
 use Prim.Native.Nat.{◌-◌}
-use Rattle.syntax.specs.Table.{badly_formed, is_none}
-use Rattle.syntax.specs.Lowest.{Searched, searched_start, searched_end, searched_here, searched_on}
-use borrow.Author.Rules.{rules}
+use Rattle.syntax.specs.Table.{badly_formed}
+use Rattle.syntax.specs.Lowest.{Searched}
 use Rattle.syntax.proofs.table.good_lines.Given as goal
 
 abbrev pub invariant-loop-i : goal.invariant-loop-i

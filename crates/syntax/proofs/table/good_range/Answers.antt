@@ -1,6 +1,5 @@
 -- `syntax::table::good_range` meets its contract: both ends are letters, and then their order decides.
 use Rattle.std.proofs.Common.{sym, ◌∙◌}
-use borrow.Author.Rules.{rules}
 use Rattle.syntax.proofs.table.good_range.Goals as goal
 
 pub returns : goal.returns
