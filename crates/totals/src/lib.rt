@@ -12,6 +12,7 @@ use entries::{Gathered, gather};
 use refusals::Refusal;
 use syntax::Pattern;
 
+#[tactic(auto, unfolding(semantics::specs::Accounts::litres))]
 fn litres_of(c: u8) -> u32
     ensures { result ≡ litres c }
 {

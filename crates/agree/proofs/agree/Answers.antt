@@ -2,7 +2,6 @@
 use Rattle.agree.specs.AgreeLaws.{refusal_canonicalized, left_end, agrees_first, agrees-second, agrees-both}
 use lib.Seq.{length-take-le}
 use mathlib.Core.Path.{sym}
-use borrow.Author.Rules.{rules}
 use Rattle.agree.proofs.agree.Goals as goal
 
 pub why_unsettled-requires : goal.why_unsettled-requires

@@ -1,5 +1,4 @@
 -- `agree::conclude` meets its contract.
-use borrow.Author.Tests.{not-true, not-false}
 use Rattle.agree.proofs.conclude.Goals as goal
 
 pub returns-then-not-first : goal.returns-then-not-first

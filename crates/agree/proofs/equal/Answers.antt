@@ -1,6 +1,5 @@
 -- `agree::equal` meets its contract.
 use Rattle.agree.specs.AgreeLaws.{equal_counts, equal_bytes}
-use borrow.Author.Rules.{rules}
 use Rattle.agree.proofs.equal.Goals as goal
 
 pub returns-then-n-m : goal.returns-then-n-m

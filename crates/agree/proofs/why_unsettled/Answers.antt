@@ -1,6 +1,5 @@
 -- `agree::why_unsettled` meets its contract.
 use Rattle.agree.specs.AgreeLaws.{settled_no_refusal}
-use borrow.Author.Rules.{rules}
 use Rattle.agree.proofs.why_unsettled.Goals as goal
 
 pub returns-in_default : goal.returns-in_default

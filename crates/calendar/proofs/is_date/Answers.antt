@@ -1,6 +1,5 @@
 -- `calendar::is_date` meets its contract.
 use Rattle.calendar.specs.DateWays.{year_early, year_late, day-zero, day_fits}
-use borrow.Author.Rules.{rules}
 use Rattle.calendar.proofs.is_date.Goals as goal
 
 pub returns-then-d-lt-FIRST_YEAR : goal.returns-then-d-lt-FIRST_YEAR

@@ -1,7 +1,6 @@
 -- `calendar::leap_day` meets its contract.
 use mathlib.Core.Path.{sym, ◌∙◌}
 use Rattle.calendar.specs.DateWays.{other_month, february_long, february_short}
-use borrow.Author.Rules.{rules}
 use Rattle.calendar.proofs.leap_day.Goals as goal
 
 pub returns-then-month-ne2 : goal.returns-then-month-ne2

@@ -3,7 +3,6 @@ use Prim.Native.Nat.{◌-◌}
 use native.Mathlib.Omega.{arith}
 use Rattle.calendar.specs.DateWays.{month_zero, month_past, month_days}
 use Rattle.calendar.specs.DateLaws.{length_small, leap_day_small}
-use borrow.Author.Rules.{rules}
 use Rattle.calendar.proofs.month_length.Goals as goal
 
 pub returns-then-month-lt1 : goal.returns-then-month-lt1

@@ -1,10 +1,8 @@
 -- `calendar::next_date` meets its contract.
 use mathlib.Core.Path.{sym, ◌∙◌}
 use native.Mathlib.Omega.{arith}
-use borrow.Author.Tests.{not-true, not-false}
 use Rattle.calendar.specs.DateLaws.{date_facts, day_few}
 use Rattle.calendar.specs.DateWays.{step_none, step-day, step_month, step_year}
-use borrow.Author.Rules.{rules}
 use Rattle.calendar.proofs.next_date.Goals as goal
 
 pub returns-then-not-is_date : goal.returns-then-not-is_date

@@ -2,7 +2,6 @@
 use Rattle.canonical.specs.CanonicalLaws.{refusal_flattened, refusal_parsed, laid, laid-room, settle_refused, read_bits, read-refused, settle_read}
 use lib.Seq.{length-take-le}
 use mathlib.Core.Path.{sym}
-use borrow.Author.Rules.{rules}
 use Rattle.canonical.proofs.canonicalize.Goals as goal
 
 pub why_unspelled-requires : goal.why_unspelled-requires

@@ -1,6 +1,5 @@
 -- `canonical::why_unread` meets its contract.
 use Rattle.canonical.specs.CanonicalLaws.{bits_no_refusal}
-use borrow.Author.Rules.{rules}
 use Rattle.canonical.proofs.why_unread.Goals as goal
 
 pub returns-in_default : goal.returns-in_default

@@ -5,7 +5,6 @@ use borrow.Author.Tests.{not-true, not-false}
 use Rattle.bits.specs.Handed.{handed_limit}
 use Rattle.entries.specs.Entering.{enters_few}
 use Rattle.entries.specs.Measures.{read-bad, read-failed, read_elsewhere, read_whole}
-use borrow.Author.Rules.{rules}
 use Rattle.entries.proofs.enter.Goals as goal
 
 pub returns-then-not-handed_good : goal.returns-then-not-handed_good

@@ -5,7 +5,6 @@ use Rattle.syntax.specs.TreeLaws.{obeys_iff}
 use borrow.Author.Tests.{not-true, not-false}
 use mathlib.Core.Path.{sym, ◌∙◌}
 use native.Mathlib.Omega.{arith}
-use borrow.Author.Rules.{rules}
 use Rattle.entries.proofs.gather.Goals as goal
 
 pub returns-then-not-obeys_rules : goal.returns-then-not-obeys_rules

@@ -1,7 +1,6 @@
 -- `entries::put_cell` meets its contract.
 use mathlib.Core.Path.{refl, sym}
 use lib.Seq.{set_out}
-use borrow.Author.Rules.{rules}
 use Rattle.entries.proofs.put_cell.Goals as goal
 
 pub returns-then-n-cells : goal.returns-then-n-cells

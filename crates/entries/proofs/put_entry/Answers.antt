@@ -1,7 +1,6 @@
 -- `entries::put_entry` meets its contract.
 use mathlib.Core.Path.{ap}
 use Rattle.entries.specs.Entering.{went}
-use borrow.Author.Rules.{rules}
 use Rattle.entries.proofs.put_entry.Goals as goal
 
 pub returns : goal.returns

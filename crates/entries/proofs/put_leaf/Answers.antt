@@ -1,7 +1,6 @@
 -- `entries::put_leaf` meets its contract.
 use Rattle.entries.specs.Entries.{entries-nothing, entries_letter}
 use Rattle.entries.specs.Entering.{none_entered, one_entered}
-use borrow.Author.Rules.{rules}
 use Rattle.entries.proofs.put_leaf.Goals as goal
 
 pub put_entry-requires : goal.put_entry-requires

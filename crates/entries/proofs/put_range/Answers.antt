@@ -1,11 +1,8 @@
 -- `entries::put_range` meets its contract.
-use mathlib.Core.Path.{◌≡◌, refl, sym, ◌∙◌}
+use mathlib.Core.Path.{refl, sym, ◌∙◌}
 use native.Mathlib.Omega.{arith}
-use borrow.Author.Tests.{not-true, not-false}
 use Rattle.entries.specs.Entries.{entries_short, entries_range, entries_outside}
 use Rattle.entries.specs.Entering.{not_entered, one_entered}
-use Rattle.syntax.specs.Letter.{in_range}
-use borrow.Author.Rules.{rules}
 use Rattle.entries.proofs.put_range.Goals as goal
 
 pub bits_in-requires : goal.bits_in-requires

@@ -1,7 +1,6 @@
 -- `terms::term_number_of` meets its contract: each cause has its number.
 use mathlib.Core.Path.{sym, ap, ◌∙◌}
 use Rattle.terms.specs.Terms.{term_number}
-use borrow.Author.Rules.{rules}
 use Rattle.terms.proofs.term_number_of.Goals as goal
 
 pub returns-in-Base : goal.returns-in-Base

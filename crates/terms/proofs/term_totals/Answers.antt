@@ -1,6 +1,5 @@
 -- `terms::term_totals` meets its contract.
 use Rattle.terms.specs.TermWays.{term_totals-refused, term_totals-dated}
-use borrow.Author.Rules.{rules}
 use Rattle.terms.proofs.term_totals.Goals as goal
 
 pub total_dates-requires : goal.total_dates-requires

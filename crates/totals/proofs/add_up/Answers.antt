@@ -1,9 +1,7 @@
 -- `totals::add_up` meets its contract.
-use Rattle.totals.specs.Sums.{EntriesSummed, entries_summed_start, entries_summed_size, entries_summed_room, entries_summed_next, entries_summed_end}
+use Rattle.totals.specs.Sums.{entries_summed_start, entries_summed_size, entries_summed_room, entries_summed_next, entries_summed_end}
 use mathlib.Core.Path.{sym}
-use Prim.Native.Nat.{◌-◌}
 use native.Mathlib.Omega.{arith}
-use borrow.Author.Rules.{rules}
 use Rattle.totals.proofs.add_up.Goals as goal
 
 pub loop-i-init : goal.loop-i-init

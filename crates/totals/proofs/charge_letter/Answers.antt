@@ -1,6 +1,5 @@
 -- `totals::charge_letter` meets its contract.
 use Rattle.totals.specs.Sums.{charge_one}
-use borrow.Author.Rules.{rules}
 use Rattle.totals.proofs.charge_letter.Goals as goal
 
 pub returns : goal.returns

@@ -2,7 +2,6 @@
 use mathlib.Core.Path.{ap, ◌∙◌}
 use Rattle.semantics.specs.Accounts.{totals}
 use Rattle.totals.specs.TotalsLaws.{totals-refused, totals-added}
-use borrow.Author.Rules.{rules}
 use Rattle.totals.proofs.totals.Goals as goal
 
 pub add_up-requires : goal.add_up-requires

@@ -1,8 +1,5 @@
 -- `codes::compare::begins` meets its contract.
-use Rattle.codes.specs.SpellLaws.{SameFrom, same_start, same_end, same_differs, same_next}
-use lib.ListN.{length}
-use Prim.Native.Nat.{◌-◌, ◌≤◌}
-use borrow.Author.Rules.{rules}
+use Rattle.codes.specs.SpellLaws.{same_start, same_end, same_differs, same_next}
 use Rattle.codes.proofs.compare.begins.Goals as goal
 
 pub loop-i-init : goal.loop-i-init

@@ -1,8 +1,7 @@
 -- `codes::compare::begins` meets its contract.
-use Rattle.codes.specs.SpellLaws.{SameFrom, same_start, same_end, same_differs, same_next}
+use Rattle.codes.specs.SpellLaws.{SameFrom}
 use lib.ListN.{length}
 use Prim.Native.Nat.{◌-◌, ◌≤◌}
-use borrow.Author.Rules.{rules}
 use Rattle.codes.proofs.compare.begins.Given as goal
 
 abbrev pub invariant-loop-i : goal.invariant-loop-i

@@ -1,7 +1,6 @@
 -- `codes::front::put_front` meets its contract: at each turn as many letters are copied as turns were made.
 use Prim.Native.Nat.{◌-◌}
-use Rattle.codes.specs.FlattenLaws.{Copied, copied_none, copied_one, copied_all}
-use borrow.Author.Rules.{rules}
+use Rattle.codes.specs.FlattenLaws.{Copied}
 use Rattle.codes.proofs.front.put_front.Given as goal
 
 abbrev pub invariant-loop-i : goal.invariant-loop-i

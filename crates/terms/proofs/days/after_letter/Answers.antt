@@ -1,7 +1,6 @@
 -- `terms::days::after_letter` meets its contract.
 use mathlib.Core.Path.{◌∙◌}
 use Rattle.terms.specs.TermWays.{same_day, day_ends}
-use borrow.Author.Rules.{rules}
 use Rattle.terms.proofs.days.after_letter.Goals as goal
 
 pub returns-then-c-ne-DAY_END : goal.returns-then-c-ne-DAY_END

@@ -1,6 +1,5 @@
 -- `terms::days::day_of` meets its contract.
 use Rattle.terms.specs.TermWays.{day-made}
-use borrow.Author.Rules.{rules}
 use Rattle.terms.proofs.days.day_of.Goals as goal
 
 pub returns : goal.returns

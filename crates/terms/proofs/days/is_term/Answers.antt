@@ -1,8 +1,6 @@
 -- `terms::days::is_term` meets its contract.
 use mathlib.Core.Path.{sym, ◌∙◌}
-use borrow.Author.Tests.{not-true, not-false}
 use Rattle.terms.specs.TermWays.{no_first, no_last, term_by_order}
-use borrow.Author.Rules.{rules}
 use Rattle.terms.proofs.days.is_term.Goals as goal
 
 pub returns-then-not-is_date : goal.returns-then-not-is_date

@@ -1,7 +1,5 @@
 -- `terms::days::last_date` meets its contract.
-use Prim.Native.Nat.{◌-◌}
-use Rattle.terms.specs.Days.{Stepped, stepped_start, stepped_next, stepped_end}
-use borrow.Author.Rules.{rules}
+use Rattle.terms.specs.Days.{stepped_start, stepped_next, stepped_end}
 use Rattle.terms.proofs.days.last_date.Goals as goal
 
 pub loop-i-init : goal.loop-i-init

@@ -1,7 +1,6 @@
 -- `terms::days::last_date` meets its contract.
 use Prim.Native.Nat.{◌-◌}
-use Rattle.terms.specs.Days.{Stepped, stepped_start, stepped_next, stepped_end}
-use borrow.Author.Rules.{rules}
+use Rattle.terms.specs.Days.{Stepped}
 use Rattle.terms.proofs.days.last_date.Given as goal
 
 abbrev pub invariant-loop-i : goal.invariant-loop-i

@@ -1,7 +1,5 @@
 -- `terms::selection::keep_entry` meets its contract.
-use borrow.Author.Tests.{not-true, not-false}
 use Rattle.terms.specs.Selection.{kept-inside, kept_outside}
-use borrow.Author.Rules.{rules}
 use Rattle.terms.proofs.selection.keep_entry.Goals as goal
 
 pub returns-then-not-inside : goal.returns-then-not-inside

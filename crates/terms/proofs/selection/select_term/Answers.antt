@@ -1,10 +1,8 @@
 -- `terms::selection::select_term` meets its contract.
 use mathlib.Core.Path.{ap}
-use Prim.Native.Nat.{◌-◌}
 use native.Mathlib.Omega.{arith}
 use Rattle.terms.specs.TermWays.{day_stays, day-steps}
-use Rattle.terms.specs.Selection.{Selecting, select_start, select_next, select_end}
-use borrow.Author.Rules.{rules}
+use Rattle.terms.specs.Selection.{select_start, select_next, select_end}
 use Rattle.terms.proofs.selection.select_term.Goals as goal
 
 pub loop-i-init : goal.loop-i-init
