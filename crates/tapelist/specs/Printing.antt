@@ -1,5 +1,5 @@
--- What the program's functions promise: how much is held of a file, and what is printed. No contract can say what a file has: `libc::read` says
--- how many bytes it put, and not which. Definitions only.
+-- What the program's functions promise: how much is held of a file, and what is printed. No contract can say what a file has: `read` of a file
+-- says how many bytes it put, and not which. Definitions only.
 use Rattle.std.specs.Prelude.{◌≡◌, List, [], ◌∷◌, ℕ, ◌≤◌, ◌<◌, take}
 use Rattle.refusals.specs.Refusals.{refused}
 use Rattle.loading.specs.Load.{load_table}

@@ -4,15 +4,19 @@
 // word `located` and the two positions that `reach::locate` gives, or the line of its refusal.
 #![tactic(auto)]
 
-ghost use Rattle.std.specs.Prelude.{◌≤◌, length};
+ghost use Rattle.std.specs.Prelude.{◌≤◌, IfOk, length};
 ghost use Rattle.text.specs.Text.{Puts};
 ghost use Rattle.tapelist.specs.Printing.{text_least, tape_least, Held, Prints, located_line, Tells};
 
-use libc::STDOUT_FILENO;
 use listing::{Listed, MAX_LISTING, letters_of, list};
 use loading::load;
 use reach::{Located, locate};
 use refusals::{number_of, value_of};
+use std::env::{Env, FillError};
+use std::fs::File;
+use std::io;
+use std::io::Read;
+use std::rt::Files;
 use text::{put_line, put_refused};
 
 // Bytes held of each file. The first `text_bytes` bytes of a pattern's text, 1,025, and the first 3,602 of a tape give the listing
@@ -24,80 +28,83 @@ const MAX_TAPE: usize = 4096;
 // What stands for a file that cannot be read: no buffer holds so many bytes.
 const FAILED: usize = usize::MAX;
 
-// One read: how many bytes it put at the start of the part, none at the file's end.
-fn read_part(fd: i32, part: &mut [u8]) -> usize
-    ensures { Held (length part.old) result }
+// One read: how many bytes it put at the start of the part, none at the file's end. The only error is that of the read, behind which
+// nothing is said of the part's bytes.
+fn read_part(file: &mut impl Read, part: &mut [u8]) -> io::Result<usize>
+    ensures { IfOk result (λ got. got ≤ length part.old) }
 {
-    let got = libc::read(fd, part);
-    if got < 0 {
-        return FAILED;
-    }
-    io::count(got, part)
+    file.read(part)
 }
 
-// Reads until the file ends or the buffer is full: how many bytes are held.
-fn read_all(fd: i32, buf: &mut [u8]) -> usize
-    ensures { Held (length buf.old) result }
+// Reads until the file ends or the buffer is full: how many bytes are held. The only error is that of a read, behind which nothing
+// is said of the buffer's bytes.
+fn read_all(file: &mut impl Read, buf: &mut [u8]) -> io::Result<usize>
+    ensures { IfOk result (λ held. held ≤ length buf.old) }
 {
     let mut at = 0;
     while at < buf.len() {
-        let got = read_part(fd, &mut buf[at..]);
+        let got = read_part(file, &mut buf[at..])?;
         if got == 0 {
             break;
         }
-        if buf.len() - at < got {
-            return FAILED;
-        }
         at += got;
     }
-    at
+    Ok(at)
+}
+
+fn read_open<R: Files>(rt: &R, name: &str, buf: &mut [u8]) -> io::Result<usize>
+    ensures { IfOk result (λ held. held ≤ length buf.old) }
+{
+    let mut file = File::open(rt, name)?;
+    read_all(&mut file, buf)
+}
+
+// Says on standard error what failed, and why. Where that fails too, nothing is left to say.
+fn fail(rt: &impl Eprint, what: &str, why: io::Error) {
+    let _ = eprintln!(rt; "{what}: {why}");
 }
 
 // Reads the file of this name, and says on standard error why it cannot.
-fn read_file(name: &[u8], buf: &mut [u8]) -> usize
+fn read_file<R: Files + Eprint>(rt: &R, name: &str, buf: &mut [u8]) -> usize
     ensures { Held (length buf.old) result }
 {
-    let fd = os::open_read(name);
-    if fd < 0 {
-        os::fail(name);
-        return FAILED;
+    match read_open(rt, name, buf) {
+        Ok(held) => held,
+        Err(why) => {
+            fail(rt, name, why);
+            FAILED
+        }
     }
-    let held = read_all(fd, buf);
-    if buf.len() < held {
-        os::fail(name);
-    }
-    libc::close(fd);
-    held
 }
 
 // Writes a listing to standard output. The files' bytes are passed so that the contract can speak of them: what is handed to the
 // system is their listing. Nothing but this and `tell` writes there.
-fn print(text: &[u8], tape: &[u8], bytes: &[u8])
+fn print<R: Print + Eprint>(rt: &R, text: &[u8], tape: &[u8], bytes: &[u8])
     requires { Prints text.now tape.now bytes.now }
 {
-    if !io::write_all(STDOUT_FILENO, bytes) {
-        os::fail(b"standard output");
+    if let Err(why) = rt.write_all(bytes) {
+        fail(rt, "standard output", why);
     }
 }
 
-fn print_listing(text: &[u8], tape: &[u8]) {
+fn print_listing<R: Print + Eprint>(rt: &R, text: &[u8], tape: &[u8]) {
     let mut out = [0u8; MAX_LISTING];
     let Listed::Bytes(size) = list(text, tape, &mut out) else {
         return;
     };
     let n = size as usize;
-    print(text, tape, &out[..n]);
+    print(rt, text, tape, &out[..n]);
 }
 
 // Bytes of a line with a word of seven letters and two numbers: at most 30.
 const MAX_LINE: usize = 32;
 
 // Writes to standard output where a tape breaks.
-fn tell(text: &[u8], tape: &[u8], bytes: &[u8])
+fn tell<R: Print + Eprint>(rt: &R, text: &[u8], tape: &[u8], bytes: &[u8])
     requires { Tells text.now tape.now bytes.now }
 {
-    if !io::write_all(STDOUT_FILENO, bytes) {
-        os::fail(b"standard output");
+    if let Err(why) = rt.write_all(bytes) {
+        fail(rt, "standard output", why);
     }
 }
 
@@ -117,35 +124,40 @@ fn put_located(located: Located, out: &mut [u8]) -> usize
     }
 }
 
-fn print_break(text: &[u8], tape: &[u8]) {
+fn print_break<R: Print + Eprint>(rt: &R, text: &[u8], tape: &[u8]) {
     let loaded = load(text);
     let n = letters_of(tape);
     let located = locate(loaded.pattern, &tape[..n]);
     let mut out = [0u8; MAX_LINE];
     let size = put_located(located, &mut out);
-    tell(text, tape, &out[..size]);
+    tell(rt, text, tape, &out[..size]);
+}
+
+// Whether the program was started with an argument behind its name.
+fn has_argument(rt: &impl Env) -> bool {
+    !matches!(rt.arg(1, &mut []), Err(FillError::NotPresent))
 }
 
 // Prints nothing where one of the files cannot be read. The buffers hold as many bytes as decide the listing.
-fn list_files(text: &mut [u8], tape: &mut [u8])
+fn list_files<R: Files + Env + Print + Eprint>(rt: &R, text: &mut [u8], tape: &mut [u8])
     requires { (text_least ≤ length text.old) × (tape_least ≤ length tape.old) }
 {
-    let m = read_file(b"pattern.tsv", text);
+    let m = read_file(rt, "pattern.tsv", text);
     if text.len() < m {
         return;
     }
-    let n = read_file(b"tape.txt", tape);
+    let n = read_file(rt, "tape.txt", tape);
     if tape.len() < n {
         return;
     }
-    print_listing(&text[..m], &tape[..n]);
-    if 1 < os::arg_count() {
-        print_break(&text[..m], &tape[..n]);
+    print_listing(rt, &text[..m], &tape[..n]);
+    if has_argument(rt) {
+        print_break(rt, &text[..m], &tape[..n]);
     }
 }
 
-fn main() {
+fn main(rt: HostRuntime) {
     let mut text = [0u8; MAX_TEXT];
     let mut tape = [0u8; MAX_TAPE];
-    list_files(&mut text, &mut tape);
+    list_files(&rt, &mut text, &mut tape);
 }

@@ -12,6 +12,7 @@ ghost use Rattle.vector_codes.specs.Answers.{answer_text, litres_text, Shown, Pu
 
 use canonical::{Canonicalized, canonicalize};
 use codes::{Flattened, flatten};
+use std::io;
 use syntax::Pattern;
 use text::{least, put_pair, put_parted, put_refusal};
 use totals::{Totalled, TotalsOutcome, totals};
@@ -102,21 +103,26 @@ fn put_letters(out: &mut [u8], at: usize, tape: &[u8], lent: usize) -> usize
 }
 
 // Prints the line of spelling, with `lent` cells of the tape lent. This line and the next two take less than 1,024 bytes.
-fn print_flattening(answer: Flattened, tape: &[u8], lent: usize) {
+fn print_flattening(
+    rt: &impl Print,
+    answer: Flattened,
+    tape: &[u8],
+    lent: usize,
+) -> io::Result<()> {
     let mut out = [0u8; 1024];
     let a = put_flattened(&mut out, answer);
     let b = put_letters(&mut out, a, tape, lent);
-    print_line(&mut out, b);
+    print_line(rt, &mut out, b)
 }
 
 // The line of totalling.
-fn print_totals(totalled: Totalled) {
+fn print_totals(rt: &impl Print, totalled: Totalled) -> io::Result<()> {
     let outcome = totalled.outcome;
     let litres = totalled.litres;
     let mut out = [0u8; 1024];
     let a = put_outcome(&mut out, outcome);
     let b = put_totals(&mut out, a, &litres);
-    print_line(&mut out, b);
+    print_line(rt, &mut out, b)
 }
 
 // How many tape cells, words and code bytes are lent.
@@ -146,27 +152,48 @@ fn put_settled(
 }
 
 // The line of settling.
-fn print_settling(answer: Canonicalized, tape: &[u8], words: &[u64], code: &[u8], lent: Lent) {
+fn print_settling(
+    rt: &impl Print,
+    answer: Canonicalized,
+    tape: &[u8],
+    words: &[u64],
+    code: &[u8],
+    lent: Lent,
+) -> io::Result<()> {
     let mut out = [0u8; 1024];
     let a = put_canonicalized(&mut out, answer);
     let b = put_settled(&mut out, a, tape, words, code, lent);
-    print_line(&mut out, b);
+    print_line(rt, &mut out, b)
 }
 
 // Spells the code with the first `most` cells lent, as far as there are any.
-fn run_flatten(p: Pattern, code: &[u8], count: u32, tape: &mut [u8], most: usize) {
+fn run_flatten(
+    rt: &impl Print,
+    p: Pattern,
+    code: &[u8],
+    count: u32,
+    tape: &mut [u8],
+    most: usize,
+) -> io::Result<()> {
     let lent = least(most, tape.len());
     let answer = flatten(p, code, count, &mut tape[..lent]);
-    print_flattening(answer, tape, lent);
+    print_flattening(rt, answer, tape, lent)
 }
 
-fn run_spelling(p: Pattern, code: &[u8], count: u32, lent: usize) {
+fn run_spelling(
+    rt: &impl Print,
+    p: Pattern,
+    code: &[u8],
+    count: u32,
+    lent: usize,
+) -> io::Result<()> {
     let mut tape = [BYTE_BEFORE; ALL_LETTERS];
-    run_flatten(p, code, count, &mut tape, lent);
+    run_flatten(rt, p, code, count, &mut tape, lent)
 }
 
 // Settles the code with the first cells, words and bytes lent, of each as many as are asked for and are there.
 fn run_canonicalize(
+    rt: &impl Print,
     p: Pattern,
     code: &[u8],
     count: u32,
@@ -174,7 +201,7 @@ fn run_canonicalize(
     words: &mut [u64],
     canonical: &mut [u8],
     most: Lent,
-) {
+) -> io::Result<()> {
     let letters = least(most.letters, tape.len());
     let room = least(most.words, words.len());
     let bytes = least(most.bytes, canonical.len());
@@ -191,29 +218,43 @@ fn run_canonicalize(
         words: room,
         bytes,
     };
-    print_settling(answer, tape, words, canonical, lent);
+    print_settling(rt, answer, tape, words, canonical, lent)
 }
 
-fn run_settling(p: Pattern, code: &[u8], count: u32, most: Lent) {
+fn run_settling(
+    rt: &impl Print,
+    p: Pattern,
+    code: &[u8],
+    count: u32,
+    most: Lent,
+) -> io::Result<()> {
     let mut tape = [BYTE_BEFORE; ALL_LETTERS];
     let mut words = [WORD_BEFORE; ALL_WORDS];
     let mut canonical = [BYTE_BEFORE; ALL_BYTES];
-    run_canonicalize(p, code, count, &mut tape, &mut words, &mut canonical, most);
+    run_canonicalize(
+        rt,
+        p,
+        code,
+        count,
+        &mut tape,
+        &mut words,
+        &mut canonical,
+        most,
+    )
 }
 
-fn run_lent(p: Pattern, code: &[u8], count: u32, most: Lent) {
-    run_spelling(p, code, count, most.letters);
-    print_totals(totals(p, code, count));
-    run_settling(p, code, count, most);
+fn run_lent(rt: &impl Print, p: Pattern, code: &[u8], count: u32, most: Lent) -> io::Result<()> {
+    run_spelling(rt, p, code, count, most.letters)?;
+    print_totals(rt, totals(p, code, count))?;
+    run_settling(rt, p, code, count, most)
 }
 
 // Behind the bit count: how many tape cells, words and code bytes are lent.
-fn run_sizes(p: Pattern, code: &[u8], count: u32, line: &[u8]) {
+fn run_sizes(rt: &impl Print, p: Pattern, code: &[u8], count: u32, line: &[u8]) -> io::Result<()> {
     let second = rest(line);
     let third = rest(second);
     if third.len() == 0 {
-        say_bad();
-        return;
+        return say_bad(rt);
     }
     let letters = number(field(line)) as usize;
     let words = number(field(second)) as usize;
@@ -223,17 +264,16 @@ fn run_sizes(p: Pattern, code: &[u8], count: u32, line: &[u8]) {
         words,
         bytes,
     };
-    run_lent(p, code, count, most);
+    run_lent(rt, p, code, count, most)
 }
 
-pub fn run_code(p: Pattern, line: &[u8]) {
+pub fn run_code(rt: &impl Print, p: Pattern, line: &[u8]) -> io::Result<()> {
     let digits = field(line);
     let mut code = [0u8; MAX_CODE];
     let size = decode(digits, &mut code);
     if size + size != digits.len() {
-        say_bad();
-        return;
+        return say_bad(rt);
     }
     let second = rest(line);
-    run_sizes(p, &code[..size], number(field(second)), rest(second));
+    run_sizes(rt, p, &code[..size], number(field(second)), rest(second))
 }

@@ -6,6 +6,7 @@ ghost use Rattle.text.specs.Text.{Puts};
 ghost use Rattle.vector_codes.specs.Answers.{answer_text, piece_text};
 
 use spans::{SpanOutcome, Spanned, piece, span};
+use std::io;
 use syntax::Pattern;
 use text::{put_pair, put_parted, put_refusal};
 use vector_text::{
@@ -34,56 +35,68 @@ fn put_piece(out: &mut [u8], at: usize, start: u32, length: u32, piece: &[u8]) -
 
 // Prints the line of a case, which takes less than 1,024 bytes: number, value, start, length, and the piece with its own
 // length.
-fn print_spanned(spanned: Spanned, piece: &[u8]) {
+fn print_spanned(rt: &impl Print, spanned: Spanned, piece: &[u8]) -> io::Result<()> {
     let outcome = spanned.outcome;
     let mut out = [0u8; 1024];
     let a = put_outcome(&mut out, outcome);
     let b = put_piece(&mut out, a, spanned.start, spanned.length, piece);
-    print_line(&mut out, b);
+    print_line(rt, &mut out, b)
 }
 
 // Each service is called for itself.
-fn run_visit(p: Pattern, tape: &[u8], code: &[u8], count: u32, node: u32, visit: u32) {
+fn run_visit(
+    rt: &impl Print,
+    p: Pattern,
+    tape: &[u8],
+    code: &[u8],
+    count: u32,
+    node: u32,
+    visit: u32,
+) -> io::Result<()> {
     let spanned = span(p, tape, code, count, node, visit);
     let part = piece(p, tape, code, count, node, visit);
-    print_spanned(spanned, part);
+    print_spanned(rt, spanned, part)
 }
 
-fn run_numbers(p: Pattern, tape: &[u8], code: &[u8], line: &[u8]) {
+fn run_numbers(
+    rt: &impl Print,
+    p: Pattern,
+    tape: &[u8],
+    code: &[u8],
+    line: &[u8],
+) -> io::Result<()> {
     let second = rest(line);
     let third = rest(second);
     if third.len() == 0 {
-        say_bad();
-        return;
+        return say_bad(rt);
     }
     run_visit(
+        rt,
         p,
         tape,
         code,
         number(field(line)),
         number(field(second)),
         number(third),
-    );
+    )
 }
 
-fn run_tape(p: Pattern, tape: &[u8], line: &[u8]) {
+fn run_tape(rt: &impl Print, p: Pattern, tape: &[u8], line: &[u8]) -> io::Result<()> {
     let digits = field(line);
     let mut code = [0u8; MAX_CODE];
     let size = decode(digits, &mut code);
     if size + size != digits.len() {
-        say_bad();
-        return;
+        return say_bad(rt);
     }
-    run_numbers(p, tape, &code[..size], rest(line));
+    run_numbers(rt, p, tape, &code[..size], rest(line))
 }
 
-pub fn run_span(p: Pattern, line: &[u8]) {
+pub fn run_span(rt: &impl Print, p: Pattern, line: &[u8]) -> io::Result<()> {
     let digits = field(line);
     let mut tape = [0u8; MAX_TAPE];
     let size = decode(digits, &mut tape);
     if size + size != digits.len() {
-        say_bad();
-        return;
+        return say_bad(rt);
     }
-    run_tape(p, &tape[..size], rest(line));
+    run_tape(rt, p, &tape[..size], rest(line))
 }

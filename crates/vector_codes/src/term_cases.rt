@@ -8,6 +8,7 @@ ghost use Rattle.vector_codes.specs.Answers.{answer_text, date_read, behind_date
 
 use crate::code_cases::put_totals;
 use calendar::Date;
+use std::io;
 use syntax::Pattern;
 use terms::{
     Term, TermOutcome, TermRefusal, TermTotalled, term_number_of, term_totals, term_value_of,
@@ -34,13 +35,13 @@ fn put_outcome(out: &mut [u8], outcome: TermOutcome) -> usize
 }
 
 // Prints the line of a case, which takes less than 1,024 bytes: number, value, and the totals that are shown.
-fn print_totalled(totalled: TermTotalled) {
+fn print_totalled(rt: &impl Print, totalled: TermTotalled) -> io::Result<()> {
     let outcome = totalled.outcome;
     let litres = totalled.litres;
     let mut out = [0u8; 1024];
     let a = put_outcome(&mut out, outcome);
     let b = put_totals(&mut out, a, &litres);
-    print_line(&mut out, b);
+    print_line(rt, &mut out, b)
 }
 
 // The date that the first three fields write.
@@ -64,28 +65,26 @@ fn after_date(line: &[u8]) -> &[u8]
 }
 
 // Behind the bit count: the start, the first date and the last.
-fn run_dates(p: Pattern, code: &[u8], count: u32, line: &[u8]) {
+fn run_dates(rt: &impl Print, p: Pattern, code: &[u8], count: u32, line: &[u8]) -> io::Result<()> {
     let first = after_date(line);
     let last = after_date(first);
     if rest(rest(last)).len() == 0 {
-        say_bad();
-        return;
+        return say_bad(rt);
     }
     let term = Term {
         first: date_at(first),
         last: date_at(last),
     };
-    print_totalled(term_totals(p, code, count, date_at(line), term));
+    print_totalled(rt, term_totals(p, code, count, date_at(line), term))
 }
 
-pub fn run_term(p: Pattern, line: &[u8]) {
+pub fn run_term(rt: &impl Print, p: Pattern, line: &[u8]) -> io::Result<()> {
     let digits = field(line);
     let mut code = [0u8; MAX_CODE];
     let size = decode(digits, &mut code);
     if size + size != digits.len() {
-        say_bad();
-        return;
+        return say_bad(rt);
     }
     let second = rest(line);
-    run_dates(p, &code[..size], number(field(second)), rest(second));
+    run_dates(rt, p, &code[..size], number(field(second)), rest(second))
 }

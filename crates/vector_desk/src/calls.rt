@@ -5,6 +5,7 @@ use crate::shown::print_call;
 use desk::DeskAfter;
 use loading::load;
 use packing::{desk_of, of_desk_answer, put_desk};
+use std::io;
 use text::{least, put_byte, put_bytes};
 use vector_text::{MAX_TAPE, decode, field, number, rest, say_bad};
 
@@ -16,29 +17,43 @@ pub(crate) struct Next {
 }
 
 // Stores the desk that a call left, and prints the call's line.
-fn print_changed(changed: DeskAfter, desk: &mut [u8], letters: &[u8], words: &[u64]) {
+fn print_changed(
+    rt: &impl Print,
+    changed: DeskAfter,
+    desk: &mut [u8],
+    letters: &[u8],
+    words: &[u64],
+) -> io::Result<()> {
     let answer = changed.answer;
     put_desk(changed.desk, desk);
-    print_call(of_desk_answer(answer), desk, letters, words);
+    print_call(rt, of_desk_answer(answer), desk, letters, words)
 }
 
-fn run_open(text: &[u8], line: &[u8], desk: &mut [u8], letters: &[u8], words: &mut [u64]) -> usize {
+fn run_open(
+    rt: &impl Print,
+    text: &[u8],
+    line: &[u8],
+    desk: &mut [u8],
+    letters: &[u8],
+    words: &mut [u64],
+) -> io::Result<usize> {
     let loaded = load(text);
     let lent = least(number(field(line)) as usize, words.len());
     let changed = open_own(desk_of(desk), loaded.pattern, &mut words[..lent]);
-    print_changed(changed, desk, letters, words);
-    rest(line).len()
+    print_changed(rt, changed, desk, letters, words)?;
+    Ok(rest(line).len())
 }
 
 // Behind the page: how many cells and words are lent.
 fn put_lent(
+    rt: &impl Print,
     text: &[u8],
     page: &[u8],
     line: &[u8],
     desk: &mut [u8],
     letters: &mut [u8],
     words: &mut [u64],
-) -> usize {
+) -> io::Result<usize> {
     let last = rest(line);
     let cells = least(number(field(line)) as usize, letters.len());
     let lent = least(number(field(last)) as usize, words.len());
@@ -46,28 +61,36 @@ fn put_lent(
     let p = loaded.pattern;
     let held = desk_of(desk);
     let changed = put_own(held, p, page, &mut letters[..cells], &mut words[..lent]);
-    print_changed(changed, desk, letters, words);
-    rest(last).len()
+    print_changed(rt, changed, desk, letters, words)?;
+    Ok(rest(last).len())
 }
 
 fn run_put(
+    rt: &impl Print,
     text: &[u8],
     line: &[u8],
     desk: &mut [u8],
     letters: &mut [u8],
     words: &mut [u64],
-) -> usize {
+) -> io::Result<usize> {
     let mut page = [0u8; MAX_TAPE];
     let size = decode(field(line), &mut page);
-    put_lent(text, &page[..size], rest(line), desk, letters, words)
+    put_lent(rt, text, &page[..size], rest(line), desk, letters, words)
 }
 
-fn run_withdraw(text: &[u8], line: &[u8], desk: &mut [u8], letters: &[u8], words: &[u64]) -> usize {
+fn run_withdraw(
+    rt: &impl Print,
+    text: &[u8],
+    line: &[u8],
+    desk: &mut [u8],
+    letters: &[u8],
+    words: &[u64],
+) -> io::Result<usize> {
     let cells = least(number(field(line)) as usize, letters.len());
     let loaded = load(text);
     let changed = withdraw_own(desk_of(desk), loaded.pattern, &letters[..cells]);
-    print_changed(changed, desk, letters, words);
-    rest(line).len()
+    print_changed(rt, changed, desk, letters, words)?;
+    Ok(rest(line).len())
 }
 
 fn byte_of(n: u32) -> u8 {
@@ -98,44 +121,46 @@ fn run_hand(line: &[u8], desk: &mut [u8], letters: &mut [u8]) -> usize {
 }
 
 fn run_call(
+    rt: &impl Print,
     kind: u8,
     text: &[u8],
     line: &[u8],
     desk: &mut [u8],
     letters: &mut [u8],
     words: &mut [u64],
-) -> usize {
+) -> io::Result<usize> {
     match kind {
-        b'o' => run_open(text, line, desk, letters, words),
-        b'p' => run_put(text, line, desk, letters, words),
-        b'w' => run_withdraw(text, line, desk, letters, words),
-        b'h' => run_hand(line, desk, letters),
+        b'o' => run_open(rt, text, line, desk, letters, words),
+        b'p' => run_put(rt, text, line, desk, letters, words),
+        b'w' => run_withdraw(rt, text, line, desk, letters, words),
+        b'h' => Ok(run_hand(line, desk, letters)),
         _ => {
-            say_bad();
-            0
+            say_bad(rt)?;
+            Ok(0)
         }
     }
 }
 
 pub(crate) fn run_step(
+    rt: &impl Print,
     text: &mut [u8],
     size: usize,
     line: &[u8],
     desk: &mut [u8],
     letters: &mut [u8],
     words: &mut [u64],
-) -> Next {
+) -> io::Result<Next> {
     if line.len() == 0 {
-        return Next { left: 0, size };
+        return Ok(Next { left: 0, size });
     }
     let kind = line[0];
     let fields = rest(line);
     if kind == b't' {
         let end = decode(field(fields), text);
         let left = rest(fields).len();
-        return Next { left, size: end };
+        return Ok(Next { left, size: end });
     }
     let end = least(size, text.len());
-    let left = run_call(kind, &text[..end], fields, desk, letters, words);
-    Next { left, size }
+    let left = run_call(rt, kind, &text[..end], fields, desk, letters, words)?;
+    Ok(Next { left, size })
 }

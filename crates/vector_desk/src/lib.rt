@@ -18,6 +18,7 @@ mod shown; // shown.rt: the line of a call
 use calls::{Next, run_step};
 pub use litres::run_litres;
 use packing::DESK_BYTES;
+use std::io;
 use text::least;
 use vector_text::{ALL_WORDS, BYTE_BEFORE, MAX_TEXT, WORD_BEFORE, decode};
 
@@ -26,33 +27,43 @@ const ALL_LETTERS: usize = 3700;
 
 // Runs the steps of a line. Each takes at least a byte, so there are no more steps than bytes.
 fn run_steps(
+    rt: &impl Print,
     text: &mut [u8],
     size: usize,
     line: &[u8],
     desk: &mut [u8],
     letters: &mut [u8],
     words: &mut [u64],
-) {
+) -> io::Result<()> {
     let end = line.len();
     let mut next = Next { left: end, size };
     let mut turns = end;
     while 0 < turns {
         let at = end - least(next.left, end);
         if end <= at {
-            return;
+            return Ok(());
         }
-        let behind = run_step(text, next.size, &line[at..], desk, letters, words);
+        let behind = run_step(rt, text, next.size, &line[at..], desk, letters, words)?;
         next = behind;
         turns -= 1;
     }
+    Ok(())
 }
 
 // `digits` are the pattern's text of the first call; `line` is what stands behind it.
-pub fn run_desk(digits: &[u8], line: &[u8]) {
+pub fn run_desk(rt: &impl Print, digits: &[u8], line: &[u8]) -> io::Result<()> {
     let mut text = [0u8; MAX_TEXT];
     let size = decode(digits, &mut text);
     let mut desk = [BYTE_BEFORE; DESK_BYTES];
     let mut letters = [BYTE_BEFORE; ALL_LETTERS];
     let mut words = [WORD_BEFORE; ALL_WORDS];
-    run_steps(&mut text, size, line, &mut desk, &mut letters, &mut words);
+    run_steps(
+        rt,
+        &mut text,
+        size,
+        line,
+        &mut desk,
+        &mut letters,
+        &mut words,
+    )
 }

@@ -1,6 +1,7 @@
 // Totals by the calls from C, which write into lent cells. Behind the pattern's text a case has the code's bytes in hexadecimal, and in decimal
 // the code's bit count, how many cells are lent, and three dates as these calls take them: the tape's start, the term's first and its last. It
 // prints two lines, of all litres and of those of the term: number, value, and each cell of the array whose start is lent.
+use std::io;
 use text::{least, put_pair, put_parted};
 use vector_text::{MAX_CODE, decode, field, number, part_before, print_line, rest, say_bad};
 use wumbyra::{wumbyra_term_totals, wumbyra_totals};
@@ -27,53 +28,66 @@ fn put_cells(out: &mut [u8], at: usize, litres: &[u32]) -> usize {
 }
 
 // Prints a line, which takes less than 2,048 bytes.
-fn print_litres(answer: u64, litres: &[u32]) {
+fn print_litres(rt: &impl Print, answer: u64, litres: &[u32]) -> io::Result<()> {
     let mut out = [0u8; 2048];
     let a = put_pair(&mut out, 0, answer / HALF, answer % HALF);
     let b = put_cells(&mut out, a, litres);
-    print_line(&mut out, b);
+    print_line(rt, &mut out, b)
 }
 
 // Asked for more cells than there are, both lend all of them.
-fn total_all(text: &[u8], code: &[u8], count: u32, cells: usize, litres: &mut [u32]) {
+fn total_all(
+    rt: &impl Print,
+    text: &[u8],
+    code: &[u8],
+    count: u32,
+    cells: usize,
+    litres: &mut [u32],
+) -> io::Result<()> {
     let lent = least(cells, litres.len());
     let answer = wumbyra_totals(text, code, count, &mut litres[..lent]);
-    print_litres(answer, litres);
+    print_litres(rt, answer, litres)
 }
 
 // `line` has the dates.
-fn total_term(text: &[u8], code: &[u8], count: u32, cells: usize, line: &[u8], litres: &mut [u32]) {
+fn total_term(
+    rt: &impl Print,
+    text: &[u8],
+    code: &[u8],
+    count: u32,
+    cells: usize,
+    line: &[u8],
+    litres: &mut [u32],
+) -> io::Result<()> {
     let behind = rest(line);
     let start = number(field(line));
     let first = number(field(behind));
     let last = number(rest(behind));
     let lent = least(cells, litres.len());
     let answer = wumbyra_term_totals(text, code, count, start, first, last, &mut litres[..lent]);
-    print_litres(answer, litres);
+    print_litres(rt, answer, litres)
 }
 
 // Behind the bit count.
-fn run_cells(text: &[u8], code: &[u8], count: u32, line: &[u8]) {
+fn run_cells(rt: &impl Print, text: &[u8], code: &[u8], count: u32, line: &[u8]) -> io::Result<()> {
     let dates = rest(line);
     if rest(rest(dates)).len() == 0 {
-        say_bad();
-        return;
+        return say_bad(rt);
     }
     let cells = number(field(line)) as usize;
     let mut all = [CELL_BEFORE; ALL_CELLS];
-    total_all(text, code, count, cells, &mut all);
+    total_all(rt, text, code, count, cells, &mut all)?;
     let mut dated = [CELL_BEFORE; ALL_CELLS];
-    total_term(text, code, count, cells, dates, &mut dated);
+    total_term(rt, text, code, count, cells, dates, &mut dated)
 }
 
-pub fn run_litres(text: &[u8], line: &[u8]) {
+pub fn run_litres(rt: &impl Print, text: &[u8], line: &[u8]) -> io::Result<()> {
     let digits = field(line);
     let mut code = [0u8; MAX_CODE];
     let size = decode(digits, &mut code);
     if size + size != digits.len() {
-        say_bad();
-        return;
+        return say_bad(rt);
     }
     let behind = rest(line);
-    run_cells(text, &code[..size], number(field(behind)), rest(behind));
+    run_cells(rt, text, &code[..size], number(field(behind)), rest(behind))
 }

@@ -1,5 +1,6 @@
 // The line of a call, fields parted by tabs: number and value, the desk's count and lengths, digests of all cells of letters and of all words; behind
 // an accepted call the letters held, and of few the words. Each `put_` function puts its bytes into `out` from `at` on and answers where they end.
+use std::io;
 use syntax::Pattern;
 use text::{least, put_pair, put_parted};
 use vector_text::{START, of_words, part_before, print_line, put_digest, put_shown};
@@ -60,10 +61,16 @@ fn put_accepted(out: &mut [u8], at: usize, answer: u64, letters: &[u8], words: &
 }
 
 // Prints the line, which takes less than 1,024 bytes.
-pub(crate) fn print_call(answer: u64, desk: &[u8], letters: &[u8], words: &[u64]) {
+pub(crate) fn print_call(
+    rt: &impl Print,
+    answer: u64,
+    desk: &[u8],
+    letters: &[u8],
+    words: &[u64],
+) -> io::Result<()> {
     let mut out = [0u8; 1024];
     let a = put_pair(&mut out, 0, answer / HALF, answer % HALF);
     let b = put_state(&mut out, a, desk, letters, words);
     let c = put_accepted(&mut out, b, answer, letters, words);
-    print_line(&mut out, c);
+    print_line(rt, &mut out, c)
 }

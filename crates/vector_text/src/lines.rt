@@ -3,7 +3,7 @@ ghost use Rattle.std.specs.Prelude.{◌≡◌, [], ◌∷◌, ◌<◌, ◌≤◌
 ghost use Rattle.text.specs.Text.{PutsTo};
 ghost use Rattle.vector_text.specs.Cases.{before_input, most_held, kept_size, Holds, Refills};
 
-use libc::STDIN_FILENO;
+use std::io::Read;
 use text::least;
 
 // The bytes of the chunk from `from` to before `to` are still to be held. `size` counts those held of a line; one above
@@ -80,11 +80,10 @@ fn hold(line: &mut [u8], chunk: &[u8], input: Input) -> Input
 }
 
 // A read that fails ends the input too.
-fn refill(chunk: &mut [u8], input: Input) -> Input
+fn refill(reader: &mut impl Read, chunk: &mut [u8], input: Input) -> Input
     ensures { Refills chunk.new input result }
 {
-    let got = libc::read(STDIN_FILENO, chunk);
-    let n = io::count(got, chunk);
+    let n = reader.read(chunk).unwrap_or(0);
     Input {
         from: 0,
         to: n,
@@ -95,12 +94,12 @@ fn refill(chunk: &mut [u8], input: Input) -> Input
 }
 
 // One step on: what is left of the chunk is held up to the next byte 10, or a new chunk is read where nothing is left.
-pub fn advance(line: &mut [u8], chunk: &mut [u8], input: Input) -> Input
+pub fn advance(reader: &mut impl Read, line: &mut [u8], chunk: &mut [u8], input: Input) -> Input
     ensures holds { input.from < input.to → Holds line.old chunk.old input line.new result × (chunk.new ≡ chunk.old) }
     ensures line_unchanged { input.to ≤ input.from → (line.new ≡ line.old) × Refills chunk.new input result }
 {
     if input.from < input.to {
         return hold(line, chunk, input);
     }
-    refill(chunk, input)
+    refill(reader, chunk, input)
 }

@@ -2,7 +2,7 @@
 ghost use Rattle.std.specs.Prelude.{◌≡◌, [], ◌∷◌};
 ghost use Rattle.std.proofs.lemmas.List.Edits.{sets};
 
-use libc::STDOUT_FILENO;
+use std::io;
 use text::put_byte;
 
 // Bytes held of a pattern's text, of a tape, and of a code.
@@ -21,14 +21,15 @@ pub const WORD_BEFORE: u64 = 0x5555555555555555;
 
 pub const BYTE_BEFORE: u8 = 0xAA;
 
-pub fn say_bad() {
-    io::write_all(STDOUT_FILENO, b"not a case\n");
+// The only error is that of the write.
+pub fn say_bad(rt: &impl Print) -> io::Result<()> {
+    rt.write_all(b"not a case\n")
 }
 
-// Ends the line in `out` at `at` with byte 10, and prints it.
-pub fn print_line(out: &mut [u8], at: usize)
+// Ends the line in `out` at `at` with byte 10, and prints it. The only error is that of the write, and `out` is the same behind it.
+pub fn print_line(rt: &impl Print, out: &mut [u8], at: usize) -> io::Result<()>
     ensures { out.new ≡ sets out.old at (10 ∷ []) }
 {
     let size = put_byte(out, at, b'\n');
-    io::write_all(STDOUT_FILENO, &out[..size]);
+    rt.write_all(&out[..size])
 }

@@ -2,6 +2,7 @@
 // by tabs, numbers in decimal. Each `put_` function puts its bytes into `out` from `at` on and answers where they end. What
 // does not fit is left out.
 use loading::{LoadOutcome, Loaded};
+use std::io;
 use syntax::{Leaf, Line, Node, Pattern};
 use text::{put_byte, put_pair, put_parted, put_refusal};
 use vector_text::print_line;
@@ -69,11 +70,11 @@ fn put_lines(out: &mut [u8], at: usize, p: Pattern) -> usize {
 }
 
 // Prints the outcome, then the table's lines: a refused load's table has none. All take less than 1,024 bytes.
-pub(crate) fn print_loaded(loaded: Loaded) {
+pub(crate) fn print_loaded(rt: &impl Print, loaded: Loaded) -> io::Result<()> {
     let outcome = loaded.outcome;
     let pattern = loaded.pattern;
     let mut out = [0u8; 1024];
     let head = put_outcome(&mut out, outcome);
     let end = put_lines(&mut out, head, pattern);
-    print_line(&mut out, end);
+    print_line(rt, &mut out, end)
 }

@@ -2,6 +2,7 @@
 // the tape in hexadecimal. The line has 0, the reach and the position at which the tape resumes, or a refusal's number and
 // value.
 use reach::{Located, locate};
+use std::io;
 use syntax::Pattern;
 use text::{put_pair, put_parted, put_refusal};
 use vector_text::{MAX_TAPE, decode, field, print_line, say_bad};
@@ -20,19 +21,18 @@ fn put_located(out: &mut [u8], located: Located) -> usize {
 }
 
 // Prints the line of a case, which takes less than 32 bytes.
-fn print_located(located: Located) {
+fn print_located(rt: &impl Print, located: Located) -> io::Result<()> {
     let mut out = [0u8; 32];
     let end = put_located(&mut out, located);
-    print_line(&mut out, end);
+    print_line(rt, &mut out, end)
 }
 
-pub(crate) fn run_locate(p: Pattern, line: &[u8]) {
+pub(crate) fn run_locate(rt: &impl Print, p: Pattern, line: &[u8]) -> io::Result<()> {
     let digits = field(line);
     let mut tape = [0u8; MAX_TAPE];
     let size = decode(digits, &mut tape);
     if size + size != digits.len() {
-        say_bad();
-        return;
+        return say_bad(rt);
     }
-    print_located(locate(p, &tape[..size]));
+    print_located(rt, locate(p, &tape[..size]))
 }

@@ -16,6 +16,8 @@ use load_cases::print_loaded;
 use loading::{Loaded, load};
 use locate_cases::run_locate;
 use parse_cases::run_parse;
+use std::io;
+use std::io::Read;
 use syntax::Pattern;
 use table_cases::with_account;
 use vector_codes::{run_code, run_span, run_term};
@@ -29,98 +31,98 @@ const MAX_LINE: usize = 20480;
 const MAX_STORED: u32 = 255;
 
 // `line` is what stands behind the pattern's text.
-fn run_service(kind: u8, p: Pattern, line: &[u8]) {
+fn run_service(rt: &impl Print, kind: u8, p: Pattern, line: &[u8]) -> io::Result<()> {
     match kind {
-        b'p' => run_parse(p, line),
-        b'c' => run_code(p, line),
-        b's' => run_span(p, line),
-        b't' => run_term(p, line),
-        b'b' => run_locate(p, line),
-        _ => say_bad(),
+        b'p' => run_parse(rt, p, line),
+        b'c' => run_code(rt, p, line),
+        b's' => run_span(rt, p, line),
+        b't' => run_term(rt, p, line),
+        b'b' => run_locate(rt, p, line),
+        _ => say_bad(rt),
     }
 }
 
 // Behind the pattern's text: a line of the table and its account, in decimal, then a case's kind and what it has behind its text.
-fn run_altered(p: Pattern, line: &[u8]) {
+fn run_altered(rt: &impl Print, p: Pattern, line: &[u8]) -> io::Result<()> {
     let behind = rest(line);
     let service = rest(behind);
     let account = number(field(behind));
     if service.len() == 0 {
-        say_bad();
-        return;
+        return say_bad(rt);
     }
     if MAX_STORED < account {
-        say_bad();
-        return;
+        return say_bad(rt);
     }
     let table = with_account(p, number(field(line)) as usize, account as u8);
-    run_service(service[0], table, rest(service));
+    run_service(rt, service[0], table, rest(service))
 }
 
-fn run_kind(kind: u8, loaded: Loaded, line: &[u8]) {
+fn run_kind(rt: &impl Print, kind: u8, loaded: Loaded, line: &[u8]) -> io::Result<()> {
     let p = loaded.pattern;
     match kind {
-        b'l' => print_loaded(loaded),
-        b'a' => run_altered(p, line),
-        _ => run_service(kind, p, line),
+        b'l' => print_loaded(rt, loaded),
+        b'a' => run_altered(rt, p, line),
+        _ => run_service(rt, kind, p, line),
     }
 }
 
-fn run_case(line: &[u8]) {
+fn run_case(rt: &impl Print, line: &[u8]) -> io::Result<()> {
     if line.len() == 0 {
-        say_bad();
-        return;
+        return say_bad(rt);
     }
     let fields = rest(line);
     let digits = field(fields);
     let mut text = [0u8; MAX_TEXT];
     let size = decode(digits, &mut text);
     if size + size != digits.len() {
-        say_bad();
-        return;
+        return say_bad(rt);
     }
     let kind = line[0];
     if kind == b'd' {
-        run_desk(digits, rest(fields));
-        return;
+        return run_desk(rt, digits, rest(fields));
     }
     if kind == b'f' {
-        run_litres(&text[..size], rest(fields));
-        return;
+        return run_litres(rt, &text[..size], rest(fields));
     }
-    run_kind(kind, load(&text[..size]), rest(fields));
+    run_kind(rt, kind, load(&text[..size]), rest(fields))
 }
 
 // Runs the line that is complete, if one is. A size above that of `line` marks one that did not fit.
-fn run_line(line: &[u8], input: Input) {
+fn run_line(rt: &impl Print, line: &[u8], input: Input) -> io::Result<()> {
     if !input.complete {
-        return;
+        return Ok(());
     }
     let size = input.size;
     if line.len() < size {
-        say_bad();
-        return;
+        return say_bad(rt);
     }
-    run_case(&line[..size]);
+    run_case(rt, &line[..size])
 }
 
 // Nothing says that the input ends, so the loop counts its turns down from a number that no run uses up.
-fn run_all(line: &mut [u8], chunk: &mut [u8]) {
+fn run_all(
+    rt: &impl Print,
+    reader: &mut impl Read,
+    line: &mut [u8],
+    chunk: &mut [u8],
+) -> io::Result<()> {
     let mut input = no_input();
     let mut turns = u64::MAX;
     while turns > 0 {
-        let next = advance(line, chunk, input);
+        let next = advance(reader, line, chunk, input);
         if next.ended {
-            return;
+            return Ok(());
         }
-        run_line(line, next);
+        run_line(rt, line, next)?;
         input = next;
         turns -= 1;
     }
+    Ok(())
 }
 
-fn main() {
+// A write that fails ends the run.
+fn main(rt: HostRuntime) -> io::Result<()> {
     let mut line = [0u8; MAX_LINE];
-    let mut chunk = io::buffer();
-    run_all(&mut line, &mut chunk);
+    let mut chunk = [0u8; 4096];
+    run_all(&rt, &mut rt.stdin(), &mut line, &mut chunk)
 }

@@ -3,6 +3,7 @@
 // lent parts are the starts of larger arrays, whose cells are set before each case. Each `put_` function puts its bytes
 // into `out` from `at` on and answers where they end. What does not fit is left out.
 use parser::{Parsed, parse};
+use std::io;
 use syntax::Pattern;
 use text::{least, put_pair, put_parted, put_refusal};
 use vector_text::{
@@ -50,57 +51,63 @@ fn put_words(out: &mut [u8], at: usize, words: &[u64], lent: usize, letters: usi
 // Prints the line of a case, which takes less than 1,024 bytes: `lent` words and `bytes` bytes were lent for a tape of so
 // many letters.
 fn print_parsing(
+    rt: &impl Print,
     parsed: Parsed,
     words: &[u64],
     lent: usize,
     code: &[u8],
     bytes: usize,
     letters: usize,
-) {
+) -> io::Result<()> {
     let mut out = [0u8; 1024];
     let a = put_parsed(&mut out, parsed);
     let b = put_left(&mut out, a, START, words, lent, code, bytes);
     let c = put_words(&mut out, b, words, lent, letters);
-    print_line(&mut out, c);
+    print_line(rt, &mut out, c)
 }
 
 // Reads the tape with the first `most_words` words and the first `most_bytes` bytes lent, as far as there are any.
 fn run_parts(
+    rt: &impl Print,
     p: Pattern,
     tape: &[u8],
     words: &mut [u64],
     most_words: usize,
     code: &mut [u8],
     most_bytes: usize,
-) {
+) -> io::Result<()> {
     let lent = least(most_words, words.len());
     let bytes = least(most_bytes, code.len());
     let parsed = parse(p, tape, &mut words[..lent], &mut code[..bytes]);
-    print_parsing(parsed, words, lent, code, bytes, tape.len());
+    print_parsing(rt, parsed, words, lent, code, bytes, tape.len())
 }
 
-fn run_lent(p: Pattern, tape: &[u8], lent: usize, bytes: usize) {
+fn run_lent(rt: &impl Print, p: Pattern, tape: &[u8], lent: usize, bytes: usize) -> io::Result<()> {
     let mut words = [WORD_BEFORE; ALL_WORDS];
     let mut code = [BYTE_BEFORE; ALL_BYTES];
-    run_parts(p, tape, &mut words, lent, &mut code, bytes);
+    run_parts(rt, p, tape, &mut words, lent, &mut code, bytes)
 }
 
-fn run_sizes(p: Pattern, tape: &[u8], line: &[u8]) {
+fn run_sizes(rt: &impl Print, p: Pattern, tape: &[u8], line: &[u8]) -> io::Result<()> {
     let last = rest(line);
     if last.len() == 0 {
-        say_bad();
-        return;
+        return say_bad(rt);
     }
-    run_lent(p, tape, number(field(line)) as usize, number(last) as usize);
+    run_lent(
+        rt,
+        p,
+        tape,
+        number(field(line)) as usize,
+        number(last) as usize,
+    )
 }
 
-pub(crate) fn run_parse(p: Pattern, line: &[u8]) {
+pub(crate) fn run_parse(rt: &impl Print, p: Pattern, line: &[u8]) -> io::Result<()> {
     let digits = field(line);
     let mut tape = [0u8; MAX_TAPE];
     let size = decode(digits, &mut tape);
     if size + size != digits.len() {
-        say_bad();
-        return;
+        return say_bad(rt);
     }
-    run_sizes(p, &tape[..size], rest(line));
+    run_sizes(rt, p, &tape[..size], rest(line))
 }

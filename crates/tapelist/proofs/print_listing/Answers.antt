@@ -7,12 +7,12 @@ use borrow.Author.Rules.{rules}
 use Rattle.tapelist.proofs.print_listing.Goals as goal
 
 pub slice_bounds-out-end : goal.slice_bounds-out-end
-slice_bounds-out-end c =     listed-within _ _ _ _ _ _ c.list.ensures c.in-Bytes.is (search rules) (search rules)
+slice_bounds-out-end g c = listed-within _ _ _ _ _ _ c.list.ensures c.in-Bytes.is (search rules) (search rules)
 
 pub slice_bounds-print-end : goal.slice_bounds-print-end
-slice_bounds-print-end c =     sym (length-take-le _ _
+slice_bounds-print-end g c = sym (length-take-le _ _
     (listed-within _ _ _ _ _ _ c.list.ensures c.in-Bytes.is (search rules)
     (search rules)))
 
 pub print-requires : goal.print-requires
-print-requires c =     prints _ _ _ _ _ _ c.list.ensures c.in-Bytes.is (search rules)
+print-requires g c = prints _ _ _ _ _ _ c.list.ensures c.in-Bytes.is (search rules)

@@ -1,13 +1,9 @@
 -- `vector_codes::code_cases::put_litres` meets its contract. The invariant: what is left to put gives what was to be put. The measure is what
 -- is left of the totals.
-use mathlib.Core.Path.{refl}
-use mathlib.Core.Logic.{inl}
 use Prim.Native.Nat.{◌-◌}
-use native.Mathlib.Omega.{arith}
 use lib.ListN.{length, drop}
-use Rattle.text.specs.Putting.{ToPut, put-start, put_turn, put_done}
-use Rattle.vector_codes.specs.Answers.{litres_text, litres_turn, litres_over}
-use borrow.Author.Rules.{rules}
+use Rattle.text.specs.Putting.{ToPut}
+use Rattle.vector_codes.specs.Answers.{litres_text}
 use Rattle.vector_codes.proofs.code_cases.put_litres.Given as goal
 
 abbrev pub invariant-loop-i : goal.invariant-loop-i

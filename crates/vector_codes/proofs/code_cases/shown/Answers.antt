@@ -1,6 +1,5 @@
 -- `vector_codes::code_cases::shown` meets its contract. The invariant: what is left out is 0. The measure is how many are left.
-use Rattle.vector_codes.specs.Answers.{LeftOut, none_left_out, one_left_out, shown_last, shown_first}
-use borrow.Author.Rules.{rules}
+use Rattle.vector_codes.specs.Answers.{none_left_out, one_left_out, shown_last, shown_first}
 use Rattle.vector_codes.proofs.code_cases.shown.Goals as goal
 
 pub loop-n-init : goal.loop-n-init

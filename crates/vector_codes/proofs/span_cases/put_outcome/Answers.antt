@@ -2,11 +2,10 @@
 use mathlib.Core.Path.{sym, ap}
 use Rattle.spans.specs.Spans.{span_outcome}
 use Rattle.vector_codes.specs.Answers.{puts_answer}
-use borrow.Author.Rules.{rules}
 use Rattle.vector_codes.proofs.span_cases.put_outcome.Goals as goal
 
 pub returns-in-Shown : goal.returns-in-Shown
-returns-in-Shown c =     puts_answer _ _ (ap span_outcome (sym c.in-Shown.is)) c.put_pair.ensures
+returns-in-Shown c = puts_answer _ _ (ap span_outcome (sym c.in-Shown.is)) c.put_pair.ensures
 
 pub returns-in-Refused : goal.returns-in-Refused
-returns-in-Refused c =     puts_answer _ _ (ap span_outcome (sym c.in-Refused.is)) c.put_refusal.ensures
+returns-in-Refused c = puts_answer _ _ (ap span_outcome (sym c.in-Refused.is)) c.put_refusal.ensures

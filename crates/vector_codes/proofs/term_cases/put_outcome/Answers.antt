@@ -2,11 +2,10 @@
 use mathlib.Core.Path.{sym, ap}
 use Rattle.terms.specs.Terms.{term_outcome}
 use Rattle.vector_codes.specs.Answers.{puts_answer}
-use borrow.Author.Rules.{rules}
 use Rattle.vector_codes.proofs.term_cases.put_outcome.Goals as goal
 
 pub returns-in-Added : goal.returns-in-Added
-returns-in-Added c =     puts_answer _ _ (ap term_outcome (sym c.in-Added.is)) c.put_pair.ensures
+returns-in-Added c = puts_answer _ _ (ap term_outcome (sym c.in-Added.is)) c.put_pair.ensures
 
 pub returns-in-Refused : goal.returns-in-Refused
-returns-in-Refused c =     puts_answer _ _ (ap term_outcome (sym c.in-Refused.is)) c.put_cause.ensures
+returns-in-Refused c = puts_answer _ _ (ap term_outcome (sym c.in-Refused.is)) c.put_cause.ensures

@@ -2,7 +2,6 @@
 use mathlib.Core.Path.{ap}
 use Rattle.text.specs.Putting.{puts_as}
 use Rattle.text.specs.Text.{field}
-use borrow.Author.Rules.{rules}
 use Rattle.vector_text.proofs.cells.put_digest.Goals as goal
 
 pub returns : goal.returns

@@ -1,11 +1,8 @@
 -- `vector_text::digest::of_bytes` meets its contract. The invariant: the digest goes on over what is left to the digest of all;
 -- the measure is what is left of the bytes asked for.
-use mathlib.Core.Path.{◌≡◌, refl, sym, ap, ◌∙◌}
+use mathlib.Core.Path.{◌≡◌}
 use Prim.Native.Nat.{◌-◌}
-use Rattle.vector_text.specs.Cases.{part, digest_step, bytes_digest}
-use Rattle.vector_text.specs.Parts.{part_done, part_over}
-use Rattle.vector_text.specs.Folds.{digest_turn}
-use borrow.Author.Rules.{rules}
+use Rattle.vector_text.specs.Cases.{part, bytes_digest}
 use Rattle.vector_text.proofs.digest.of_bytes.Given as goal
 
 abbrev pub invariant-loop-i : goal.invariant-loop-i

@@ -1,7 +1,6 @@
 -- `vector_text::digest::step` meets its contract: it is the definition.
 use mathlib.Core.Path.{refl}
 use Rattle.vector_text.specs.Cases.{digest_step}
-use borrow.Author.Rules.{rules}
 use Rattle.vector_text.proofs.digest.step.Goals as goal
 
 pub returns : goal.returns

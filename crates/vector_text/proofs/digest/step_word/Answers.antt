@@ -2,7 +2,6 @@
 use mathlib.Core.Path.{ap, ◌∙◌}
 use Prim.Native.Nat.{◌/◌}
 use Rattle.vector_text.specs.Cases.{digest_step}
-use borrow.Author.Rules.{rules}
 use Rattle.vector_text.proofs.digest.step_word.Goals as goal
 
 pub returns : goal.returns

@@ -1,11 +1,8 @@
 -- `vector_text::fields::field_end` meets its contract. The invariant: the position and what stands before the space from there
 -- on; the measure is what is left of the line.
-use lib.ListN.{length-take}
 use Prim.Native.Nat.{◌-◌}
-use native.Mathlib.Omega.{arith}
 use lib.ListN.{length}
-use Rattle.vector_text.specs.Folds.{SeeksByte, seek_start, seek_here, seek_next, seek_done}
-use borrow.Author.Rules.{rules}
+use Rattle.vector_text.specs.Folds.{SeeksByte}
 use Rattle.vector_text.proofs.fields.field_end.Given as goal
 
 abbrev pub invariant-loop-i : goal.invariant-loop-i

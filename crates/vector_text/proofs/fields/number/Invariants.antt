@@ -1,8 +1,7 @@
 -- `vector_text::fields::number` meets its contract. The invariant: what is left to read gives the number of all; the measure is what is left of the digits.
 use Prim.Native.Nat.{◌-◌}
 use lib.ListN.{length, drop}
-use Rattle.vector_text.specs.Folds.{Reads, reads-start, reads_turn, reads_done}
-use borrow.Author.Rules.{rules}
+use Rattle.vector_text.specs.Folds.{Reads}
 use Rattle.vector_text.proofs.fields.number.Given as goal
 
 abbrev pub invariant-loop-i : goal.invariant-loop-i

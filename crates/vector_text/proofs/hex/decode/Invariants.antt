@@ -1,14 +1,8 @@
 -- `vector_text::hex::decode` meets its contract. The invariant: what is left to decode gives what was to be put; the measure is what is left of the text.
-use mathlib.Core.Path.{refl}
-use mathlib.Core.Logic.{inl, inr}
 use Prim.Native.Nat.{◌-◌, ◌*◌}
-use native.Mathlib.Omega.{arith}
 use lib.ListN.{length, drop}
 use Rattle.vector_text.specs.Cases.{hex_bytes}
-use Rattle.text.specs.Putting.{ToPut, put-start, put_turn, put_done, put_in}
-use Rattle.vector_text.specs.Parts.{puts_counts}
-use Rattle.vector_text.specs.Hexadecimal.{decode_stop, decode_next}
-use borrow.Author.Rules.{rules}
+use Rattle.text.specs.Putting.{ToPut}
 use Rattle.vector_text.proofs.hex.decode.Given as goal
 
 abbrev pub invariant-loop-n : goal.invariant-loop-n

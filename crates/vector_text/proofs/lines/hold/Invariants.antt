@@ -1,8 +1,6 @@
 -- `vector_text::lines::hold` meets its contract. The invariant: what is left of the chunk holds what was to be held; the measure is what is left of the chunk.
-use mathlib.Core.Logic.{inl, inr}
 use Prim.Native.Nat.{◌-◌}
-use Rattle.vector_text.specs.Held.{Holding, hold_start, hold_next, hold_line, hold_rest}
-use borrow.Author.Rules.{rules}
+use Rattle.vector_text.specs.Held.{Holding}
 use Rattle.vector_text.proofs.lines.hold.Given as goal
 
 abbrev pub invariant-loop-i : goal.invariant-loop-i

@@ -1,7 +1,6 @@
 -- `vector_text::lines::hold_byte` meets its contract: one law for the byte that fits and one for the one that does not.
 use native.Mathlib.Omega.{arith}
 use Rattle.text.specs.Putting.{put_in, put_full}
-use borrow.Author.Rules.{rules}
 use Rattle.vector_text.proofs.lines.hold_byte.Goals as goal
 
 pub returns-then-size-line : goal.returns-then-size-line
