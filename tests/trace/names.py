@@ -47,6 +47,17 @@ def read_file(path):
     return found
 
 
+def read_files(paths):
+    """The files of definitions, in specs/, and of laws, right in proofs/. One of each may have the same name."""
+    found = {}
+    for path in paths:
+        file, known = read_file(path), found.setdefault(path.stem, File())
+        known.names |= file.names
+        for owner, members in file.members.items():
+            known.members.setdefault(owner, set()).update(members)
+    return found
+
+
 def read_code(folder):
     """Functions, types, their fields and cases, constants and modules."""
     found = set()
@@ -58,10 +69,11 @@ def read_code(folder):
 
 
 def read_crate(folder):
-    sources = [*folder.glob("specs/*.antt"), *folder.glob("src/**/*.rt")]
+    stated = [*folder.glob("specs/*.antt"), *folder.glob("proofs/*.antt")]
+    sources = [*stated, *folder.glob("src/**/*.rt")]
     imports = " ".join(" ".join(IMPORT.findall(path.read_text(encoding="utf-8"))) for path in sources)
     return Crate(
-        files={path.stem: read_file(path) for path in folder.glob("specs/*.antt")},
+        files=read_files(stated),
         code=read_code(folder / "src"),
         edits={path.stem for path in folder.glob("must-fail/*.edit")},
         imported=set(re.split(r"[\s,]+|\bas\b", imports)),

@@ -7,7 +7,7 @@ TOKEN = re.compile(r"\"[^\"]*\"|`[^`]*`|[\w.*-]*[\w*](?:/[\w.*-]*[\w*])+/?|'s\b|
 FILE = re.compile(r"[A-Z][a-z]+[A-Za-z0-9]*")
 TWO_CAPITALS = re.compile(r"(?:[A-Z][a-z]+){2,}\d*")
 EDIT = re.compile(r"[a-z0-9]+(?:_[a-z0-9]+)+")
-FILE_PATH = re.compile(r"(?:crates/)?(\w+)/specs(?:/([A-Z]\w*))?")
+FILE_PATH = re.compile(r"(?:crates/)?(\w+)/(?:specs|proofs)(?:/([A-Z]\w*))?")
 HEADING = re.compile(r"#+ Crates? (.*)")
 
 
@@ -83,7 +83,7 @@ class Reader:
             self.crate = self.folder = None
 
     def say_of_group(self, inside):
-        """Behind names, `(File)`, `(crate, File)`, `(crate ..)` or `(crate/specs/File)`: where these names are."""
+        """Behind names, `(File)`, `(crate, File)`, `(crate ..)`, `(crate/specs/File)` or `(crate/proofs/File)`: where these names are."""
         first, second = [*inside, "", ""][:2]
         path = FILE_PATH.fullmatch(first)
         if path:
