@@ -1,17 +1,11 @@
 -- `agree::agree` meets its contract.
-use Rattle.agree.specs.AgreeLaws.{refusal_canonicalized, left_end, agrees_first, agrees-second, agrees-both}
+use Rattle.agree.specs.AgreeLaws.{left_end, agrees_first, agrees-second, agrees-both}
 use lib.Seq.{length-take-le}
 use mathlib.Core.Path.{sym}
 use Rattle.agree.proofs.agree.Goals as goal
 
-pub why_unsettled-requires : goal.why_unsettled-requires
-why_unsettled-requires c = refusal_canonicalized _ _ c.in_default.is
-
 pub returns-in_default : goal.returns-in_default
 returns-in_default c = agrees_first _ _ _ _ _ _ _ _ _ _ _ _ _ _ _ _ _ _ c.canonicalize-first.ensures c.canonicalize-second.ensures _ c.why_unsettled.ensures
-
-pub why_unsettled-requires-in_default-second : goal.why_unsettled-requires-in_default-second
-why_unsettled-requires-in_default-second c = refusal_canonicalized _ _ c.in_default-second.is
 
 pub returns-in_default-second : goal.returns-in_default-second
 returns-in_default-second c = agrees-second _ _ _ _ _ _ _ _ _ _ _ _ _ _ _ _ _ _ c.canonicalize-first.ensures c.canonicalize-second.ensures _ _ c.in-Bits.is

@@ -1,11 +1,8 @@
 -- `agree::settle_again` meets its contract.
-use Rattle.agree.specs.AgreeLaws.{refusal_canonicalized, left_end, tape-length, words-kept, again_first, again_second, again-both}
+use Rattle.agree.specs.AgreeLaws.{left_end, again_first, again_second, again-both}
 use lib.Seq.{length-take-le}
-use mathlib.Core.Path.{sym, ◌∙◌}
+use mathlib.Core.Path.{sym}
 use Rattle.agree.proofs.settle_again.Goals as goal
-
-pub why_unsettled-requires : goal.why_unsettled-requires
-why_unsettled-requires c = refusal_canonicalized _ _ c.in_default.is
 
 pub returns-in_default : goal.returns-in_default
 returns-in_default c = again_first _ _ _ c.args.two.now c.args.m _ _ _ _ _ _ _ c.canonicalize-third.ensures _ c.why_unsettled.ensures
@@ -15,9 +12,6 @@ slice_bounds-equal-end c = left_end _ _ _ _ _ _ _ _ _ _ _ c.canonicalize-third.e
 
 pub slice_bounds-equal-end-2 : goal.slice_bounds-equal-end-2
 slice_bounds-equal-end-2 c = sym (length-take-le _ _ (left_end _ _ _ _ _ _ _ _ _ _ _ c.canonicalize-third.ensures c.in-Bits.is _ c.bytes_for-i.ensures))
-
-pub why_unsettled-requires-in_default-fourth : goal.why_unsettled-requires-in_default-fourth
-why_unsettled-requires-in_default-fourth c = refusal_canonicalized _ _ c.in_default-fourth.is
 
 pub returns-in_default-fourth : goal.returns-in_default-fourth
 returns-in_default-fourth c = again_second _ _ _ c.args.two.now c.args.m _ _ _ _ _ _ _ c.canonicalize-third.ensures _ c.in-Bits.is _ _ _ _
@@ -29,16 +23,9 @@ slice_bounds-equal-end-3 c = left_end _ _ _ _ _ _ _ _ _ _ _ c.canonicalize-fourt
 pub slice_bounds-equal-end-4 : goal.slice_bounds-equal-end-4
 slice_bounds-equal-end-4 c = sym (length-take-le _ _ (left_end _ _ _ _ _ _ _ _ _ _ _ c.canonicalize-fourth.ensures c.in-Bits-fourth.is _ c.bytes_for-j.ensures))
 
-pub shape_of-tape : goal.shape_of-tape
-shape_of-tape c = tape-length _ _ _ _ _ _ _ _ _ _ _ c.canonicalize-fourth.ensures c.in-Bits-fourth.is
-    ∙ tape-length _ _ _ _ _ _ _ _ _ _ _ c.canonicalize-third.ensures c.in-Bits.is
-
-pub shape_of-words : goal.shape_of-words
-shape_of-words c = words-kept _ _ _ _ _ _ _ _ _ _ _ c.canonicalize-fourth.ensures c.in-Bits-fourth.is
-    ∙ words-kept _ _ _ _ _ _ _ _ _ _ _ c.canonicalize-third.ensures c.in-Bits.is
-
 pub returns : goal.returns
-returns c = let c39 = c.before in
+returns c =
+    let c39 = c.before in
     again-both _ _ _ c.args.two.now c.args.m _ _ _ _ _ _ _ c.canonicalize-third.ensures _ c.in-Bits.is _ _ _ _
     c.canonicalize-fourth.ensures _ _ _ c.in-Bits-fourth.is c.bytes_for-i.ensures c.bytes_for-j.ensures _ _ _ c.equal-one_back.ensures
     c.equal-two_back.ensures c.equal.ensures _ c.conclude.ensures

@@ -12,7 +12,8 @@ pub returns-then-month-gt-MONTHS : goal.returns-then-month-gt-MONTHS
 returns-then-month-gt-MONTHS c = month_past _ _ c.if-month-lt1.false c.if-month-gt-MONTHS.true
 
 pub overflow_add-result : goal.overflow_add-result
-overflow_add-result c = let m = c.args.month in
+overflow_add-result c =
+    let m = c.args.month in
     omega (
       arith,
       c.leap_day.ensures,

@@ -1,11 +1,8 @@
 -- `canonical::canonicalize` meets its contract.
-use Rattle.canonical.specs.CanonicalLaws.{refusal_flattened, refusal_parsed, laid, laid-room, settle_refused, read_bits, read-refused, settle_read}
+use Rattle.canonical.specs.CanonicalLaws.{laid, laid-room, settle_refused, read_bits, read-refused, settle_read}
 use lib.Seq.{length-take-le}
 use mathlib.Core.Path.{sym}
 use Rattle.canonical.proofs.canonicalize.Goals as goal
-
-pub why_unspelled-requires : goal.why_unspelled-requires
-why_unspelled-requires c = refusal_flattened _ _ c.in_default.is
 
 pub returns-in_default : goal.returns-in_default
 returns-in_default c = settle_refused _ c.args.code.now _ c.args.tape.now _ _ c.flatten-flattened.ensures _ _ _ c.why_unspelled.ensures
@@ -17,9 +14,6 @@ slice_bounds-parse-end c = laid-room _ c.args.code.now _ c.args.tape.now _ _
 pub slice_bounds-parse-end-2 : goal.slice_bounds-parse-end-2
 slice_bounds-parse-end-2 c = sym (length-take-le _ _ (laid-room _ c.args.code.now _ c.args.tape.now _ _
     (laid _ c.args.code.now _ c.args.tape.now _ _ c.flatten-flattened.ensures _ c.in-Letters.is)))
-
-pub why_unread-requires : goal.why_unread-requires
-why_unread-requires c = refusal_parsed _ _ c.in_default-read.is
 
 pub returns-in_default-read : goal.returns-in_default-read
 returns-in_default-read c = settle_read _ c.args.code.now _ c.args.tape.now _ _

@@ -2,19 +2,17 @@
 use Rattle.codes.specs.SpellLaws.{spells_no, spells_other, spells_same}
 use mathlib.Core.Path.{refl}
 use borrow.Author.Tests.{not-true, not-false}
-use borrow.Author.Rules.{rules}
 use Rattle.codes.proofs.spells.Goals as goal
-
-pub enter-measured-requires : goal.enter-measured-requires
-enter-measured-requires c = record { good = (c.requires.good, c.requires.l_bound.0); letters_len_bound = search rules }
 
 pub returns-then-not-measured : goal.returns-then-not-measured
 returns-then-not-measured c = spells_no _ _ _ _ c.requires.l_bound.1 c.enter-measured.ensures (not-true _ c.if-not-measured.true)
 
 pub returns-then-measured-tape : goal.returns-then-measured-tape
-returns-then-measured-tape c = let read = c.enter-measured.ensures in
+returns-then-measured-tape c =
+    let read = c.enter-measured.ensures in
     spells_other _ _ _ _ c.requires.l_bound.1 read (not-false _ c.if-not-measured.false) c.if-measured-tape.true
 
 pub returns : goal.returns
-returns c = let read = c.enter-measured.ensures in
+returns c =
+    let read = c.enter-measured.ensures in
     spells_same _ _ _ _ c.requires.l_bound.1 read (not-false _ c.if-not-measured.false) c.if-measured-tape.false refl _ c.begins.ensures

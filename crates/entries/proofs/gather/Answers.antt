@@ -14,27 +14,31 @@ pub table_of-table-requires : goal.table_of-table-requires
 table_of-table-requires c = (obeys_iff _).0 (sym c.obeys_rules.ensures ∙ c.if-not-obeys_rules.false)
 
 pub overflow_sub-root : goal.overflow_sub-root
-overflow_sub-root c = let o = sym c.obeys_rules.ensures ∙ c.if-not-obeys_rules.false in
+overflow_sub-root c =
+    let o = sym c.obeys_rules.ensures ∙ c.if-not-obeys_rules.false in
     omega (arith, ((obeys_iff _).0 o).one)
 
-pub enter-measured-requires : goal.enter-measured-requires
-enter-measured-requires c = let pre = c.requires in
+pub enter-measured-requires-clause-good : goal.enter-measured-requires-clause-good
+enter-measured-requires-clause-good c =
     let o = sym c.obeys_rules.ensures ∙ c.if-not-obeys_rules.false in
     let r = (obeys_iff _).0 o in
-    record { good = (holds_good _ _ o c.table_of-table.ensures, omega (arith, r.one, r.few)); letters_len_bound = (omega (arith, pre.0), omega (arith, pre.1)) }
+    (holds_good _ _ o c.table_of-table.ensures, omega (arith, r.one, r.few))
 
 pub returns-then-not-measured : goal.returns-then-not-measured
-returns-then-not-measured c = let o = sym c.obeys_rules.ensures ∙ c.if-not-obeys_rules.false in
+returns-then-not-measured c =
+    let o = sym c.obeys_rules.ensures ∙ c.if-not-obeys_rules.false in
     let read = reads-root _ _ o c.table_of-table.ensures c.enter-measured.ensures in
     gather_not _ _ _ o read (not-true _ c.if-not-measured.true)
 
 pub returns-then-n-gt-MAX_LETTERS : goal.returns-then-n-gt-MAX_LETTERS
-returns-then-n-gt-MAX_LETTERS c = let o = sym c.obeys_rules.ensures ∙ c.if-not-obeys_rules.false in
+returns-then-n-gt-MAX_LETTERS c =
+    let o = sym c.obeys_rules.ensures ∙ c.if-not-obeys_rules.false in
     let read = reads-root _ _ o c.table_of-table.ensures c.enter-measured.ensures in
     gather_long _ _ _ o read (not-false _ c.if-not-measured.false) c.if-n-gt-MAX_LETTERS.true
 
 pub returns : goal.returns
-returns c = let pre = c.requires in
+returns c =
+    let pre = c.requires in
     let o = sym c.obeys_rules.ensures ∙ c.if-not-obeys_rules.false in
     let read = reads-root _ _ o c.table_of-table.ensures c.enter-measured.ensures in
     gather_done _ _ _ o read (not-false _ c.if-not-measured.false) c.if-n-gt-MAX_LETTERS.false pre.0 pre.1

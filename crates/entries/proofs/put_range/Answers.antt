@@ -5,30 +5,17 @@ use Rattle.entries.specs.Entries.{entries_short, entries_range, entries_outside}
 use Rattle.entries.specs.Entering.{not_entered, one_entered}
 use Rattle.entries.proofs.put_range.Goals as goal
 
-pub bits_in-requires : goal.bits_in-requires
-bits_in-requires c = c.requires.short
-
-pub overflow_add-at : goal.overflow_add-at
-overflow_add-at c = omega (arith, c.requires.within, c.requires.short)
-
 pub returns-then-bits_in-at : goal.returns-then-bits_in-at
 returns-then-bits_in-at c = not_entered refl refl c.failed.ensures (entries_short _ _ _ _ _ (omega (arith, c.if-bits_in-at.true, c.bits_in.ensures)))
 
-pub byte_at-c-requires : goal.byte_at-c-requires
-byte_at-c-requires c = omega (arith, c.if-bits_in-at.false, c.bits_in.ensures)
-
 pub returns-then-not-in_range : goal.returns-then-not-in_range
-returns-then-not-in_range c = let out = sym c.in_range.ensures ∙ c.if-not-in_range.true in
+returns-then-not-in_range c =
+    let out = sym c.in_range.ensures ∙ c.if-not-in_range.true in
     not_entered refl refl c.failed-then-not-in_range.ensures
     (entries_outside _ _ _ _ _ _ (omega (arith, c.if-bits_in-at.false, c.bits_in.ensures)) c.byte_at-c.ensures out)
 
-pub overflow_add-at-2 : goal.overflow_add-at-2
-overflow_add-at-2 c = omega (arith, c.requires.within, c.requires.short)
-
-pub put_entry-requires : goal.put_entry-requires
-put_entry-requires c = c.requires.few
-
 pub returns : goal.returns
-returns c = let inside = sym c.in_range.ensures ∙ c.if-not-in_range.false in
+returns c =
+    let inside = sym c.in_range.ensures ∙ c.if-not-in_range.false in
     one_entered (entries_range _ _ _ _ _ _ (omega (arith, c.if-bits_in-at.false, c.bits_in.ensures)) c.byte_at-c.ensures inside)
     c.put_entry.ensures.0 c.put_entry.ensures.1 c.put_entry.ensures.2

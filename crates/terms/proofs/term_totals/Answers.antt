@@ -6,9 +6,11 @@ pub total_dates-requires : goal.total_dates-requires
 total_dates-requires c = (c.gather-gathered.ensures.holds _ c.in-Entries.is).ready
 
 pub returns-in-Refused : goal.returns-in-Refused
-returns-in-Refused c = let gathers = c.gather-gathered.ensures in
+returns-in-Refused c =
+    let gathers = c.gather-gathered.ensures in
     rw c.no_term_totals.ensures (term_totals-refused _ _ _ _ _ _ (gathers.refuses _ c.in-Refused.is))
 
 pub returns-in-Entries : goal.returns-in-Entries
-returns-in-Entries c = let held = c.gather-gathered.ensures.holds _ c.in-Entries.is in
+returns-in-Entries c =
+    let held = c.gather-gathered.ensures.holds _ c.in-Entries.is in
     term_totals-dated _ _ _ _ _ held.clear _ held.entries _ c.total_dates.ensures

@@ -1,6 +1,5 @@
 -- `terms::total_dates` meets its contract.
 use mathlib.Core.Path.{sym, ap, ◌∙◌}
-use native.Mathlib.Omega.{arith}
 use Rattle.semantics.specs.Accounts.{totals}
 use Rattle.terms.specs.Days.{dates_tested}
 use Rattle.terms.specs.TermWays.{dates_undated, dates-no_term, dates-added}
@@ -16,10 +15,6 @@ returns-then-not-known c = let tested = dates_tested _ _ _ c.args.accounts.now c
     c.is_date-dates.ensures in
     let no_term = sym c.is_term-known.ensures ∙ c.if-not-known.true in
     rw c.no_term_totals-then-not-known.ensures (dates-no_term _ _ _ (tested ∙ c.if-not-dates.false) no_term)
-
-pub add_up-requires : goal.add_up-requires
-add_up-requires c = let kept = c.select_term-kept.ensures in
-    (kept.long, omega (arith, kept.few, c.requires.1), kept.own)
 
 pub returns : goal.returns
 returns c = let tested = dates_tested _ _ _ c.args.accounts.now c.requires.0 c.requires.2.wide _ c.last_date.ensures _

@@ -8,9 +8,11 @@ pub add_up-requires : goal.add_up-requires
 add_up-requires c = (c.gather-gathered.ensures.holds _ c.in-Entries.is).ready
 
 pub returns-in-Refused : goal.returns-in-Refused
-returns-in-Refused c = let gathers = c.gather-gathered.ensures in
+returns-in-Refused c =
+    let gathers = c.gather-gathered.ensures in
     rw c.no_totals.ensures (totals-refused _ _ _ _ (gathers.refuses _ c.in-Refused.is))
 
 pub returns-in-Entries : goal.returns-in-Entries
-returns-in-Entries c = let held = c.gather-gathered.ensures.holds _ c.in-Entries.is in
+returns-in-Entries c =
+    let held = c.gather-gathered.ensures.holds _ c.in-Entries.is in
     totals-added _ _ _ held.clear _ (c.add_up.ensures ∙ ap totals held.entries)
