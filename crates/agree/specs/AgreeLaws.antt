@@ -30,7 +30,7 @@ use Rattle.canonical.specs.CanonicalLaws.{Spelled, spelled_clear, settle_passed,
 use Rattle.canonical.specs.Unique.{canonicalized_same}
 use Rattle.canonical.specs.RoundTrip.{canonical_whole, canonical_spells, letters-readable}
 use Rattle.canonical.specs.Demand.{tape_of, Code, spells, Run, Settled, Equal, ThirdDemand}
-use Rattle.canonical.specs.Demanded.{third_demand}
+use Rattle.canonical.proofs.Demanded.{third_demand}
 use Rattle.agree.specs.Agree.{concluded, IsSettled, Compares, Worked, worked, filled, written}
 use Rattle.agree.specs.Agree.{SettlesAgain, ComesBack, front, Verdict, Suffice, OnRun, Agrees}
 

@@ -23,8 +23,9 @@ use Rattle.syntax.specs.Trees.{made, tree_of, root}
 use Rattle.syntax.specs.TreeLaws.{Below, Rules, obeys_iff, tree-line}
 use Rattle.bits.specs.Bits.{in_front}
 use Rattle.semantics.specs.Value.{flat}
-use Rattle.semantics.proofs.LetterLaws.{Lettered, flat-letters}
-use Rattle.semantics.proofs.VisitLaws.{All}
+use Rattle.semantics.specs.Every.{Lettered}
+use Rattle.semantics.proofs.LetterLaws.{flat-letters}
+use Rattle.semantics.specs.Every.{All}
 use Rattle.steps.specs.StateSets.{words}
 use Rattle.entries.specs.CodeOrder.{code_order, clear_sound}
 use Rattle.codes.specs.declared.Flattened.{Flattened}

@@ -14,7 +14,7 @@ use Rattle.syntax.specs.Tree.{Label, Tree}
 use Rattle.syntax.specs.Trees.{made}
 use Rattle.bits.specs.Bits.{bit_at, byte_limit}
 use Rattle.semantics.specs.Accounts.{handed_down}
-use Rattle.semantics.proofs.AccountLaws.{letters}
+use Rattle.semantics.specs.Owned.{letters}
 use Rattle.semantics.specs.Positions.{Seen, joined}
 use Rattle.table.specs.Cells.{node_in, account_in, tree_in, Good}
 use Rattle.walks.specs.Looks.{stops, same_seen, then_some}

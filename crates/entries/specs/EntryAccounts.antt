@@ -16,8 +16,9 @@ use Rattle.bits.specs.Bits.{held}
 use Rattle.semantics.specs.Value.{Value}
 use Rattle.semantics.specs.Decode.{value_of}
 use Rattle.semantics.specs.Accounts.{accounts}
-use Rattle.semantics.proofs.AccountLaws.{Accounts, entries_below}
-use Rattle.semantics.proofs.VisitLaws.{All}
+use Rattle.semantics.specs.Owned.{Accounts}
+use Rattle.semantics.proofs.AccountLaws.{entries_below}
+use Rattle.semantics.specs.Every.{All}
 use Rattle.entries.specs.Gather.{entries_by, entries_of}
 
 -- ── where the accounts of a table's lines are below a, so are those of its tree ──

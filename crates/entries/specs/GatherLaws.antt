@@ -11,8 +11,9 @@ use Rattle.syntax.specs.Table.{obeys, account_limit}
 use Rattle.refusals.specs.Checks.{First}
 use Rattle.bits.specs.Bits.{in_front}
 use Rattle.semantics.specs.Accounts.{accounts}
-use Rattle.semantics.proofs.AccountLaws.{letters, entries_below}
-use Rattle.semantics.proofs.VisitLaws.{All}
+use Rattle.semantics.specs.Owned.{letters}
+use Rattle.semantics.proofs.AccountLaws.{entries_below}
+use Rattle.semantics.specs.Every.{All}
 use Rattle.table.specs.Cells.{tree_in, Holds}
 use Rattle.table.specs.CellLaws.{holds_tree}
 use Rattle.walks.specs.Whole.{whole_code, letters_of}

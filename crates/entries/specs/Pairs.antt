@@ -3,8 +3,8 @@ use Rattle.std.specs.Prelude.{◌≡◌, refl, Bool, true, false, List, [], ◌�
 use Rattle.std.proofs.Common.{ap, arith, length-append, length-set, get_or-set_same, get_or-set_other, eqb-true}
 use Rattle.std.proofs.lemmas.Bool.{eqb-false}
 use Rattle.syntax.specs.Table.{account_limit}
-use Rattle.semantics.proofs.AccountLaws.{letters}
-use Rattle.semantics.proofs.VisitLaws.{All}
+use Rattle.semantics.specs.Owned.{letters}
+use Rattle.semantics.specs.Every.{All}
 use Rattle.entries.specs.Entries.{Entries, accounts_in}
 use Rattle.entries.specs.WholeLaws.{length-accounts}
 use Rattle.entries.specs.Gather.{pairs, Owned}

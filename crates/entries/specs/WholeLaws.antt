@@ -12,7 +12,8 @@ use Rattle.bits.specs.Handed.{handed_fit}
 use Rattle.semantics.specs.Value.{Value}
 use Rattle.semantics.specs.Code.{code as bits_of}
 use Rattle.semantics.specs.Accounts.{entries}
-use Rattle.semantics.proofs.AccountLaws.{letters, entries-flat}
+use Rattle.semantics.specs.Owned.{letters}
+use Rattle.semantics.proofs.AccountLaws.{entries-flat}
 use Rattle.semantics.specs.Decode.{value_of}
 use Rattle.semantics.proofs.DecodeLaws.{read_code}
 use Rattle.semantics.proofs.CodeLaws.{value_of_sound}

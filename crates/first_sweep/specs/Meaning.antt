@@ -13,7 +13,8 @@ use Rattle.semantics.proofs.Basics.{and_fst, and_snd, and_intro, or_left, or_rig
 use Rattle.semantics.specs.Automaton.{Location, top, fst, snd, lft, rgt, rnd, State, end}
 use Rattle.semantics.specs.Automaton.{at, follower, Moves, to_first, to_left, to_right, to_round, skip, leave}
 use Rattle.semantics.specs.Sweeps.{can, readable}
-use Rattle.semantics.proofs.AutomatonLaws.{after, Passes, guarded_iff}
+use Rattle.semantics.specs.Passing.{after, Passes}
+use Rattle.semantics.proofs.AutomatonLaws.{guarded_iff}
 use Rattle.masks.specs.Nodes.{said, node_word, word-says}
 use Rattle.masks.specs.Closure.{reach, passes, reaches, nowhere, leaf_mask, end_mask}
 use Rattle.steps.specs.StateSets.{IsStateSet, state_set, words}

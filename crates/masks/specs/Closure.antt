@@ -10,7 +10,7 @@ use Rattle.bits.specs.Unions.{any_to, any_none, any_one}
 use Rattle.semantics.specs.Automaton.{Location, top, fst, snd, lft, rgt, rnd}
 use Rattle.semantics.specs.Sweeps.{can, at_end}
 use Rattle.semantics.proofs.FirstSweepLaws.{can_star}
-use Rattle.semantics.proofs.AutomatonLaws.{after}
+use Rattle.semantics.specs.Passing.{after}
 use Rattle.masks.specs.Nodes.{Predicate, node_word}
 
 -- Whether a node is open, where the leaf with index x is open if g x, and v says whether the node's follower is open with the node's flag

@@ -29,8 +29,9 @@ use Rattle.semantics.specs.Value.{Value, flat}
 use Rattle.semantics.specs.Code.{Canonical, code, choices, code_limit}
 use Rattle.semantics.specs.Automaton.{Location, top, fst, snd, lft, rgt, rnd}
 use Rattle.semantics.specs.Sweeps.{at_end, readable, greedy}
-use Rattle.semantics.proofs.AutomatonLaws.{after}
-use Rattle.semantics.proofs.BoundLaws.{nodes, choices-nodes, code_fits, bits_bound}
+use Rattle.semantics.specs.Passing.{after}
+use Rattle.semantics.specs.Owned.{nodes}
+use Rattle.semantics.proofs.BoundLaws.{choices-nodes, code_fits, bits_bound}
 use Rattle.semantics.proofs.SecondSweepLaws.{wrote}
 use Rattle.semantics.proofs.GreedyLaws.{greedy_canonical, canonical_greedy, readable_iff}
 use Rattle.steps.specs.StateSets.{state_set, words}

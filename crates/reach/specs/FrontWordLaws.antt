@@ -26,11 +26,12 @@ use Rattle.semantics.specs.Automaton.{top}
 use Rattle.semantics.specs.Sweeps.{at_end, readable}
 use Rattle.semantics.proofs.Basics.{and_fst, and_snd, and_intro, or_left, or_right, or_cases, not-both, eqb_self, eqb_eq}
 use Rattle.semantics.proofs.FirstSweepLaws.{bool_ext}
-use Rattle.semantics.proofs.VisitLaws.{All}
+use Rattle.semantics.specs.Every.{All}
 use Rattle.semantics.specs.Begins.{Begins, Reach}
 use Rattle.semantics.proofs.BeginLaws.{root_stocked, onward, begins_iff, begins_none}
 use Rattle.semantics.specs.Fronts.{reach_of}
-use Rattle.semantics.proofs.FrontLaws.{Follows, reading-reach, reach_of_only}
+use Rattle.semantics.specs.Followed.{Follows}
+use Rattle.semantics.proofs.FrontLaws.{reading-reach, reach_of_only}
 use Rattle.table.specs.Cells.{follower_in, loops_in, Followed, Holds}
 use Rattle.masks.specs.Leaves.{takes, takers, entry}
 use Rattle.masks.specs.Masks.{MasksOf}

@@ -23,7 +23,7 @@ use Rattle.bits.specs.Lowest.{lowest_cleared}
 use Rattle.bits.specs.Unions.{pick, union, union_same}
 use Rattle.semantics.specs.Begins.{Reach, Resumes}
 use Rattle.semantics.specs.Sweeps.{at_end}
-use Rattle.semantics.proofs.VisitLaws.{All}
+use Rattle.semantics.specs.Every.{All}
 use Rattle.table.specs.Cells.{follower_in, Holds}
 use Rattle.masks.specs.Leaves.{entry}
 use Rattle.masks.specs.Masks.{MasksOf}

@@ -11,7 +11,8 @@ use Rattle.bits.specs.Bits.{test_bit}
 use Rattle.semantics.proofs.Basics.{not-both}
 use Rattle.semantics.specs.Begins.{Ends, Resumes}
 use Rattle.semantics.proofs.BeginLaws.{root_stocked}
-use Rattle.semantics.proofs.EndLaws.{OpenNode, ends_none, ends_open_iff}
+use Rattle.semantics.specs.Passing.{OpenNode}
+use Rattle.semantics.proofs.EndLaws.{ends_none, ends_open_iff}
 use Rattle.table.specs.Cells.{NodeAt}
 use Rattle.masks.specs.Nodes.{node_at}
 use Rattle.masks.specs.Planting.{root_planted}

@@ -6,8 +6,9 @@ use Rattle.semantics.specs.Value.{nonempty, flat}
 use Rattle.bits.specs.Bits.{bits_of}
 use Rattle.semantics.specs.Code.{code}
 use Rattle.semantics.specs.Sweeps.{After, after_round, can}
-use Rattle.semantics.proofs.SecondSweepLaws.{BestOf}
-use Rattle.semantics.proofs.PartLaws.{seq_parts, left-part, right-part, goes_on, round-parts, stop_part}
+use Rattle.semantics.specs.Greatest.{BestOf}
+use Rattle.semantics.specs.Greatest.{goes_on}
+use Rattle.semantics.proofs.PartLaws.{seq_parts, left-part, right-part, round-parts, stop_part}
 
 -- the best value of a tree from letters w on, where k says what may follow: the letters that it spells and the bits that it writes
 pub record Sweeps (t : Tree) (k : After) (b : Bool) (w letters : List ℕ) (bits : List Bool) : Type 0 where

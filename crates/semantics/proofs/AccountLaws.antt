@@ -4,12 +4,14 @@ use Rattle.std.specs.Prelude.{◌≡◌, refl, ◌&&◌, Bool, cond, false, true
 use Rattle.std.proofs.lemmas.List.{map-append}
 use Rattle.syntax.specs.Table.{account_limit, one_digit_limit, stale}
 use Rattle.syntax.specs.Tree.{Label, Tree, nothing, letter, range, seq, alt, star}
+use Rattle.semantics.specs.Owned.{letters, Accounts, sum_below}
 use Rattle.semantics.specs.Value.{Value, flat_rounds, flat}
 use Rattle.semantics.specs.Visits.{label}
 use Rattle.semantics.specs.Accounts.{handed_down, owner, join_rounds, entries, accounts, litres, total, count_from, totals_to, totals, digits}
 use Rattle.semantics.specs.Innermost.{innermost, entries_with}
 use Rattle.semantics.proofs.Basics.{and_snd, eqb_eq, eqb_no, leb_le}
-use Rattle.semantics.proofs.VisitLaws.{All, all_append}
+use Rattle.semantics.specs.Every.{All}
+use Rattle.semantics.proofs.VisitLaws.{all_append}
 
 -- ── what a node hands down ──
 -- handed 9 it hands down 9, whatever its own account is
@@ -39,9 +41,6 @@ handed_none above = go (eqb above stale) refl
     go : (b : Bool) → eqb above stale ≡ b → cond b stale above ≡ above
     go true e = sym (eqb_eq above stale e)
     go false e = refl
-
-abbrev pub letters : List (ℕ × ℕ) → List ℕ
-letters es = map (λ e. e.0) es
 
 join_letters : {A : Type 0} (f : A → List ℕ) (g : A → List (ℕ × ℕ)) → ((v : A) → letters (g v) ≡ f v) → (vs : List A)
     → letters (join_rounds g vs) ≡ flat_rounds f vs
@@ -83,13 +82,6 @@ pub entries-own : (t : Tree) (o p : ℕ) (v : Value t) → (o ≡ stale → ⊥)
 entries-own t o p v i j h = entries-owner t o p v (owner-own (label t) o p i j h)
 
 -- ── every account is below n where the tree's are ──
-abbrev pub Accounts : ℕ → Tree → Type 0
-Accounts n (nothing m) = m.account < n
-Accounts n (letter m c) = m.account < n
-Accounts n (range m low high) = m.account < n
-Accounts n (seq m t u) = (m.account < n) × Accounts n t × Accounts n u
-Accounts n (alt m t u) = (m.account < n) × Accounts n t × Accounts n u
-Accounts n (star m again t) = (m.account < n) × Accounts n t
 
 owner_lt : (n : ℕ) (m : Label) (o : ℕ) → m.account < n → o < n → owner m o < n
 owner_lt n m o h k = go (eqb o stale) refl (eqb m.account 0)
@@ -188,10 +180,6 @@ no_stale (star m again t) o vs h k =
     ∙ join_same (entries t w) (entries_with innermost t w) (λ v. no_stale t w v h.1 n) vs
 
 -- ── totals ──
--- the sum of f 0 to f (n - 1)
-abbrev pub sum_below : ℕ → (ℕ → ℕ) → ℕ
-sum_below zero f = 0
-sum_below (suc n) f = sum_below n f + f n
 
 sum_add : (n : ℕ) (f g : ℕ → ℕ) → sum_below n (λ i. f i + g i) ≡ sum_below n f + sum_below n g
 sum_add zero f g = refl

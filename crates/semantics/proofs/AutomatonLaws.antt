@@ -4,6 +4,7 @@ use Rattle.std.specs.Prelude.{◌≡◌, refl, ◌&&◌, ◌||◌, Bool, false, 
 use Rattle.std.proofs.lemmas.Bool.{false≢true}
 use Rattle.std.proofs.Math.Bool.{or-false, or-true}
 use Rattle.syntax.specs.Tree.{Label, Tree, nothing, letter, range, seq, alt, star}
+use Rattle.semantics.specs.Passing.{loops, Passes, after, can_from}
 use Rattle.semantics.specs.Value.{Value, nonempty, flat_rounds, flat, nonproblematic}
 use Rattle.semantics.specs.Order.{less}
 use Rattle.semantics.specs.Code.{code}
@@ -13,7 +14,8 @@ use Rattle.semantics.specs.Sweeps.{After, after_round, can, BitsAfter, write, at
 use Rattle.semantics.proofs.Basics.{and_fst, and_snd, and_intro, or_left, or_right, eqb_self, nonempty-append, flag_join}
 use Rattle.semantics.proofs.OrderLaws.{less_iff_before-along}
 use Rattle.semantics.proofs.CompleteLaws.{full_round, after_round_full, after_round_on}
-use Rattle.semantics.proofs.SecondSweepLaws.{BestOf, wrote, best}
+use Rattle.semantics.specs.Greatest.{BestOf}
+use Rattle.semantics.proofs.SecondSweepLaws.{wrote, best}
 use Rattle.semantics.proofs.FirstSweepLaws.{can_iff, can_flag, can_star}
 
 guard : (l b : Bool) → (l ≡ true → b ≡ true) → (not l || b) ≡ true
@@ -22,14 +24,6 @@ guard false b f = refl
 
 -- ── whether the follower is a star above, computed ──
 module _ {root : Tree} where
-  abbrev pub loops : {t : Tree} → Location root t → Bool
-  loops top = false
-  loops (fst s) = false
-  loops (snd s) = loops s
-  loops (lft s) = loops s
-  loops (rgt s) = loops s
-  loops (rnd s) = true
-
   pub loops-above : {t : Tree} (s : Location root t) → loops s ≡ true → Above (follower s) s
   loops-above top h = false≢true h
   loops-above (fst s) h = absurd (false≢true h)
@@ -100,28 +94,10 @@ module _ {root : Tree} where
   above-loops (rgt s) a = ⊎_elim (λ e. absurd (follower_other s e)) (λ b. above-loops s b) a
   above-loops (rnd s) a = refl
 
-  -- the guard, by the computed form
-  abbrev pub Passes : {t : Tree} → Location root t → (flag : Bool) → Type 0
-  Passes s b = loops s ≡ true → b ≡ true
-
   pub guarded_iff : {t : Tree} (s : Location root t) (b : Bool) → Guarded s b ↔ Passes s b
   guarded_iff s b = (λ f e. f (loops-above s e), λ f a. f (above-loops s a))
 
 module _ {root : Tree} where
-  -- what may follow a node, as the first sweep is told
-  abbrev pub after : {t : Tree} → Location root t → After
-  after top = at_end
-  after (fst {u = u} s) = can u (after s)
-  after (snd s) = after s
-  after (lft s) = after s
-  after (rgt s) = after s
-  after (rnd {l = l} {again = again} {t = t} s) = after_round (can (star l again t) (after s))
-
-  -- the first sweep's answer at a state
-  abbrev pub can_from : State root → After
-  can_from end b w = at_end b w
-  can_from (at t s) b w = can t (after s) b w
-
   -- by the follower: 001's guard where that is a star above
   pub after-follower : {t : Tree} (s : Location root t) (b : Bool) (w : List ℕ) → after s b w ≡ ((not (loops s) || b) && can_from (follower s) b w)
   after-follower top b w = refl

@@ -2,6 +2,7 @@
 use Rattle.std.proofs.Common.{◌∙◌, inl, inr}
 use Rattle.std.specs.Prelude.{◌≡◌, refl, Bool, false, not, true, ◌⊎◌, ◌++◌, ◌∷◌, List, []}
 use Rattle.std.proofs.lemmas.Bool.{false≢true}
+use Rattle.semantics.specs.Greatest.{Top}
 use Rattle.semantics.specs.Code.{before}
 
 pub before-append : (xs ys us vs : List Bool) → before xs ys ≡ true → before (xs ++ us) (ys ++ vs) ≡ true
@@ -20,10 +21,6 @@ before_prefix (true ∷ p) xs ys = before_prefix p xs ys
 pub before_same : (b : Bool) (xs ys : List Bool) → before (b ∷ xs) (b ∷ ys) ≡ before xs ys
 before_same false xs ys = refl
 before_same true xs ys = refl
-
--- v is x, or its code comes first
-abbrev pub Top : {A : Type 0} → (A → List Bool) → A → A → Type 0
-Top c v x = (v ≡ x) ⊎ (before (c v) (c x) ≡ true)
 
 -- one after the other: the first decides, and where it is the same the second
 pub two_top : {A B : Type 0} (c : A → List Bool) (d : B → List Bool) (v x : A) (u y : B) → Top c v x → (v ≡ x → Top d u y)

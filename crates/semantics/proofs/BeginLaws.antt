@@ -19,9 +19,10 @@ use Rattle.semantics.specs.Begins.{Begins, Reach}
 use Rattle.semantics.proofs.Basics.{and_fst, and_snd, and_intro, le_leb, not-both}
 use Rattle.semantics.proofs.CompleteLaws.{complete}
 use Rattle.semantics.proofs.GreedyLaws.{readable_iff}
-use Rattle.semantics.proofs.AutomatonLaws.{after}
-use Rattle.semantics.proofs.VisitLaws.{All}
-use Rattle.semantics.proofs.LetterLaws.{Lettered, flat-letters}
+use Rattle.semantics.specs.Passing.{after}
+use Rattle.semantics.specs.Every.{All}
+use Rattle.semantics.specs.Every.{Lettered}
+use Rattle.semantics.proofs.LetterLaws.{flat-letters}
 
 -- ---- every range has a letter
 abbrev pub Stocked : Tree → Type 0

@@ -6,6 +6,7 @@ use Rattle.std.proofs.Common.{ap, inl, inr, mul-le-mul_left, mul-le-mul_right, a
 use Rattle.syntax.specs.Letter.{letter_limit}
 use Rattle.syntax.specs.Tree.{Tree, nothing, letter, range, seq, alt, star}
 use Rattle.bits.specs.Numbers.{length-bits_of}
+use Rattle.semantics.specs.Owned.{nodes}
 use Rattle.semantics.specs.Value.{Value, flat_rounds, nonproblematic_rounds, flat, nonproblematic}
 use Rattle.semantics.specs.Code.{code_rounds, code, code_limit, choices}
 use Rattle.semantics.proofs.Basics.{and_fst, and_snd, nonempty_pos}
@@ -88,15 +89,6 @@ bits_bound t v few ok = go (code-within t v ok)
     go : Within (choices t) (length (flat t v)) (length (code t v)) → length (code t v) ≤ 136 * length (flat t v) + 64
     go (inl p) = omega arith
     go (inr p) = omega (arith, mul-le-mul_right (length (flat t v)) few)
-
--- every node of a tree, leaves included
-abbrev pub nodes : Tree → ℕ
-nodes (nothing m) = 1
-nodes (letter m c) = 1
-nodes (range m low high) = 1
-nodes (seq m t u) = suc (nodes t + nodes u)
-nodes (alt m t u) = suc (nodes t + nodes u)
-nodes (star m again t) = suc (nodes t)
 
 -- some leaf is no choice: a tree of 64 nodes has at most 63 choices
 pub choices-nodes : (t : Tree) → choices t < nodes t

@@ -7,6 +7,7 @@ use Rattle.std.proofs.Math.Bool.{false, true}
 use Rattle.std.proofs.lemmas.Bool.{false≢true}
 use Rattle.std.proofs.Math.Logic.{⊎_elim}
 use Rattle.syntax.specs.Tree.{Tree, letter, range, star}
+use Rattle.semantics.specs.Passing.{OpenNode}
 use Rattle.semantics.specs.Value.{Value, nonempty, flat}
 use Rattle.semantics.specs.Automaton.{Location, top, fst, snd, lft, rgt, rnd}
 use Rattle.semantics.specs.Sweeps.{after_round, can, at_end, readable}
@@ -16,7 +17,8 @@ use Rattle.semantics.proofs.Basics.{or_left, or_right, or_cases}
 use Rattle.semantics.proofs.CompleteLaws.{complete, after_round_on, after_round_yes}
 use Rattle.semantics.proofs.FirstSweepLaws.{Fits, can_iff, can_star}
 use Rattle.semantics.proofs.GreedyLaws.{readable_iff}
-use Rattle.semantics.proofs.AutomatonLaws.{after, can_iff_accepts, accepts_flag}
+use Rattle.semantics.specs.Passing.{after}
+use Rattle.semantics.proofs.AutomatonLaws.{can_iff_accepts, accepts_flag}
 use Rattle.semantics.proofs.BeginLaws.{Stocked, some-value, some_solid, stocked_at, begins_iff}
 use Rattle.semantics.proofs.FrontLaws.{starts_with, Leaves-behind, starts-behind, matched_on, matched_none}
 
@@ -37,12 +39,6 @@ ends_later t w i j h b =
 
 pub ends_none : (t : Tree) → Stocked t → Ends t []
 ends_none t h = let v = some-value t h in (flat t v, v, sym (append-nil (flat t v)))
-
--- a node that is open before these letters, with a flag: it reads them to the end
-pub record OpenNode (root : Tree) (b : Bool) (w : List ℕ) : Type 0 where
-  pub tree : Tree
-  pub place : Location root tree
-  pub goes : can tree (after place) b w ≡ true
 
 -- a leaf of a set that reads the letters
 found : {A : Type 0} (g : A → Bool) (xs : List A) → some g xs ≡ true → (x : A) × (g x ≡ true)

@@ -17,7 +17,7 @@ use Rattle.semantics.specs.Sweeps.{readable, greedy}
 use Rattle.semantics.proofs.Basics.{not-both}
 use Rattle.semantics.proofs.CodeLaws.{is_code_iff, spells_iff}
 use Rattle.semantics.proofs.GreedyLaws.{greedy_canonical, readable_iff, code-readable}
-use Rattle.semantics.proofs.VisitLaws.{All}
+use Rattle.semantics.specs.Every.{All}
 
 -- what is asked: to read a tape, or to settle (canonicalize) a code
 pub data Asked : Type 0 where

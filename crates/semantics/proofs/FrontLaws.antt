@@ -7,6 +7,7 @@ use Rattle.std.proofs.lemmas.Bool.{false≢true}
 use Rattle.std.proofs.Math.Bool.{or_assoc, or-false, true}
 use mathlib.Core.List.{◌++◌, ◌∷◌, List, [], append_assoc, append-nil}
 use Rattle.syntax.specs.Tree.{Tree, nothing, letter, range, seq, alt, star}
+use Rattle.semantics.specs.Followed.{Follows}
 use Rattle.semantics.specs.Automaton.{Location, top, fst, snd, lft, rgt, rnd}
 use Rattle.semantics.specs.Sweeps.{can, readable}
 use Rattle.semantics.specs.Begins.{Begins, Reach}
@@ -14,17 +15,11 @@ use Rattle.semantics.specs.Fronts.{reading, Taker, of_letter, of_range, some, ta
 use Rattle.semantics.specs.Fronts.{reach_of}
 use Rattle.semantics.proofs.Basics.{or_left, not-both}
 use Rattle.semantics.proofs.FirstSweepLaws.{can_star}
-use Rattle.semantics.proofs.AutomatonLaws.{after}
-use Rattle.semantics.proofs.VisitLaws.{All}
+use Rattle.semantics.specs.Passing.{after}
+use Rattle.semantics.specs.Every.{All}
 use Rattle.semantics.proofs.BeginLaws.{Stocked, onward, begins_iff, begins_front, begins_none, reach_one}
 
 -- ---- sets of any kind
--- Known s u: the set s is the one after the letters u. So u begins a tape, and the set tells of each letter whether u with that letter does.
-pub record Follows {S : Type 0} (match : S → ℕ → S) (alive : S → Bool) (next : S → S) (t : Tree) (good : ℕ → Type 0) (Known : S → List ℕ → Type 0) : Type 0
-  where
-    pub begun : (s : S) (u : List ℕ) → Known s u → Begins t u
-    pub on : (s : S) (u : List ℕ) (c : ℕ) → good c → Known s u → alive (match s c) ≡ true → Known (next (match s c)) (u ++ (c ∷ []))
-    pub stop : (s : S) (u : List ℕ) (c : ℕ) → good c → Known s u → alive (match s c) ≡ false → Begins t (u ++ (c ∷ [])) → ⊥
 
 -- the reach of letters that stand after others
 pub record ReachBehind (t : Tree) (u w : List ℕ) (k : ℕ) : Type 0 where

@@ -6,7 +6,8 @@ use Rattle.syntax.specs.Tree.{Label, Tree, nothing, letter, range, seq, alt, sta
 use Rattle.semantics.specs.Automaton.{Location, top, fst, snd, lft, rgt, rnd, State, end, at, follower}
 use Rattle.semantics.specs.Automaton.{Moves, to_first, to_left, to_right, to_round, skip, leave}
 use Rattle.semantics.specs.Fronts.{Taker, of_letter, of_range, inside, behind, starts}
-use Rattle.semantics.proofs.AutomatonLaws.{Passes, guarded_iff}
+use Rattle.semantics.specs.Passing.{Passes}
+use Rattle.semantics.proofs.AutomatonLaws.{guarded_iff}
 
 -- from a state with a flag the automaton reaches a leaf by empty steps
 pub data ComesTo (root : Tree) : State root → Bool → Taker root → Type 0 where

@@ -15,7 +15,8 @@ use Rattle.semantics.proofs.DecodeLaws.{code_injective}
 use Rattle.semantics.proofs.OrderLaws.{less_iff_before, less_asym}
 use Rattle.semantics.proofs.CodeLaws.{spelled-code, hollow-code, spelled_is}
 use Rattle.semantics.proofs.CompleteLaws.{complete}
-use Rattle.semantics.proofs.SecondSweepLaws.{BestOf, wrote}
+use Rattle.semantics.specs.Greatest.{BestOf}
+use Rattle.semantics.proofs.SecondSweepLaws.{wrote}
 use Rattle.semantics.proofs.StripLaws.{strip-flat, strip-nonproblematic}
 
 end_only : (b : Bool) (z : List ℕ) → at_end b z ≡ true → z ≡ []

@@ -3,17 +3,11 @@ use Rattle.std.specs.Prelude.{◌≡◌, true, ◌∷◌, List, [], ℕ}
 use Rattle.std.proofs.Common.{inl, inr}
 use Rattle.syntax.specs.Letter.{is_letter, in_range}
 use Rattle.syntax.specs.Tree.{Tree, nothing, letter, range, seq, alt, star}
+use Rattle.semantics.specs.Every.{Lettered}
 use Rattle.semantics.specs.Value.{Value, flat_rounds, flat}
 use Rattle.semantics.proofs.Basics.{and_fst}
-use Rattle.semantics.proofs.VisitLaws.{All, all_append}
-
-abbrev pub Lettered : Tree → Type 0
-Lettered (nothing m) = Unit {0}
-Lettered (letter m c) = is_letter c ≡ true
-Lettered (range m low high) = Unit {0}
-Lettered (seq m t u) = Lettered t × Lettered u
-Lettered (alt m t u) = Lettered t × Lettered u
-Lettered (star m again t) = Lettered t
+use Rattle.semantics.specs.Every.{All}
+use Rattle.semantics.proofs.VisitLaws.{all_append}
 
 rounds-letters : {A : Type 0} (P : ℕ → Type 0) (f : A → List ℕ) → ((v : A) → All P (f v)) → (vs : List A) → All P (flat_rounds f vs)
 rounds-letters P f one [] = tt

@@ -3,12 +3,14 @@ use Rattle.std.proofs.Common.{◌∙◌, ap, sym, inl, inr}
 use Rattle.std.specs.Prelude.{◌≡◌, ◌||◌, Bool, ◌∷◌, List, [], ℕ}
 use Rattle.std.proofs.Math.Bool.{false, true}
 use Rattle.syntax.specs.Tree.{Label, Tree, seq, alt, star}
+use Rattle.semantics.specs.Greatest.{goes_on}
 use Rattle.semantics.specs.Value.{nonempty, flat}
 use Rattle.semantics.specs.Sweeps.{After, after_round, can, another}
 use Rattle.semantics.proofs.Basics.{and_fst, and_snd, same_rest}
 use Rattle.semantics.proofs.CompleteLaws.{complete}
 use Rattle.semantics.proofs.FirstSweepLaws.{can_star}
-use Rattle.semantics.proofs.SecondSweepLaws.{Best, BestOf, best, best_unique, seq_best, left_best, right_best, star_round, star_stop, round_best}
+use Rattle.semantics.specs.Greatest.{Best, BestOf}
+use Rattle.semantics.proofs.SecondSweepLaws.{best, best_unique, seq_best, left_best, right_best, star_round, star_stop, round_best}
 use Rattle.semantics.proofs.SecondSweepLaws.{no_round, stop_best, Choice, choice}
 
 -- all bests leave the same letters
@@ -51,10 +53,7 @@ module _ (m : Label) (t u : Tree) (k : After) (b : Bool) (w : List ℕ) where
 
 -- another round exactly if `another` says so, by what the state sets say of a round and of the stop
 module _ (m : Label) (again : Bool) (t : Tree) (k : After) (b : Bool) (w : List ℕ) where
-  abbrev pub goes_on : Bool
-  goes_on = another again (can t (after_round (can (star m again t) k)) false w) (k b w)
-
-  chosen : BestOf (star m again t) k b w → Choice again (can t (after_round (can (star m again t) k)) false w) (k b w) goes_on
+  chosen : BestOf (star m again t) k b w → Choice again (can t (after_round (can (star m again t) k)) false w) (k b w) (goes_on m again t k b w)
   chosen P = choice again (can t (after_round (can (star m again t) k)) false w) (k b w) (sym (can_star m again t k b w) ∙ best-can (star m again t) k b w P)
 
   pub record RoundParts (P : BestOf (star m again t) k b w) : Type 0 where
@@ -64,7 +63,7 @@ module _ (m : Label) (again : Bool) (t : Tree) (k : After) (b : Bool) (w : List 
     pub it : P.it ≡ one.it ∷ more.it
     pub rest : P.rest ≡ more.rest
 
-  pub round-parts : (P : BestOf (star m again t) k b w) → goes_on ≡ true → RoundParts P
+  pub round-parts : (P : BestOf (star m again t) k b w) → goes_on m again t k b w ≡ true → RoundParts P
   unfolding star_round round_best
   round-parts P h =
       let p = best t (after_round (can (star m again t) k)) false w ((chosen P).round h) in
@@ -78,6 +77,6 @@ module _ (m : Label) (again : Bool) (t : Tree) (k : After) (b : Bool) (w : List 
         rest = best-rest P r;
       }
 
-  pub stop_part : (P : BestOf (star m again t) k b w) → goes_on ≡ false → (P.it ≡ []) × (P.rest ≡ w)
+  pub stop_part : (P : BestOf (star m again t) k b w) → goes_on m again t k b w ≡ false → (P.it ≡ []) × (P.rest ≡ w)
   unfolding star_stop no_round stop_best
   stop_part P h = let r = star_stop m again t k b w ((chosen P).no_more h) ((chosen P).halt h) in (best_unique P r, best-rest P r)

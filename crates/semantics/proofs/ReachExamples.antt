@@ -7,9 +7,10 @@ use Rattle.semantics.specs.Automaton.{Location, top, fst, snd, lft, rgt, rnd}
 use Rattle.semantics.specs.Sweeps.{can, readable}
 use Rattle.semantics.specs.Begins.{Ends}
 use Rattle.semantics.proofs.Basics.{not-both}
-use Rattle.semantics.proofs.AutomatonLaws.{after}
+use Rattle.semantics.specs.Passing.{after}
 use Rattle.semantics.specs.Fronts.{reach_of}
-use Rattle.semantics.proofs.EndLaws.{OpenNode, ends_none}
+use Rattle.semantics.specs.Passing.{OpenNode}
+use Rattle.semantics.proofs.EndLaws.{ends_none}
 
 abbrev plain : Label
 plain = record { index = 0; account = 0 }

@@ -10,25 +10,15 @@ use Prim.Native.Nat.{◌<◌, ◌≤◌, suc, zero, ℕ}
 use Rattle.std.proofs.Math.ListN.{length, length-append}
 use Rattle.syntax.specs.Letter.{in_range}
 use Rattle.syntax.specs.Tree.{Label, Tree, nothing, letter, range, seq, alt, star}
+use Rattle.semantics.specs.Greatest.{Best, BestOf}
 use Rattle.semantics.specs.Value.{nonempty, flat_rounds, nonproblematic_rounds, flat, nonproblematic}
 use Rattle.semantics.specs.Code.{code_rounds, code}
 use Rattle.semantics.specs.Automaton.{top}
 use Rattle.semantics.specs.Sweeps.{After, after_round, can_rounds, can, BitsAfter, another, write_rounds, write}
 use Rattle.semantics.proofs.Basics.{and_fst, and_snd, and_intro, not-both, eqb_eq, nonempty_pos, nonempty-append, glue, flag_join, same_rest}
-use Rattle.semantics.proofs.BeforeLaws.{before_same, Top, two_top, before_asym, stop_before, round-before}
+use Rattle.semantics.specs.Greatest.{Top}
+use Rattle.semantics.proofs.BeforeLaws.{before_same, two_top, before_asym, stop_before, round-before}
 use Rattle.semantics.proofs.CompleteLaws.{full_round, after_round_full, after_round_on, after_round_yes, Complete, rounds_complete, complete}
-
--- of the values without an empty iteration that spell a front of w and leave a rest that k allows, the one whose code comes first
-pub record Best {A : Type 0} (f : A → List ℕ) (s : A → Bool) (c : A → List Bool) (k : After) (b : Bool) (w : List ℕ) : Type 0 where
-  pub it : A
-  pub rest : List ℕ
-  pub solid : s it ≡ true
-  pub spells : w ≡ f it ++ rest
-  pub goes : k (b || nonempty (f it)) rest ≡ true
-  pub top : (x : A) (z : List ℕ) → s x ≡ true → w ≡ f x ++ z → k (b || nonempty (f x)) z ≡ true → Top c it x
-
-abbrev pub BestOf : Tree → After → Bool → List ℕ → Type 0
-BestOf t k b w = Best (flat t) (nonproblematic t) (code t) k b w
 
 -- there is one best
 pub best_unique : {A : Type 0} {f : A → List ℕ} {s : A → Bool} {c : A → List Bool} {k : After} {b : Bool} {w : List ℕ} (p q : Best f s c k b w) → p.it ≡ q.it

@@ -4,14 +4,11 @@ use Rattle.std.specs.Prelude.{◌≡◌, refl, Bool, cond, false, true, ◌↔�
 use Rattle.std.proofs.Math.Option.{none-ne-some, some-injective, some-ne-none, none, some}
 use Rattle.std.proofs.Math.Seq.{take-append_seam}
 use Rattle.syntax.specs.Tree.{Tree, nothing, letter, range, seq, alt, star}
+use Rattle.semantics.specs.Every.{All}
 use Rattle.semantics.specs.Value.{Value, flat_rounds, flat}
 use Rattle.semantics.specs.Automaton.{Location, top, fst, snd, lft, rgt, rnd}
 use Rattle.semantics.specs.Visits.{label, Visit, visit_of, along, visits, visits_at, nth, visit}
 use Rattle.semantics.proofs.Basics.{eqb_eq}
-
-abbrev pub All : {A : Type 0} → (A → Type 0) → List A → Type 0
-All P [] = Unit {0}
-All P (x ∷ xs) = P x × All P xs
 
 pub all_append : {A : Type 0} (P : A → Type 0) (xs ys : List A) → All P xs → All P ys → All P (xs ++ ys)
 all_append P [] ys h k = k

@@ -24,3 +24,9 @@ pub mod Cuts
 pub mod Stands
 -- What is promised: the statements of document 03.
 pub mod Promise
+-- Words of the laws on which definitions of other crates rest.
+pub mod Every
+pub mod Owned
+pub mod Passing
+pub mod Greatest
+pub mod Followed

@@ -15,7 +15,8 @@ use Rattle.bits.specs.Words.{word_self, word_unique, test_or}
 use Rattle.semantics.specs.Automaton.{Location}
 use Rattle.semantics.specs.Sweeps.{can, at_end}
 use Rattle.semantics.proofs.FirstSweepLaws.{bool_ext}
-use Rattle.semantics.proofs.AutomatonLaws.{after, can_iff_accepts}
+use Rattle.semantics.specs.Passing.{after}
+use Rattle.semantics.proofs.AutomatonLaws.{can_iff_accepts}
 use Rattle.table.specs.Cells.{NodeAt}
 use Rattle.masks.specs.Nodes.{node_word, Planted, node_at, word_small, word-says, word_is, word_past_last}
 use Rattle.masks.specs.Closure.{reaches, nowhere, leaf_mask, end_mask, reaches_split, reaches-can}

@@ -6,7 +6,7 @@ use Rattle.syntax.specs.Trees.{root}
 use Rattle.bits.specs.Bits.{test_bit}
 use Rattle.semantics.specs.Automaton.{Location, at, Accepts}
 use Rattle.semantics.specs.Sweeps.{can}
-use Rattle.semantics.proofs.AutomatonLaws.{after}
+use Rattle.semantics.specs.Passing.{after}
 use Rattle.masks.specs.Nodes.{node_word}
 
 -- 01: "Bit l (value 2 to the power l) of word 2 × i + b says that the letters from i on are in the language of node l with flag b,

@@ -14,7 +14,8 @@ use Rattle.syntax.specs.TreeLaws.{Rules}
 use Rattle.bits.specs.Bits.{test_bit}
 use Rattle.semantics.specs.Automaton.{Location, State, end, at, follower}
 use Rattle.semantics.specs.Sweeps.{at_end}
-use Rattle.semantics.proofs.AutomatonLaws.{loops, after, can_from, after-follower}
+use Rattle.semantics.specs.Passing.{loops, after, can_from}
+use Rattle.semantics.proofs.AutomatonLaws.{after-follower}
 use Rattle.steps.specs.declared.Words.{Words}
 use Rattle.masks.specs.Nodes.{node_word, index_lt, word-says, word_past_last}
 use Rattle.table.specs.Cells.{follower_in, loops_in, state_index, Followed, Holds}

@@ -15,7 +15,7 @@ use Rattle.syntax.specs.Trees.{made, tree_of, root}
 use Rattle.syntax.specs.TreeLaws.{bit, Below, Rules, obeys_iff, tree-line, tree_same, made-index}
 use Rattle.bits.specs.Fields.{put-above, kept_low, kept_field}
 use Rattle.semantics.specs.Automaton.{Location, follower}
-use Rattle.semantics.proofs.AutomatonLaws.{loops}
+use Rattle.semantics.specs.Passing.{loops}
 use Rattle.table.specs.declared.Numbers.{Numbers}
 use Rattle.table.specs.HandDown.{equal, first_part, second_part, PartsInside, parts-inside, Rooted, rules_rooted, Known, made_has_index}
 use Rattle.table.specs.HandDown.{Stores, stores_same, Given, AllGiven, Hands, given-start, given-next, given_end}

@@ -11,7 +11,7 @@ use Rattle.syntax.specs.Tree.{Tree, index}
 use Rattle.syntax.specs.Trees.{tree_of, root}
 use Rattle.syntax.specs.TreeLaws.{Below}
 use Rattle.semantics.specs.Automaton.{Location, State, end, at, follower}
-use Rattle.semantics.proofs.AutomatonLaws.{loops}
+use Rattle.semantics.specs.Passing.{loops}
 use Rattle.table.specs.declared.Numbers.{Numbers}
 
 -- the numbers of a node

@@ -6,8 +6,8 @@ use Rattle.calendar.specs.declared.Date.{Date}
 use Rattle.calendar.specs.Dates.{is_date, next_date, is_after}
 use Rattle.calendar.specs.DateLaws.{after_self, upto_trans, next_upto, last_date, last_of_all}
 use Rattle.calendar.specs.DateLaws.{day_past, past_stays, past_no_date, past_after, next_or_past}
-use Rattle.semantics.proofs.AccountLaws.{letters}
-use Rattle.semantics.proofs.VisitLaws.{All}
+use Rattle.semantics.specs.Owned.{letters}
+use Rattle.semantics.specs.Every.{All}
 use Rattle.entries.specs.Entries.{Entries}
 use Rattle.terms.specs.declared.Term.{Term}
 use Rattle.terms.specs.Terms.{day_end, after_letter, Dated, dated, in_term}

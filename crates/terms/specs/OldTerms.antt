@@ -9,7 +9,7 @@ use Rattle.refusals.specs.Checks.{wrapped}
 use Rattle.refusals.specs.CheckLaws.{clear_parts, wrapped_clear, zero-said}
 use Rattle.calendar.specs.declared.Date.{Date}
 use Rattle.semantics.specs.Accounts.{totals_to}
-use Rattle.semantics.proofs.VisitLaws.{All}
+use Rattle.semantics.specs.Every.{All}
 use Rattle.entries.specs.CodeOrder.{code_order, clear_sound}
 use Rattle.entries.specs.Gather.{entries_of}
 use Rattle.totals.specs.OldTotals.{OldAccounts, new_accounts, old_entries, old_or_none}

@@ -13,8 +13,9 @@ use Rattle.calendar.specs.declared.Date.{Date}
 use Rattle.calendar.specs.Dates.{is_date, is_after}
 use Rattle.calendar.specs.DateLaws.{first_date, last_date, first_of_all, last_of_all}
 use Rattle.semantics.specs.Accounts.{litres, total, totals, digits}
-use Rattle.semantics.proofs.AccountLaws.{letters, totals_add, getD_totals}
-use Rattle.semantics.proofs.VisitLaws.{All}
+use Rattle.semantics.specs.Owned.{letters}
+use Rattle.semantics.proofs.AccountLaws.{totals_add, getD_totals}
+use Rattle.semantics.specs.Every.{All}
 use Rattle.entries.specs.Entries.{Entries}
 use Rattle.entries.specs.CodeOrder.{code_order, clear_sound}
 use Rattle.entries.specs.Gather.{entries_of}

@@ -9,7 +9,7 @@ use Rattle.syntax.specs.Trees.{root}
 use Rattle.refusals.specs.Refusals.{answer}
 use Rattle.refusals.specs.CheckLaws.{zero-said, zero_clear, clear_said}
 use Rattle.semantics.specs.Accounts.{totals, digits}
-use Rattle.semantics.proofs.AccountLaws.{letters}
+use Rattle.semantics.specs.Owned.{letters}
 use Rattle.loading.specs.Load.{load_table}
 use Rattle.walks.specs.Whole.{letters_of}
 use Rattle.entries.specs.CodeOrder.{code_order, clear_sound}

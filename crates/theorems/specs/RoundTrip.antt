@@ -41,7 +41,7 @@ use Rattle.canonical.specs.Canonicalize.{Canonicalizes}
 use Rattle.canonical.specs.CanonicalLaws.{laid, settle_read}
 use Rattle.canonical.specs.Unique.{canonicalizes_one}
 use Rattle.canonical.specs.Demand.{tape_of, Earliest}
-use Rattle.canonical.specs.Demanded.{greedy-spells, greedy_earliest}
+use Rattle.canonical.proofs.Demanded.{greedy-spells, greedy_earliest}
 use Rattle.theorems.specs.Read.{Read, read, read_greedily}
 use Rattle.theorems.specs.Passed.{visit_answer, flatten_answers, flatten_writes, totals_answers, totals_adds, span_answers, span_shows}
 

@@ -15,7 +15,8 @@ use Rattle.semantics.specs.Value.{Value}
 use Rattle.semantics.specs.Code.{Canonical}
 use Rattle.semantics.specs.Cuts.{Cut, cut_by, code_cut, piece, bits_cut}
 use Rattle.semantics.specs.Decode.{value_of}
-use Rattle.semantics.proofs.CutLaws.{seen, cut-visit}
+use Rattle.semantics.specs.Cuts.{seen}
+use Rattle.semantics.proofs.CutLaws.{cut-visit}
 use Rattle.semantics.proofs.AlikeLaws.{alike_canonical}
 use Rattle.semantics.proofs.PieceLaws.{piece-stands}
 use Rattle.semantics.proofs.PieceExamples.{whole, unsettled_cut, unsettled_falls}

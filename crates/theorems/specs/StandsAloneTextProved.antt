@@ -14,7 +14,7 @@ use Rattle.bits.specs.Bits.{pack, held}
 use Rattle.bits.specs.Handed.{held-pack}
 use Rattle.semantics.specs.Code.{Canonical}
 use Rattle.semantics.specs.Cuts.{Cut, code_cut, piece, bits_cut}
-use Rattle.semantics.proofs.CutLaws.{seen}
+use Rattle.semantics.specs.Cuts.{seen}
 use Rattle.semantics.specs.Sweeps.{greedy}
 use Rattle.semantics.proofs.GreedyLaws.{greedy_canonical}
 use Rattle.parser.specs.Parse.{parsed_answer}

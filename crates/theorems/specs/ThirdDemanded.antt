@@ -7,7 +7,7 @@ use Rattle.loading.specs.Load.{load_table}
 use Rattle.loading.specs.LoadLaws.{loaded-obeys}
 use Rattle.bits.specs.Bits.{cell_count}
 use Rattle.canonical.specs.Demand.{spells, Run, Settled, Earliest, SettlesWell as SettlesRun, ThirdDemand as OfTables}
-use Rattle.canonical.specs.Demanded.{spells_same, third_demand}
+use Rattle.canonical.proofs.Demanded.{spells_same, third_demand}
 use Rattle.packing.specs.Packing.{unpacked}
 use Rattle.wumbyra.specs.Unique.{unpacked_same}
 use Rattle.theorems.specs.ThirdDemand.{CodeOf, Call, count_of, bytes_of, SettlesWell, ThirdDemand}

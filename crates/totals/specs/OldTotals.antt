@@ -9,8 +9,9 @@ use Rattle.syntax.specs.Trees.{root}
 use Rattle.refusals.specs.Refusals.{answer}
 use Rattle.refusals.specs.CheckLaws.{zero_clear}
 use Rattle.semantics.specs.Accounts.{totals_to, totals}
-use Rattle.semantics.proofs.AccountLaws.{Accounts, totals_old}
-use Rattle.semantics.proofs.VisitLaws.{All}
+use Rattle.semantics.specs.Owned.{Accounts}
+use Rattle.semantics.proofs.AccountLaws.{totals_old}
+use Rattle.semantics.specs.Every.{All}
 use Rattle.entries.specs.CodeOrder.{code_order, clear_sound}
 use Rattle.entries.specs.Gather.{entries_of}
 use Rattle.entries.specs.EntryAccounts.{root_below, entries_few}

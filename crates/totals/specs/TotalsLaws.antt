@@ -15,7 +15,8 @@ use Rattle.refusals.specs.RefusalLaws.{number_positive}
 use Rattle.refusals.specs.Checks.{First, Clear}
 use Rattle.refusals.specs.CheckLaws.{first_answered, clear_success}
 use Rattle.semantics.specs.Accounts.{accounts, total, count_from, totals_to, totals, digits}
-use Rattle.semantics.proofs.AccountLaws.{sum_below, totals_many, totals-digits}
+use Rattle.semantics.specs.Owned.{sum_below}
+use Rattle.semantics.proofs.AccountLaws.{totals_many, totals-digits}
 use Rattle.totals.specs.declared.TotalsOutcome.TheVariants.{Added}
 use Rattle.totals.specs.declared.Totalled.{Totalled}
 use Rattle.walks.specs.Whole.{whole_code, letters_of}

@@ -42,7 +42,7 @@ use Rattle.semantics.specs.Automaton.{top}
 use Rattle.semantics.specs.Decode.{value_of, is_code, spelled}
 use Rattle.semantics.specs.Sweeps.{readable, greedy}
 use Rattle.semantics.proofs.GreedyLaws.{greedy_canonical}
-use Rattle.semantics.proofs.VisitLaws.{All}
+use Rattle.semantics.specs.Every.{All}
 use Rattle.steps.specs.StateSets.{words}
 use Rattle.steps.specs.StateLaws.{state_bit}
 use Rattle.walks.specs.Whole.{whole_code, letters_of}

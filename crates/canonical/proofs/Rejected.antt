@@ -17,7 +17,7 @@ use Rattle.semantics.specs.Decode.{value_of, is_code, spelled, hollow}
 use Rattle.semantics.proofs.CodeLaws.{solid_iff}
 use Rattle.walks.specs.Whole.{whole_code, letters_of}
 use Rattle.canonical.specs.Demand.{IsCode, Code, Run, Settled, bytes_of, Equal}
-use Rattle.canonical.specs.Demanded.{spells_same, handed-back, empty-round-kept}
+use Rattle.canonical.proofs.Demanded.{spells_same, handed-back, empty-round-kept}
 
 abbrev pub line : Node → Line
 line k = record { account = 0; node = k }
