@@ -1,5 +1,5 @@
 -- The third demand on one run: what the function that runs it promises. Definitions only.
-use Rattle.std.specs.Prelude.{◌≡◌, Bool, true, false, ◌↔◌, List, ℕ, ◌+◌, ◌*◌, ◌≤◌, ◌<◌, length, take}
+use Rattle.std.specs.Prelude.{◌≡◌, Bool, true, false, ◌↔◌, List, ℕ, ◌+◌, ◌*◌, ◌≤◌, ◌<◌, length, take, Err, Ok, Result}
 use Rattle.syntax.specs.declared.Pattern.{Pattern}
 use Rattle.refusals.specs.declared.Refusal.{Refusal}
 use Rattle.refusals.specs.declared.Refusal.TheVariants.{CodeTooShort}
@@ -9,16 +9,14 @@ use Rattle.syntax.specs.Trees.{root}
 use Rattle.bits.specs.Bits.{cell_count, pack, in_front}
 use Rattle.semantics.specs.Code.{Canonical}
 use Rattle.steps.specs.StateSets.{words as state_sets}
-use Rattle.canonical.specs.declared.Canonicalized.{Canonicalized}
-use Rattle.canonical.specs.declared.Canonicalized.TheVariants.{Bits, Refused}
 use Rattle.agree.specs.declared.Agreement.{Agreement}
 use Rattle.agree.specs.declared.Agreement.TheVariants.{Same, Different, Refused as NotSettled}
 use Rattle.canonical.specs.Canonicalize.{Canonicalizes}
 use Rattle.canonical.specs.Demand.{tape_of, Code, spells, Run, Equal, Demand}
 
 -- why a call of settling refused: what a run passes on
-abbrev pub Unsettled : Canonicalized → Refusal → Type 0
-Unsettled a why = a ≡ Refused why
+abbrev pub Unsettled : Result ℕ Refusal → Refusal → Type 0
+Unsettled a why = a ≡ Err why
 
 -- what the three comparisons come to: each code came back as it was, and the two are equal
 abbrev pub concluded : (first second both : Bool) → Agreement
@@ -81,7 +79,7 @@ ComesBack p one n two m lent left r =
 
 -- a call of settling: what it answered, and what it left in the lent tape and words
 pub record Call (p : Pattern) (code : List ℕ) (count : ℕ) (tape words out out_now : List ℕ) : Type 0 where
-  pub result : Canonicalized
+  pub result : Result ℕ Refusal
   pub tape_now : List ℕ
   pub words_now : List ℕ
   pub kept : Canonicalizes p code count tape tape_now words words_now out out_now result
@@ -91,10 +89,10 @@ abbrev pub front : (buffer : List ℕ) → (count : ℕ) → List ℕ
 front buffer n = take (cell_count 8 n) buffer
 
 -- the answer and the buffers worked in, by what the two calls answered: of refusals the first is passed on
-pub record Verdict (first second : Canonicalized) (p : Pattern) (a_now b_now : List ℕ) (lent left : Worked) (r : Agreement) : Type 0 where
-  pub first_refused : (why : Refusal) → first ≡ Refused why → (r ≡ NotSettled why) × (left ≡ lent)
-  pub second_refused : (k : ℕ) → (why : Refusal) → first ≡ Bits k → second ≡ Refused why → (r ≡ NotSettled why) × (left ≡ lent)
-  pub both : (k l : ℕ) → first ≡ Bits k → second ≡ Bits l → SettlesAgain p (front a_now k) k (front b_now l) l lent left r
+pub record Verdict (first second : Result ℕ Refusal) (p : Pattern) (a_now b_now : List ℕ) (lent left : Worked) (r : Agreement) : Type 0 where
+  pub first_refused : (why : Refusal) → first ≡ Err why → (r ≡ NotSettled why) × (left ≡ lent)
+  pub second_refused : (k : ℕ) → (why : Refusal) → first ≡ Ok k → second ≡ Err why → (r ≡ NotSettled why) × (left ≡ lent)
+  pub both : (k l : ℕ) → first ≡ Ok k → second ≡ Ok l → SettlesAgain p (front a_now k) k (front b_now l) l lent left r
 
 -- 01: "buffers suffice with at least n tape cells, 2 × (n + 1) mark words, and as many code bytes as the code of the greedy reading of those
 -- letters fills"

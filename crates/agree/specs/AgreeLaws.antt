@@ -1,5 +1,5 @@
 -- Laws of running the third demand: what a call of settling that is not refused left, and one law for each way of the code.
-use Rattle.std.specs.Prelude.{◌≡◌, refl, Bool, true, false, ◌↔◌, List, ℕ, ◌+◌, ◌*◌, ◌≤◌, ◌<◌, length, take}
+use Rattle.std.specs.Prelude.{◌≡◌, refl, Bool, true, false, ◌↔◌, List, ℕ, ◌+◌, ◌*◌, ◌≤◌, ◌<◌, length, take, Err, Ok, Result}
 use Rattle.std.proofs.Common.{sym, ap, ap₂, subst, ◌∙◌, arith}
 use Rattle.std.proofs.lemmas.Bool.{false≢true}
 use Rattle.std.proofs.Math.Decide.{dec_le}
@@ -21,8 +21,6 @@ use Rattle.first_sweep.specs.Meaning.{words-length}
 use Rattle.walks.specs.Whole.{whole_code, letters_of}
 use Rattle.codes.specs.FlattenLaws.{flatten_fills}
 use Rattle.parser.specs.Parse.{ReadsGreedily}
-use Rattle.canonical.specs.declared.Canonicalized.{Canonicalized}
-use Rattle.canonical.specs.declared.Canonicalized.TheVariants.{Bits, Refused}
 use Rattle.agree.specs.declared.Agreement.{Agreement}
 use Rattle.agree.specs.declared.Agreement.TheVariants.{Same, Different, Refused as NotSettled}
 use Rattle.canonical.specs.Canonicalize.{canonicalized_answer, settle_early, Canonicalizes}
@@ -35,10 +33,10 @@ use Rattle.agree.specs.Agree.{concluded, IsSettled, Compares, Worked, worked, fi
 use Rattle.agree.specs.Agree.{SettlesAgain, ComesBack, front, Verdict, Suffice, OnRun, Agrees}
 
 -- ── an answer that is a refusal, and one that is not ──
-pub refusal_canonicalized : (a : Canonicalized) (why : Refusal) → a ≡ Refused why → 1 ≤ (canonicalized_answer a).number
+pub refusal_canonicalized : (a : Result ℕ Refusal) (why : Refusal) → a ≡ Err why → 1 ≤ (canonicalized_answer a).number
 refusal_canonicalized a why e = subst (λ b. 1 ≤ (canonicalized_answer b).number) (sym e) (number_positive why)
 
-pub settled_no_refusal : (a : Canonicalized) (n : ℕ) → a ≡ Bits n → 1 ≤ (canonicalized_answer a).number → ⊥
+pub settled_no_refusal : (a : Result ℕ Refusal) (n : ℕ) → a ≡ Ok n → 1 ≤ (canonicalized_answer a).number → ⊥
 settled_no_refusal a n e h = let z : 1 ≤ 0 = subst (λ b. 1 ≤ (canonicalized_answer b).number) e h in omega arith
 
 -- ── a call of settling that is not refused ──
@@ -58,8 +56,8 @@ pub record Left (p : Pattern) (code : List ℕ) (count k : ℕ) (ts us ws vs xs 
   pub room : cell_count 8 k ≤ length xs
   pub code_is : ys ≡ in_front (pack 8 (best p code count)) xs
 
-module _ (p : Pattern) (code : List ℕ) (count k : ℕ) (ts us ws vs xs ys : List ℕ) (r : Canonicalized)
-    (h : Canonicalizes p code count ts us ws vs xs ys r) (e : r ≡ Bits k) where
+module _ (p : Pattern) (code : List ℕ) (count k : ℕ) (ts us ws vs xs ys : List ℕ) (r : Result ℕ Refusal)
+    (h : Canonicalizes p code count ts us ws vs xs ys r) (e : r ≡ Ok k) where
   -- it was not refused before the sweeps
   passed : (settle_early p code count (length ts) (length ws)).number ≡ 0
   passed = go (dec_le 1 (settle_early p code count (length ts) (length ws)).number)
@@ -139,23 +137,23 @@ module _ (p : Pattern) (code : List ℕ) (count k : ℕ) (ts us ws vs xs ys : Li
       (sym (words-length p (tape_of p code count))) l.words_enough)
 
 -- ── a settled code, settled again ──
-record Back (p : Pattern) (code : List ℕ) (count : ℕ) (lent left : Worked) (r : Canonicalized) : Type 0 where
-  short : length lent.again < length code → (r ≡ Refused (CodeTooShort (length code))) × (left ≡ filled p code count lent)
-  fits : length code ≤ length lent.again → (r ≡ Bits count) × (left ≡ written p code count lent)
+record Back (p : Pattern) (code : List ℕ) (count : ℕ) (lent left : Worked) (r : Result ℕ Refusal) : Type 0 where
+  short : length lent.again < length code → (r ≡ Err (CodeTooShort (length code))) × (left ≡ filled p code count lent)
+  fits : length code ≤ length lent.again → (r ≡ Ok count) × (left ≡ written p code count lent)
 
 all_worked : (a a' b b' c c' : List ℕ) → a ≡ a' → b ≡ b' → c ≡ c' → worked a b c ≡ worked a' b' c'
 all_worked a a' b b' c c' e f g = ap (λ z. worked z b c) e ∙ ap (λ z. worked a' z c) f ∙ ap (worked a' b') g
 
 back :
-    (p : Pattern) (code : List ℕ) (count : ℕ) (ts us ws vs xs ys : List ℕ) (r : Canonicalized) → Canonicalizes p code count ts us ws vs xs ys r
+    (p : Pattern) (code : List ℕ) (count : ℕ) (ts us ws vs xs ys : List ℕ) (r : Result ℕ Refusal) → Canonicalizes p code count ts us ws vs xs ys r
     → IsSettled p code count (length ts) (length ws) → Back p code count (worked ts ws xs) (worked us vs ys) r
 back p code count ts us ws vs xs ys r h s = record {
   short = λ l.
       let m = greedily.1.short s.bits s.earliest (subst (λ n. length xs < n) size l) in
-      (canonicalized_same r (Refused (CodeTooShort (length code))) (m.0 ∙ ap (λ n. refused (CodeTooShort n)) (sym size)), left_by xs m.1);
+      (canonicalized_same r (Err (CodeTooShort (length code))) (m.0 ∙ ap (λ n. refused (CodeTooShort n)) (sym size)), left_by xs m.1);
   fits = λ l.
       let m = greedily.1.fits s.bits s.earliest (subst (λ n. n ≤ length xs) size l) in (
-        canonicalized_same r (Bits count) (m.0 ∙ ap (answer 0) (sym s.count_is)),
+        canonicalized_same r (Ok count) (m.0 ∙ ap (answer 0) (sym s.count_is)),
         left_by (in_front code xs) (m.1 ∙ ap (λ l. in_front l xs) (sym s.bytes_are)),
       );
 }
@@ -213,13 +211,13 @@ settled-size : (p : Pattern) (code : List ℕ) (count nt nw : ℕ) → IsSettled
 settled-size p code count nt nw s = ap length s.bytes_are ∙ length-pack 8 s.bits ∙ ap (cell_count 8) (sym s.count_is)
 
 -- ── settling two settled codes again ──
-refused-not : (r : Canonicalized) (why : Refusal) (n : ℕ) → r ≡ Refused why → r ≡ Bits n → ⊥
+refused-not : (r : Result ℕ Refusal) (why : Refusal) (n : ℕ) → r ≡ Err why → r ≡ Ok n → ⊥
 refused-not r why n e f = let z : ◌≡◌ {A = ℕ} 0 1 = (cc) in omega arith
 
-same_refusal : (r : Canonicalized) (v w : Refusal) → r ≡ Refused v → r ≡ Refused w → v ≡ w
+same_refusal : (r : Result ℕ Refusal) (v w : Refusal) → r ≡ Err v → r ≡ Err w → v ≡ w
 same_refusal r v w e f = cc
 
-same_bits : (r : Canonicalized) (n m : ℕ) → r ≡ Bits n → r ≡ Bits m → n ≡ m
+same_bits : (r : Result ℕ Refusal) (n m : ℕ) → r ≡ Ok n → r ≡ Ok m → n ≡ m
 same_bits r n m e f = cc
 
 module _
@@ -229,10 +227,10 @@ module _
     (two : List ℕ)
     (m : ℕ)
     (ts us ws vs gs hs : List ℕ)
-    (third : Canonicalized)
+    (third : Result ℕ Refusal)
     (h : Canonicalizes p one n ts us ws vs gs hs third)
   where
-    pub again_first : (why : Refusal) → third ≡ Refused why → ComesBack p one n two m (worked ts ws gs) (worked us vs hs) (NotSettled why)
+    pub again_first : (why : Refusal) → third ≡ Err why → ComesBack p one n two m (worked ts ws gs) (worked us vs hs) (NotSettled why)
     again_first why e s t =
         let q = back p one n ts us ws vs gs hs third h s in
         record {
@@ -241,7 +239,7 @@ module _
           compares = λ l j. absurd (refused-not third why n e (q.fits l).0);
         }
 
-    module _ (k : ℕ) (e : third ≡ Bits k) (us' vs' is : List ℕ) (fourth : Canonicalized) (f : Canonicalizes p two m us us' vs vs' hs is fourth) where
+    module _ (k : ℕ) (e : third ≡ Ok k) (us' vs' is : List ℕ) (fourth : Result ℕ Refusal) (f : Canonicalizes p two m us us' vs vs' hs is fourth) where
       -- the first came back, so the second is settled again in buffers of the same lengths
       kept-length : IsSettled p one n (length ts) (length ws) → length hs ≡ length gs
       kept-length s = go (dec_le (length one) (length gs))
@@ -268,7 +266,7 @@ module _
           } in
           back p two m us us' vs vs' hs is fourth f t'
 
-      pub again_second : (why : Refusal) → fourth ≡ Refused why → ComesBack p one n two m (worked ts ws gs) (worked us' vs' is) (NotSettled why)
+      pub again_second : (why : Refusal) → fourth ≡ Err why → ComesBack p one n two m (worked ts ws gs) (worked us' vs' is) (NotSettled why)
       again_second why d s t =
           let q = back p one n ts us ws vs gs hs third h s in
           let w = second_back s t in
@@ -282,7 +280,7 @@ module _
           }
 
       pub again-both :
-          (l i j : ℕ) → fourth ≡ Bits l → i ≡ cell_count 8 k → j ≡ cell_count 8 l → (x y z : Bool) → (x ≡ true) ↔ Equal one (take i hs) n k
+          (l i j : ℕ) → fourth ≡ Ok l → i ≡ cell_count 8 k → j ≡ cell_count 8 l → (x y z : Bool) → (x ≡ true) ↔ Equal one (take i hs) n k
           → (y ≡ true) ↔ Equal two (take j is) m l
           → (z ≡ true) ↔ Equal one two n m → (r : Agreement) → r ≡ concluded x y z → ComesBack p one n two m (worked ts ws gs) (worked us' vs' is) r
       again-both l i j d ei ej x y z ex ey ez r er s t =
@@ -307,7 +305,7 @@ module _
 
 -- ── the answer of a run ──
 verdict-first :
-    (first second : Canonicalized) (p : Pattern) (xs ys : List ℕ) (w : Worked) (why : Refusal) → first ≡ Refused why
+    (first second : Result ℕ Refusal) (p : Pattern) (xs ys : List ℕ) (w : Worked) (why : Refusal) → first ≡ Err why
     → Verdict first second p xs ys w w (NotSettled why)
 verdict-first first second p xs ys w why e = record {
   first_refused = λ v q. (ap NotSettled (same_refusal first why v e q), refl);
@@ -316,7 +314,7 @@ verdict-first first second p xs ys w why e = record {
 }
 
 verdict-second :
-    (first second : Canonicalized) (p : Pattern) (xs ys : List ℕ) (w : Worked) (k : ℕ) (why : Refusal) → first ≡ Bits k → second ≡ Refused why
+    (first second : Result ℕ Refusal) (p : Pattern) (xs ys : List ℕ) (w : Worked) (k : ℕ) (why : Refusal) → first ≡ Ok k → second ≡ Err why
     → Verdict first second p xs ys w w (NotSettled why)
 verdict-second first second p xs ys w k why e d = record {
   first_refused = λ v q. absurd (refused-not first v k q e);
@@ -332,12 +330,12 @@ module _
     (m : ℕ)
     (ts us us' ws vs vs' os xs bs ys gs : List ℕ)
     (left_in : Worked)
-    (first second : Canonicalized)
+    (first second : Result ℕ Refusal)
     (h : Canonicalizes p one n ts us ws vs os xs first)
     (f : Canonicalizes p two m us us' vs vs' bs ys second)
   where
     verdict-both :
-        (k l i j : ℕ) → first ≡ Bits k → second ≡ Bits l → i ≡ cell_count 8 k → j ≡ cell_count 8 l → (r : Agreement)
+        (k l i j : ℕ) → first ≡ Ok k → second ≡ Ok l → i ≡ cell_count 8 k → j ≡ cell_count 8 l → (r : Agreement)
         → ComesBack p (take i xs) k (take j ys) l (worked us' vs' gs) left_in r → Verdict first second p xs ys (worked us' vs' gs) left_in r
     verdict-both k l i j e d ei ej r w =
         let a : length us ≡ length ts = tape-length p one n k ts us ws vs os xs first h e in
@@ -364,7 +362,7 @@ module _
     (c d : Code p)
     (ts us us' ws vs vs' os xs bs ys gs : List ℕ)
     (left_in : Worked)
-    (first second : Canonicalized)
+    (first second : Result ℕ Refusal)
     (h : Canonicalizes p c.bytes c.count ts us ws vs os xs first)
     (f : Canonicalizes p d.bytes d.count us us' vs vs' bs ys second)
     (r : Agreement)
@@ -393,8 +391,8 @@ module _
     unfolding ThirdDemand
     settled_c = (third_demand p good c c run_c run_c).one.settled
 
-    first_is : first ≡ Bits settled_c.count
-    first_is = canonicalized_same first (Bits settled_c.count) settled_c.answers
+    first_is : first ≡ Ok settled_c.count
+    first_is = canonicalized_same first (Ok settled_c.count) settled_c.answers
 
     abbrev run_d : Run p d
     run_d = record {
@@ -414,7 +412,7 @@ module _
       code-room = sd.code-room;
     }
 
-    compared : (k l : ℕ) → first ≡ Bits k → second ≡ Bits l → Compares (front xs k) k (front ys l) l r
+    compared : (k l : ℕ) → first ≡ Ok k → second ≡ Ok l → Compares (front xs k) k (front ys l) l r
     compared k l e q =
         let a = left p c.bytes c.count k ts us ws vs os xs first h e in
         let b = left p d.bytes d.count l us us' vs vs' bs ys second f q in
@@ -431,8 +429,8 @@ module _
     on_run =
         let q = third_demand p good c d run_c run_d in
         let v =
-        compared q.one.settled.count q.two.settled.count (canonicalized_same first (Bits q.one.settled.count) q.one.settled.answers)
-        (canonicalized_same second (Bits q.two.settled.count) q.two.settled.answers) in
+        compared q.one.settled.count q.two.settled.count (canonicalized_same first (Ok q.one.settled.count) q.one.settled.answers)
+        (canonicalized_same second (Ok q.two.settled.count) q.two.settled.answers) in
         record {
           x = run_c;
           y = run_d;
@@ -445,7 +443,7 @@ module _
 
 -- THE PROMISE, from the two calls and the answer
 agrees :
-    (p : Pattern) (one : List ℕ) (n : ℕ) (two : List ℕ) (m : ℕ) (ts us us' ws vs vs' os xs bs ys gs : List ℕ) (left_in : Worked) (first second : Canonicalized)
+    (p : Pattern) (one : List ℕ) (n : ℕ) (two : List ℕ) (m : ℕ) (ts us us' ws vs vs' os xs bs ys gs : List ℕ) (left_in : Worked) (first second : Result ℕ Refusal)
     → Canonicalizes p one n ts us ws vs os xs first → Canonicalizes p two m us us' vs vs' bs ys second → (r : Agreement)
     → Verdict first second p xs ys (worked us' vs' gs) left_in r
     → Agrees p one n two m (worked ts ws gs) left_in os xs bs ys r
@@ -469,24 +467,24 @@ module _
     (two : List ℕ)
     (m : ℕ)
     (ts us us' ws vs vs' os xs bs ys gs : List ℕ)
-    (first second : Canonicalized)
+    (first second : Result ℕ Refusal)
     (h : Canonicalizes p one n ts us ws vs os xs first)
     (f : Canonicalizes p two m us us' vs vs' bs ys second)
   where
-    pub agrees_first : (why : Refusal) → first ≡ Refused why → Agrees p one n two m (worked ts ws gs) (worked us' vs' gs) os xs bs ys (NotSettled why)
+    pub agrees_first : (why : Refusal) → first ≡ Err why → Agrees p one n two m (worked ts ws gs) (worked us' vs' gs) os xs bs ys (NotSettled why)
     agrees_first why e =
         agrees p one n two m ts us us' ws vs vs' os xs bs ys gs (worked us' vs' gs) first second h f (NotSettled why)
         (verdict-first first second p xs ys (worked us' vs' gs) why e)
 
     pub agrees-second :
-        (k : ℕ) (why : Refusal) → first ≡ Bits k → second ≡ Refused why
+        (k : ℕ) (why : Refusal) → first ≡ Ok k → second ≡ Err why
         → Agrees p one n two m (worked ts ws gs) (worked us' vs' gs) os xs bs ys (NotSettled why)
     agrees-second k why e d =
         agrees p one n two m ts us us' ws vs vs' os xs bs ys gs (worked us' vs' gs) first second h f (NotSettled why)
         (verdict-second first second p xs ys (worked us' vs' gs) k why e d)
 
     pub agrees-both :
-        (left_in : Worked) (k l i j : ℕ) → first ≡ Bits k → second ≡ Bits l → i ≡ cell_count 8 k → j ≡ cell_count 8 l → (r : Agreement)
+        (left_in : Worked) (k l i j : ℕ) → first ≡ Ok k → second ≡ Ok l → i ≡ cell_count 8 k → j ≡ cell_count 8 l → (r : Agreement)
         → ComesBack p (take i xs) k (take j ys) l (worked us' vs' gs) left_in r → Agrees p one n two m (worked ts ws gs) left_in os xs bs ys r
     agrees-both left_in k l i j e d ei ej r w =
         agrees p one n two m ts us us' ws vs vs' os xs bs ys gs left_in first second h f r

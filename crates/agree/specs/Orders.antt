@@ -1,10 +1,9 @@
 -- Running the demand: the first cause of the first call of settling is answered, whatever the second call answers; then the second's.
-use Rattle.std.specs.Prelude.{◌≡◌, List, ℕ, length}
+use Rattle.std.specs.Prelude.{◌≡◌, List, ℕ, length, Ok}
 use Rattle.std.proofs.Common.{sym, subst}
 use Rattle.syntax.specs.declared.Pattern.{Pattern}
 use Rattle.refusals.specs.declared.Refusal.{Refusal}
 use Rattle.refusals.specs.Checks.{First}
-use Rattle.canonical.specs.declared.Canonicalized.TheVariants.{Bits}
 use Rattle.canonical.specs.Canonicalize.{settle_order}
 use Rattle.canonical.specs.Orders.{only}
 use Rattle.agree.specs.declared.Agreement.{Agreement}
@@ -22,7 +21,7 @@ module _ (p : Pattern) (one : List ℕ) (n : ℕ) (two : List ℕ) (m : ℕ) (le
       ((h.answers.first_refused why q.0).0, q.2)
 
   -- the first call has left tape and words of the same lengths
-  pub only_second : (k : ℕ) → h.first.result ≡ Bits k → (why : Refusal)
+  pub only_second : (k : ℕ) → h.first.result ≡ Ok k → (why : Refusal)
       → First why (settle_order p two m (length lent.tape) (length lent.words)) → (r ≡ NotSettled why) × (b_now ≡ b)
   only_second k e why f =
       let c = h.first in

@@ -1,10 +1,9 @@
 -- The promise of running the demand fixes answer and buffers: two outcomes that it allows on one input are the same.
-use Rattle.std.specs.Prelude.{◌≡◌, refl, List, ℕ, ◌≤◌, length}
+use Rattle.std.specs.Prelude.{◌≡◌, refl, List, ℕ, ◌≤◌, length, Err, Ok, Result}
 use Rattle.std.proofs.Common.{sym, ap, subst, ◌∙◌, arith}
 use Rattle.std.proofs.Math.Decide.{dec_le}
+use Rattle.refusals.specs.declared.Refusal.{Refusal}
 use Rattle.syntax.specs.declared.Pattern.{Pattern}
-use Rattle.canonical.specs.declared.Canonicalized.{Canonicalized}
-use Rattle.canonical.specs.declared.Canonicalized.TheVariants.{Bits, Refused}
 use Rattle.agree.specs.declared.Agreement.{Agreement}
 use Rattle.agree.specs.declared.Agreement.TheVariants.{Same, Different, Refused as NotSettled}
 use Rattle.canonical.specs.Canonicalize.{Canonicalizes}
@@ -43,17 +42,17 @@ again_one p one n two m lent left left_too r s f g = go (dec_le (length one) (le
         let y = g.compares a b in
         (compares_one one n two m r s x.0 y.0, x.1 ∙ sym y.1)
 
-verdict_one : (x y : Canonicalized) (p : Pattern) (a b : List ℕ) (lent left left_too : Worked) (r s : Agreement)
+verdict_one : (x y : Result ℕ Refusal) (p : Pattern) (a b : List ℕ) (lent left left_too : Worked) (r s : Agreement)
     → Verdict x y p a b lent left r → Verdict x y p a b lent left_too s → (r ≡ s) × (left ≡ left_too)
-verdict_one (Refused why) y p a b lent left left_too r s f g =
+verdict_one (Err why) y p a b lent left left_too r s f g =
     let x = f.first_refused why refl in
     let z = g.first_refused why refl in
     (x.0 ∙ sym z.0, x.1 ∙ sym z.1)
-verdict_one (Bits k) (Refused why) p a b lent left left_too r s f g =
+verdict_one (Ok k) (Err why) p a b lent left left_too r s f g =
     let x = f.second_refused k why refl refl in
     let z = g.second_refused k why refl refl in
     (x.0 ∙ sym z.0, x.1 ∙ sym z.1)
-verdict_one (Bits k) (Bits l) p a b lent left left_too r s f g =
+verdict_one (Ok k) (Ok l) p a b lent left left_too r s f g =
     again_one p (front a k) k (front b l) l lent left left_too r s (f.both k l refl refl) (g.both k l refl refl)
 
 module _ (p : Pattern) (one : List ℕ) (n : ℕ) (two : List ℕ) (m : ℕ) (lent left left_too : Worked) (a x x_too b y y_too : List ℕ) (r s : Agreement)

@@ -8,7 +8,7 @@ ghost use Rattle.canonical.specs.Demand.{Equal};
 ghost use Rattle.agree.specs.Agree.{Unsettled, concluded, worked, ComesBack, Agrees};
 
 use bits::bytes_for;
-use canonical::{Canonicalized, canonicalize};
+use canonical::canonicalize;
 use check::same;
 use refusals::Refusal;
 use syntax::Pattern;
@@ -22,11 +22,11 @@ pub enum Agreement {
 }
 
 // Why a code was not settled. Nothing but a refusal is handed in, so the `else` is never run.
-fn why_unsettled(answer: Canonicalized) -> Refusal
+fn why_unsettled(answer: Result<u32, Refusal>) -> Refusal
     requires { 1 ≤ (canonicalized_answer answer).number }
     ensures { Unsettled answer result }
 {
-    let Canonicalized::Refused(why) = answer else {
+    let Err(why) = answer else {
         return Refusal::NotACode;
     };
     why
@@ -74,13 +74,13 @@ fn settle_again(
         (worked tape.new words.new again.new) result }
 {
     let third = canonicalize(p, one, n, tape, words, again);
-    let Canonicalized::Bits(k) = third else {
+    let Ok(k) = third else {
         return Agreement::Refused(why_unsettled(third));
     };
     let i = bytes_for(k);
     let one_back = equal(one, n, &again[..i], k);
     let fourth = canonicalize(p, two, m, tape, words, again);
-    let Canonicalized::Bits(l) = fourth else {
+    let Ok(l) = fourth else {
         return Agreement::Refused(why_unsettled(fourth));
     };
     let j = bytes_for(l);
@@ -109,10 +109,10 @@ pub fn agree(
 {
     let first = canonicalize(p, one, n, tape, words, a);
     let second = canonicalize(p, two, m, tape, words, b);
-    let Canonicalized::Bits(k) = first else {
+    let Ok(k) = first else {
         return Agreement::Refused(why_unsettled(first));
     };
-    let Canonicalized::Bits(l) = second else {
+    let Ok(l) = second else {
         return Agreement::Refused(why_unsettled(second));
     };
     let i = bytes_for(k);

@@ -1,5 +1,5 @@
 -- Laws of settling: one for each way of the code.
-use Rattle.std.specs.Prelude.{◌≡◌, true, not, List, [], ◌∷◌, ◌++◌, ℕ, zero, suc, ◌+◌, ◌*◌, ◌-◌, ◌≤◌, ◌<◌, ltb, leb, take}
+use Rattle.std.specs.Prelude.{◌≡◌, true, not, List, [], ◌∷◌, ◌++◌, ℕ, zero, suc, ◌+◌, ◌*◌, ◌-◌, ◌≤◌, ◌<◌, ltb, leb, take, Err, Ok, Result}
 use Rattle.std.proofs.Math.Path.{refl, sym, ap}
 use Rattle.std.proofs.Common.{subst, ◌∙◌, arith, ltb-false, le-ltb, length-take}
 use Rattle.std.proofs.Math.ListN.{length, drop}
@@ -28,31 +28,25 @@ use Rattle.semantics.proofs.LetterLaws.{flat-letters}
 use Rattle.semantics.specs.Every.{All}
 use Rattle.steps.specs.StateSets.{words}
 use Rattle.entries.specs.CodeOrder.{code_order, clear_sound}
-use Rattle.codes.specs.declared.Flattened.{Flattened}
-use Rattle.codes.specs.declared.Flattened.TheVariants.{Letters, Refused as NotFlattened}
 use Rattle.walks.specs.Whole.{whole_code}
 use Rattle.codes.specs.Flatten.{room_check, flatten_order, flatten_answer, flatten_tape, flattened_answer, Flattens}
 use Rattle.codes.specs.FlattenLaws.{flatten_clear, flatten_fills}
 use Rattle.walks.specs.WholeLaws.{whole-handed, whole-value, spells}
-use Rattle.parser.specs.declared.Parsed.{Parsed}
-use Rattle.parser.specs.declared.Parsed.TheVariants.{Bits as ParsedBits, Refused as NotParsed}
 use Rattle.parser.specs.Parse.{parsed_answer, early, ReadsGreedily, Parses}
-use Rattle.canonical.specs.declared.Canonicalized.{Canonicalized}
-use Rattle.canonical.specs.declared.Canonicalized.TheVariants.{Bits, Refused}
 use Rattle.canonical.specs.Canonicalize.{canonicalized_answer, word_check, settle_order, settle_early, Canonicalizes}
 use Rattle.canonical.specs.Demand.{tape_of}
 
 -- ── an answer that is a refusal, and one that is not ──
-pub refusal_flattened : (a : Flattened) (why : Refusal) → a ≡ NotFlattened why → 1 ≤ (flattened_answer a).number
+pub refusal_flattened : (a : Result ℕ Refusal) (why : Refusal) → a ≡ Err why → 1 ≤ (flattened_answer a).number
 refusal_flattened a why e = subst (λ b. 1 ≤ (flattened_answer b).number) (sym e) (number_positive why)
 
-pub refusal_parsed : (a : Parsed) (why : Refusal) → a ≡ NotParsed why → 1 ≤ (parsed_answer a).number
+pub refusal_parsed : (a : Result ℕ Refusal) (why : Refusal) → a ≡ Err why → 1 ≤ (parsed_answer a).number
 refusal_parsed a why e = subst (λ b. 1 ≤ (parsed_answer b).number) (sym e) (number_positive why)
 
-pub letters_no_refusal : (a : Flattened) (n : ℕ) → a ≡ Letters n → 1 ≤ (flattened_answer a).number → ⊥
+pub letters_no_refusal : (a : Result ℕ Refusal) (n : ℕ) → a ≡ Ok n → 1 ≤ (flattened_answer a).number → ⊥
 letters_no_refusal a n e h = let z : 1 ≤ 0 = subst (λ b. 1 ≤ (flattened_answer b).number) e h in omega arith
 
-pub bits_no_refusal : (a : Parsed) (n : ℕ) → a ≡ ParsedBits n → 1 ≤ (parsed_answer a).number → ⊥
+pub bits_no_refusal : (a : Result ℕ Refusal) (n : ℕ) → a ≡ Ok n → 1 ≤ (parsed_answer a).number → ⊥
 bits_no_refusal a n e h = let z : 1 ≤ 0 = subst (λ b. 1 ≤ (parsed_answer b).number) e h in omega arith
 
 -- ── a spelling that is not refused ──
@@ -138,8 +132,8 @@ pub record Laid (p : Pattern) (code : List ℕ) (count : ℕ) (ts us : List ℕ)
   pub front_is : take n us ≡ tape_of p code count
   pub size_is : n ≡ length (tape_of p code count)
 
-module _ (p : Pattern) (code : List ℕ) (count : ℕ) (ts us : List ℕ) (f : Flattened) (h : Flattens p code count ts us f) where
-  pub laid : (n : ℕ) → f ≡ Letters n → Laid p code count ts us n
+module _ (p : Pattern) (code : List ℕ) (count : ℕ) (ts us : List ℕ) (f : Result ℕ Refusal) (h : Flattens p code count ts us f) where
+  pub laid : (n : ℕ) → f ≡ Ok n → Laid p code count ts us n
   unfolding in_front
   laid n e =
       let a : answer 0 n ≡ flatten_answer p code count (length ts) = sym (ap flattened_answer e) ∙ h.answers in
@@ -154,7 +148,7 @@ module _ (p : Pattern) (code : List ℕ) (count : ℕ) (ts us : List ℕ) (f : F
         front_is = ap (take n) t ∙ take_at (tape_of p code count) (drop (length (tape_of p code count)) ts) n (sym m);
       }
 
-  pub settle_refused : (why : Refusal) (ws xs : List ℕ) → f ≡ NotFlattened why → Canonicalizes p code count ts us ws ws xs xs (Refused why)
+  pub settle_refused : (why : Refusal) (ws xs : List ℕ) → f ≡ Err why → Canonicalizes p code count ts us ws ws xs xs (Err why)
   unfolding flatten_answer settle_early
   settle_refused why ws xs e =
       let a : flatten_answer p code count (length ts) ≡ refused why = sym h.answers ∙ ap flattened_answer e in
@@ -173,10 +167,10 @@ pub laid-room : (p : Pattern) (code : List ℕ) (count : ℕ) (ts us : List ℕ)
 laid-room p code count ts us n l = omega (arith, l.size_is, length-take n us, ap length l.front_is)
 
 -- ── reading it ──
-pub read_bits : (r : Parsed) (n : ℕ) → r ≡ ParsedBits n → canonicalized_answer (Bits n) ≡ parsed_answer r
+pub read_bits : (r : Result ℕ Refusal) (n : ℕ) → r ≡ Ok n → canonicalized_answer (Ok n) ≡ parsed_answer r
 read_bits r n e = sym (ap parsed_answer e)
 
-pub read-refused : (r : Parsed) (why : Refusal) → r ≡ NotParsed why → canonicalized_answer (Refused why) ≡ parsed_answer r
+pub read-refused : (r : Result ℕ Refusal) (why : Refusal) → r ≡ Err why → canonicalized_answer (Err why) ≡ parsed_answer r
 read-refused r why e = sym (ap parsed_answer e)
 
 -- reading's checks but the last
@@ -195,8 +189,8 @@ settle_early_is p code count size s n =
     ∙ sym (clear_more (tape_checks p (tape_of p code count)) (word_check p code count n) (answer 0 0) (ap not s.good, (few, (letters, tt))))
 
 pub settle_read :
-    (p : Pattern) (code : List ℕ) (count : ℕ) (ts us : List ℕ) (n : ℕ) → Laid p code count ts us n → (ws vs xs ys : List ℕ) (r : Parsed)
-    → Parses p (take n us) ws vs xs ys r → (a : Canonicalized) → canonicalized_answer a ≡ parsed_answer r → Canonicalizes p code count ts us ws vs xs ys a
+    (p : Pattern) (code : List ℕ) (count : ℕ) (ts us : List ℕ) (n : ℕ) → Laid p code count ts us n → (ws vs xs ys : List ℕ) (r : Result ℕ Refusal)
+    → Parses p (take n us) ws vs xs ys r → (a : Result ℕ Refusal) → canonicalized_answer a ≡ parsed_answer r → Canonicalizes p code count ts us ws vs xs ys a
 settle_read p code count ts us n l ws vs xs ys r w a e =
     let v : Parses p (tape_of p code count) ws vs xs ys r = subst (λ t. Parses p t ws vs xs ys r) l.front_is w in
     let q = settle_early_is p code count (length ts) l.it (length ws) in
@@ -208,7 +202,7 @@ settle_read p code count ts us n l ws vs xs ys r w a e =
     }
 
 -- ── what the promise says of a code that is spelled, and has its words ──
-module _ (p : Pattern) (code : List ℕ) (count : ℕ) (ts us ws vs xs ys : List ℕ) (r : Canonicalized) (h : Canonicalizes p code count ts us ws vs xs ys r) where
+module _ (p : Pattern) (code : List ℕ) (count : ℕ) (ts us ws vs xs ys : List ℕ) (r : Result ℕ Refusal) (h : Canonicalizes p code count ts us ws vs xs ys r) where
   pub settles :
       obeys p ≡ true → whole_code (root p) code count ≡ true → length (tape_of p code count) ≤ letter_limit → length (tape_of p code count) ≤ length ts
       → 2 * (length (tape_of p code count) + 1) ≤ length ws

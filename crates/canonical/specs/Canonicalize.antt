@@ -1,5 +1,5 @@
 -- Settling a code: the answer and the buffers, for every input. Definitions only.
-use Rattle.std.specs.Prelude.{◌≡◌, List, [], ◌∷◌, ◌++◌, ℕ, ◌+◌, ◌*◌, ◌≤◌, ltb, length}
+use Rattle.std.specs.Prelude.{◌≡◌, List, [], ◌∷◌, ◌++◌, ℕ, ◌+◌, ◌*◌, ◌≤◌, ltb, length, Err, Ok, Result}
 use Rattle.syntax.specs.declared.Pattern.{Pattern}
 use Rattle.refusals.specs.declared.Refusal.{Refusal}
 use Rattle.refusals.specs.declared.Refusal.TheVariants.{WordsTooShort}
@@ -8,26 +8,20 @@ use Rattle.refusals.specs.Checks.{Check, first_cause}
 use Rattle.syntax.specs.Trees.{root}
 use Rattle.bits.specs.Bits.{in_front}
 use Rattle.steps.specs.StateSets.{words as state_sets}
-use Rattle.codes.specs.declared.Flattened.{Flattened}
-use Rattle.codes.specs.declared.Flattened.TheVariants.{Refused as NotFlattened}
 use Rattle.walks.specs.Whole.{letters_of}
 use Rattle.codes.specs.Flatten.{flatten_order, flatten_tape}
-use Rattle.parser.specs.declared.Parsed.{Parsed}
-use Rattle.parser.specs.declared.Parsed.TheVariants.{Refused as NotParsed}
 use Rattle.parser.specs.Parse.{ReadsGreedily}
-use Rattle.canonical.specs.declared.Canonicalized.{Canonicalized}
-use Rattle.canonical.specs.declared.Canonicalized.TheVariants.{Bits, Refused}
 
-abbrev pub canonicalized_answer : Canonicalized → Answer
-canonicalized_answer (Bits n) = answer 0 n
-canonicalized_answer (Refused r) = refused r
+abbrev pub canonicalized_answer : Result ℕ Refusal → Answer
+canonicalized_answer (Ok n) = answer 0 n
+canonicalized_answer (Err r) = refused r
 
 -- why a stage refused: what settling passes on
-abbrev pub Unspelled : Flattened → Refusal → Type 0
-Unspelled a why = a ≡ NotFlattened why
+abbrev pub Unspelled : Result ℕ Refusal → Refusal → Type 0
+Unspelled a why = a ≡ Err why
 
-abbrev pub Unread : Parsed → Refusal → Type 0
-Unread a why = a ≡ NotParsed why
+abbrev pub Unread : Result ℕ Refusal → Refusal → Type 0
+Unread a why = a ≡ Err why
 
 -- what reading has left to refuse before the sweeps: what a code spells is letters, and at most 3,600 where spelling does not refuse it
 abbrev pub word_check : Pattern → (code : List ℕ) → (count words : ℕ) → List Check
@@ -44,7 +38,7 @@ settle_early p code count size n = first_cause (settle_order p code count size n
 
 -- THE PROMISE of settling, for every table, code as handed in, and lent buffers
 pub record Canonicalizes (p : Pattern) (code : List ℕ) (count : ℕ) (tape tape_now words words_now canonical canonical_now : List ℕ)
-    (r : Canonicalized) : Type 0 where
+    (r : Result ℕ Refusal) : Type 0 where
   -- the tape is as spelling leaves it, whatever is answered. 01, of 6: "settling has filled the tape"
   pub spells : tape_now ≡ flatten_tape p code count tape
   -- a cause before the sweeps leaves words and code as they were

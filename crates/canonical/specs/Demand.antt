@@ -1,6 +1,7 @@
 -- THE THIRD DEMAND, as one type. It speaks of the program through the contract of `canonicalize` only, and of spelling through the
 -- definitions that the contract of `flatten` cites.
-use Rattle.std.specs.Prelude.{◌≡◌, Bool, true, ◌↔◌, List, ℕ, ◌+◌, ◌*◌, ◌≤◌, length, take}
+use Rattle.std.specs.Prelude.{◌≡◌, Bool, true, ◌↔◌, List, ℕ, ◌+◌, ◌*◌, ◌≤◌, length, take, Result}
+use Rattle.refusals.specs.declared.Refusal.{Refusal}
 use Rattle.syntax.specs.declared.Pattern.{Pattern}
 use Rattle.syntax.specs.Letter.{letter_limit}
 use Rattle.refusals.specs.Refusals.{answer}
@@ -9,7 +10,6 @@ use Rattle.syntax.specs.Trees.{root}
 use Rattle.bits.specs.Bits.{Small, cell_count, held}
 use Rattle.semantics.specs.Code.{Spells, NoEmptyRound, Canonical, before}
 use Rattle.walks.specs.Whole.{whole_code, letters_of}
-use Rattle.canonical.specs.declared.Canonicalized.{Canonicalized}
 use Rattle.canonical.specs.Canonicalize.{canonicalized_answer, Canonicalizes}
 
 -- a code of the pattern as handed in: bytes and a bit count
@@ -40,7 +40,7 @@ pub record Run (p : Pattern) (c : Code p) : Type 0 where
   pub words_now : List ℕ
   pub out : List ℕ
   pub out_now : List ℕ
-  pub result : Canonicalized
+  pub result : Result ℕ Refusal
   pub kept : Canonicalizes p c.bytes c.count tape tape_now words words_now out out_now result
   pub tape-room : length (spells c) ≤ length tape
   pub word_room : 2 * (length (spells c) + 1) ≤ length words

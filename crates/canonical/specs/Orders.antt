@@ -1,7 +1,7 @@
 -- Settling a code: the first cause that holds is answered, whatever later causes hold, and leaves what 01's table says.
 use Rattle.std.proofs.Math.Path.{◌≡◌, refl, ap}
 use Rattle.std.proofs.Common.{sym, subst, ◌∙◌, lt-ltb}
-use Rattle.std.specs.Prelude.{Bool, true, false, List, [], ◌∷◌, ℕ, ◌+◌, ◌*◌, ◌≤◌, ◌<◌}
+use Rattle.std.specs.Prelude.{Bool, true, false, List, [], ◌∷◌, ℕ, ◌+◌, ◌*◌, ◌≤◌, ◌<◌, Err, Result}
 use Rattle.std.proofs.lemmas.Bool.{false≢true}
 use native.Mathlib.Omega.{arith}
 use Rattle.std.proofs.Math.Decide.{dec_le}
@@ -26,8 +26,6 @@ use Rattle.entries.specs.CodeOrder.{code_order, Sound, first_2, first_8, first_3
 use Rattle.codes.specs.Flatten.{room_check, flatten_order}
 use Rattle.codes.specs.FlattenLaws.{first_9, flatten_clear, flatten_refused, flatten_fills}
 use Rattle.parser.specs.Orders.{greedily_among}
-use Rattle.canonical.specs.declared.Canonicalized.{Canonicalized}
-use Rattle.canonical.specs.declared.Canonicalized.TheVariants.{Refused}
 use Rattle.canonical.specs.Canonicalize.{canonicalized_answer, word_check, settle_order, settle_early, Canonicalizes}
 use Rattle.canonical.specs.CanonicalLaws.{settle_passed, settles}
 use Rattle.canonical.specs.RoundTrip.{letters-readable}
@@ -51,20 +49,20 @@ settle_apart NotACode e f = false≢true f
 settle_apart (TapeTooShort n) e f = false≢true f
 settle_apart NoSuchVisit e f = false≢true e
 
-module _ (p : Pattern) (code : List ℕ) (count : ℕ) (tape tape_now words words_now canonical canonical_now : List ℕ) (r : Canonicalized)
+module _ (p : Pattern) (code : List ℕ) (count : ℕ) (tape tape_now words words_now canonical canonical_now : List ℕ) (r : Result ℕ Refusal)
     (h : Canonicalizes p code count tape tape_now words words_now canonical canonical_now r) where
   abbrev letters : ℕ
   letters = length (tape_of p code count)
 
   pub only : (why : Refusal) → First why (settle_order p code count (length tape) (length words))
-      → (r ≡ Refused why) × (words_now ≡ words) × (canonical_now ≡ canonical)
+      → (r ≡ Err why) × (words_now ≡ words) × (canonical_now ≡ canonical)
   unfolding settle_early
   only why f =
       let q = h.refuses (first_positive f (answer 0 0)) in
-      (canonicalized_same r (Refused why) (q.0 ∙ first_answered f (answer 0 0)), q.1, q.2)
+      (canonicalized_same r (Err why) (q.0 ∙ first_answered f (answer 0 0)), q.1, q.2)
 
   -- "and never otherwise"
-  pub settle_first : (why : Refusal) → r ≡ Refused why → among (number why) (2 ∷ 8 ∷ 3 ∷ 9 ∷ 6 ∷ []) ≡ true
+  pub settle_first : (why : Refusal) → r ≡ Err why → among (number why) (2 ∷ 8 ∷ 3 ∷ 9 ∷ 6 ∷ []) ≡ true
       → First why (settle_order p code count (length tape) (length words))
   unfolding settle_early
   settle_first why e m = go (dec_le 1 (settle_early p code count (length tape) (length words)).number)
@@ -77,7 +75,7 @@ module _ (p : Pattern) (code : List ℕ) (count : ℕ) (tape tape_now words word
           absurd (settle_apart why m (subst (λ a. among a.number (0 ∷ 5 ∷ 7 ∷ []) ≡ true) (ap canonicalized_answer e) q))
 
   -- 5 is never answered: what a code spells can be read
-  pub never_5 : r ≡ Refused Unreadable → ⊥
+  pub never_5 : r ≡ Err Unreadable → ⊥
   unfolding settle_early
   never_5 e = go (dec_le 1 (settle_early p code count (length tape) (length words)).number)
     where
@@ -107,7 +105,7 @@ module _ (p : Pattern) (code : List ℕ) (count : ℕ) (tape tape_now words word
 
   -- a cause of spelling leaves the tape too
   abbrev AllLeft : Refusal → Type 0
-  AllLeft why = (r ≡ Refused why) × (tape_now ≡ tape) × (words_now ≡ words) × (canonical_now ≡ canonical)
+  AllLeft why = (r ≡ Err why) × (tape_now ≡ tape) × (words_now ≡ words) × (canonical_now ≡ canonical)
 
   pub only_spelling : (why : Refusal) → First why (flatten_order p code count (length tape)) → AllLeft why
   only_spelling why f =
@@ -139,7 +137,7 @@ module _ (p : Pattern) (code : List ℕ) (count : ℕ) (tape tape_now words word
         module _ (g : letters ≤ length tape) where
           -- 6: "marks, code; settling has filled the tape"
           pub only_6 : length words < 2 * (letters + 1)
-              → (r ≡ Refused (WordsTooShort (2 * (letters + 1)))) × (tape_now ≡ in_front (tape_of p code count) tape)
+              → (r ≡ Err (WordsTooShort (2 * (letters + 1)))) × (tape_now ≡ in_front (tape_of p code count) tape)
               × (words_now ≡ words) × (canonical_now ≡ canonical)
           only_6 l =
               let c = flatten_clear p code count sound (length tape) g in
@@ -150,9 +148,9 @@ module _ (p : Pattern) (code : List ℕ) (count : ℕ) (tape tape_now words word
           -- 7: "code; the rest is filled"
           pub only_7 : 2 * (letters + 1) ≤ length words → (bits : List Bool) → Canonical (root p) (tape_of p code count) bits
               → length canonical < cell_count 8 (length bits)
-              → (r ≡ Refused (CodeTooShort (cell_count 8 (length bits)))) × (tape_now ≡ in_front (tape_of p code count) tape)
+              → (r ≡ Err (CodeTooShort (cell_count 8 (length bits)))) × (tape_now ≡ in_front (tape_of p code count) tape)
               × (words_now ≡ in_front (state_sets p (tape_of p code count)) words) × (canonical_now ≡ canonical)
           only_7 k bits b l =
               let s = settles p code count tape tape_now words words_now canonical canonical_now r h o w f g k in
               let m = s.2.1.short bits b l in
-              (canonicalized_same r (Refused (CodeTooShort (cell_count 8 (length bits)))) m.0, s.0, s.1, m.1)
+              (canonicalized_same r (Err (CodeTooShort (cell_count 8 (length bits)))) m.0, s.0, s.1, m.1)

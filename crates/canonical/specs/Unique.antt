@@ -1,26 +1,25 @@
 -- The promise of settling fixes everything: on the same pattern, code and buffers two runs answer the same and leave the same.
-use Rattle.std.specs.Prelude.{◌≡◌, List, ℕ, ◌≤◌, length}
+use Rattle.std.specs.Prelude.{◌≡◌, List, ℕ, ◌≤◌, length, Err, Ok, Result}
 use Rattle.std.proofs.Common.{sym, ap, ◌∙◌, arith}
 use Rattle.std.proofs.Math.Decide.{dec_le}
+use Rattle.refusals.specs.declared.Refusal.{Refusal}
 use Rattle.syntax.specs.declared.Pattern.{Pattern}
 use Rattle.refusals.specs.Refusals.{refused}
 use Rattle.refusals.specs.RefusalLaws.{refused_same, number_positive}
 use Rattle.syntax.specs.Trees.{root}
 use Rattle.walks.specs.Whole.{letters_of}
 use Rattle.parser.specs.Unique.{greedily_one}
-use Rattle.canonical.specs.declared.Canonicalized.{Canonicalized}
-use Rattle.canonical.specs.declared.Canonicalized.TheVariants.{Bits, Refused}
 use Rattle.canonical.specs.Canonicalize.{canonicalized_answer, settle_early, Canonicalizes}
 
 -- number and value fix the answer
-pub canonicalized_same : (r s : Canonicalized) → canonicalized_answer r ≡ canonicalized_answer s → r ≡ s
-canonicalized_same (Bits n) (Bits m) e = ap (λ a. Bits a.value) e
-canonicalized_same (Bits n) (Refused s) e = let z : 0 ≡ (refused s).number = ap (λ a. a.number) e in absurd (omega (arith, number_positive s))
-canonicalized_same (Refused r) (Bits m) e = let z : (refused r).number ≡ 0 = ap (λ a. a.number) e in absurd (omega (arith, number_positive r))
-canonicalized_same (Refused r) (Refused s) e = ap Refused (refused_same r s e)
+pub canonicalized_same : (r s : Result ℕ Refusal) → canonicalized_answer r ≡ canonicalized_answer s → r ≡ s
+canonicalized_same (Ok n) (Ok m) e = ap (λ a. Ok a.value) e
+canonicalized_same (Ok n) (Err s) e = let z : 0 ≡ (refused s).number = ap (λ a. a.number) e in absurd (omega (arith, number_positive s))
+canonicalized_same (Err r) (Ok m) e = let z : (refused r).number ≡ 0 = ap (λ a. a.number) e in absurd (omega (arith, number_positive r))
+canonicalized_same (Err r) (Err s) e = ap Err (refused_same r s e)
 
 module _ (p : Pattern) (code : List ℕ) (count : ℕ)
-    (tape tape_now tape_too words words_now words_too canonical canonical_now canonical_too : List ℕ) (r s : Canonicalized) where
+    (tape tape_now tape_too words words_now words_too canonical canonical_now canonical_too : List ℕ) (r s : Result ℕ Refusal) where
   pub canonicalizes_one : Canonicalizes p code count tape tape_now words words_now canonical canonical_now r
       → Canonicalizes p code count tape tape_too words words_too canonical canonical_too s
       → (r ≡ s) × (tape_now ≡ tape_too) × (words_now ≡ words_too) × (canonical_now ≡ canonical_too)

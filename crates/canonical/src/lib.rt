@@ -7,35 +7,28 @@ ghost use Rattle.codes.specs.Flatten.{flattened_answer};
 ghost use Rattle.parser.specs.Parse.{parsed_answer};
 ghost use Rattle.canonical.specs.Canonicalize.{Canonicalizes, Unspelled, Unread};
 
-use codes::{Flattened, flatten};
-use parser::{Parsed, parse};
+use codes::flatten;
+use parser::parse;
 use refusals::Refusal;
 use syntax::Pattern;
 
-// What settling answers: the bit count of the canonical code, or why not.
-#[derive(Clone, Copy)]
-pub enum Canonicalized {
-    Bits(u32),
-    Refused(Refusal),
-}
-
 // Why a code was not spelled. Nothing but a refusal is handed in, so the `else` is never run.
-fn why_unspelled(answer: Flattened) -> Refusal
+fn why_unspelled(answer: Result<u32, Refusal>) -> Refusal
     requires { 1 ≤ (flattened_answer answer).number }
     ensures { Unspelled answer result }
 {
-    let Flattened::Refused(why) = answer else {
+    let Err(why) = answer else {
         return Refusal::NotACode;
     };
     why
 }
 
 // Why a tape was not read. Nothing but a refusal is handed in, so the `else` is never run.
-fn why_unread(answer: Parsed) -> Refusal
+fn why_unread(answer: Result<u32, Refusal>) -> Refusal
     requires { 1 ≤ (parsed_answer answer).number }
     ensures { Unread answer result }
 {
-    let Parsed::Refused(why) = answer else {
+    let Err(why) = answer else {
         return Refusal::Unreadable;
     };
     why
@@ -48,18 +41,18 @@ pub fn canonicalize(
     tape: &mut [u8],
     words: &mut [u64],
     canonical: &mut [u8],
-) -> Canonicalized
+) -> Result<u32, Refusal>
     ensures { Canonicalizes p code.now count tape.old tape.new
         words.old words.new canonical.old canonical.new result }
 {
     let flattened = flatten(p, code, count, tape);
-    let Flattened::Letters(n) = flattened else {
-        return Canonicalized::Refused(why_unspelled(flattened));
+    let Ok(n) = flattened else {
+        return Err(why_unspelled(flattened));
     };
     let k = n as usize;
     let read = parse(p, &tape[..k], words, canonical);
-    let Parsed::Bits(bits) = read else {
-        return Canonicalized::Refused(why_unread(read));
+    let Ok(bits) = read else {
+        return Err(why_unread(read));
     };
-    Canonicalized::Bits(bits)
+    Ok(bits)
 }

@@ -1,6 +1,6 @@
 -- The order of checking a tape: each cause that holds, with none before it, is the first; and what is known where none holds. Said here once, for a
 -- service whose order begins with these causes `first_more` and `clear_parts` of crate refusals hand it on.
-use Rattle.std.specs.Prelude.{◌≡◌, refl, true, false, not, List, [], ◌∷◌, ℕ, ◌≤◌, ◌<◌, length}
+use Rattle.std.specs.Prelude.{◌≡◌, refl, true, false, not, List, [], ◌∷◌, ℕ, ◌≤◌, ◌<◌, length, Err, Ok, Result, tt, ⊤}
 use Rattle.std.proofs.Common.{sym, ap, subst, arith, lt-ltb, le-ltb, ltb-false}
 use Rattle.std.proofs.lemmas.Bool.{not-false}
 use Rattle.syntax.specs.declared.Pattern.{Pattern}
@@ -9,8 +9,6 @@ use Rattle.syntax.specs.Table.{obeys}
 use Rattle.refusals.specs.declared.Refusal.{Refusal}
 use Rattle.refusals.specs.declared.Refusal.TheVariants.{Tree as TreeFault, TapeTooLong, TapeByte}
 use Rattle.refusals.specs.Checks.{numbers, First, here, past, Clear}
-use Rattle.checks.specs.declared.TapeCheck.{TapeCheck}
-use Rattle.checks.specs.declared.TapeCheck.TheVariants.{Taken, Refused}
 use Rattle.checks.specs.TapeOrder.{tape_order, ChecksTape}
 
 -- what is known of a tape that is taken
@@ -46,27 +44,27 @@ module _ (p : Pattern) (tape : List ℕ) where
   }
 
   -- ── the ways of the check ──
-  refused-tape : (why : Refusal) → First why (tape_order p tape) → ChecksTape p tape (Refused why)
+  refused-tape : (why : Refusal) → First why (tape_order p tape) → ChecksTape p tape (Err why)
   refused-tape why f = record {
     refuses = λ w e. let same : why ≡ w = cc in subst (λ v. First v (tape_order p tape)) same f;
     takes = λ e. absurd (let z : ◌≡◌ {A = ℕ} 0 1 = (cc) in omega arith);
   }
 
-  pub check_2 : obeys p ≡ false → ChecksTape p tape (Refused (TreeFault 0))
+  pub check_2 : obeys p ≡ false → ChecksTape p tape (Err (TreeFault 0))
   check_2 o = refused-tape (TreeFault 0) (tape_2 o)
 
   module _ (o : obeys p ≡ true) where
-    pub check_3 : letter_limit < length tape → ChecksTape p tape (Refused TapeTooLong)
+    pub check_3 : letter_limit < length tape → ChecksTape p tape (Err TapeTooLong)
     check_3 l = refused-tape TapeTooLong (tape_3 o l)
 
-    pub check_4 : length tape ≤ letter_limit → (bad : ℕ) → bad ≡ first_bad tape → bad < length tape → ChecksTape p tape (Refused (TapeByte bad))
+    pub check_4 : length tape ≤ letter_limit → (bad : ℕ) → bad ≡ first_bad tape → bad < length tape → ChecksTape p tape (Err (TapeByte bad))
     check_4 f bad e l =
-        subst (λ i. ChecksTape p tape (Refused (TapeByte i))) (sym e)
+        subst (λ i. ChecksTape p tape (Err (TapeByte i))) (sym e)
         (refused-tape (TapeByte (first_bad tape)) (tape_4 o f (omega (arith, e, l))))
 
-  pub check_taken : IsTaken p tape → ChecksTape p tape Taken
+  pub check_taken : IsTaken p tape → ChecksTape p tape (Ok tt)
   check_taken t = record { refuses = λ w e. absurd (let z : ◌≡◌ {A = ℕ} 0 1 = (cc) in omega arith); takes = λ e. taken_clear t }
 
   -- ── what the caller has ──
-  pub is_taken : (r : TapeCheck) → ChecksTape p tape r → r ≡ Taken → IsTaken p tape
+  pub is_taken : (r : Result ⊤ Refusal) → ChecksTape p tape r → r ≡ Ok tt → IsTaken p tape
   is_taken r h e = clear_taken (h.takes e)

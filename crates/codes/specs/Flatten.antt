@@ -1,5 +1,6 @@
 -- Spelling a code: the answer and the tape, for every input. Definitions only.
-use Rattle.std.specs.Prelude.{◌≡◌, cond, List, [], ◌∷◌, ◌++◌, ℕ, eqb, ltb, length}
+use Rattle.std.specs.Prelude.{◌≡◌, cond, List, [], ◌∷◌, ◌++◌, ℕ, eqb, ltb, length, Err, Ok, Result}
+use Rattle.refusals.specs.declared.Refusal.{Refusal}
 use Rattle.syntax.specs.declared.Pattern.{Pattern}
 use Rattle.refusals.specs.declared.Refusal.TheVariants.{TapeTooShort}
 use Rattle.syntax.specs.Trees.{root}
@@ -8,8 +9,6 @@ use Rattle.refusals.specs.Checks.{Check, first_cause}
 use Rattle.bits.specs.Bits.{in_front}
 use Rattle.walks.specs.Whole.{letters_of}
 use Rattle.entries.specs.CodeOrder.{code_order}
-use Rattle.codes.specs.declared.Flattened.{Flattened}
-use Rattle.codes.specs.declared.Flattened.TheVariants.{Letters, Refused}
 
 -- 01, of 9: "tape buffer shorter than the spelling", with the "letters needed"
 abbrev pub room_check : Pattern → (code : List ℕ) → (count size : ℕ) → List Check
@@ -27,11 +26,11 @@ flatten_answer p code count size = first_cause (flatten_order p code count size)
 unfoldable pub flatten_tape : Pattern → (code : List ℕ) → (count : ℕ) → (tape : List ℕ) → List ℕ
 flatten_tape p code count tape = cond (eqb (flatten_answer p code count (length tape)).number 0) (in_front (letters_of (root p) code count) tape) tape
 
-abbrev pub flattened_answer : Flattened → Answer
-flattened_answer (Letters n) = answer 0 n
-flattened_answer (Refused r) = refused r
+abbrev pub flattened_answer : Result ℕ Refusal → Answer
+flattened_answer (Ok n) = answer 0 n
+flattened_answer (Err r) = refused r
 
 -- THE PROMISE of spelling, for every table, bytes, count and buffer
-pub record Flattens (p : Pattern) (code : List ℕ) (count : ℕ) (tape tape_now : List ℕ) (r : Flattened) : Type 0 where
+pub record Flattens (p : Pattern) (code : List ℕ) (count : ℕ) (tape tape_now : List ℕ) (r : Result ℕ Refusal) : Type 0 where
   pub answers : flattened_answer r ≡ flatten_answer p code count (length tape)
   pub leaves : tape_now ≡ flatten_tape p code count tape

@@ -1,5 +1,5 @@
 -- Spelling a whole code: one law for each way of the service.
-use Rattle.std.specs.Prelude.{◌≡◌, refl, true, false, List, ◌++◌, ℕ, suc, ◌+◌, ◌≤◌, ◌<◌, length, drop, get_or, set}
+use Rattle.std.specs.Prelude.{◌≡◌, refl, true, false, List, ◌++◌, ℕ, suc, ◌+◌, ◌≤◌, ◌<◌, length, drop, get_or, set, Err, Ok}
 use Rattle.std.proofs.Math.Path.{sym, ap}
 use Rattle.std.proofs.Common.{ap₂, subst, ◌∙◌, arith, length-set, take_at}
 use Rattle.std.proofs.Math.Bool.{cond}
@@ -17,7 +17,6 @@ use Rattle.refusals.specs.RefusalLaws.{number_positive}
 use Rattle.refusals.specs.Checks.{First, here, Clear}
 use Rattle.refusals.specs.CheckLaws.{first_more, first_behind, clear_both, first_answered, clear_success}
 use Rattle.bits.specs.Bits.{in_front}
-use Rattle.codes.specs.declared.Flattened.TheVariants.{Letters, Refused}
 use Rattle.walks.specs.Whole.{whole_code, letters_of}
 use Rattle.codes.specs.Flatten.{room_check, flatten_order, flatten_answer, flatten_tape, Flattens}
 use Rattle.entries.specs.declared.Measured.{Measured}
@@ -68,7 +67,7 @@ module _ (p : Pattern) (code : List ℕ) (count : ℕ) (s : Sound p code count) 
 
 module _ (p : Pattern) (code : List ℕ) (count : ℕ) (tape : List ℕ) where
   -- the first cause that holds is answered, and the tape is left
-  pub flatten_refused : (why : Refusal) → First why (flatten_order p code count (length tape)) → Flattens p code count tape tape (Refused why)
+  pub flatten_refused : (why : Refusal) → First why (flatten_order p code count (length tape)) → Flattens p code count tape tape (Err why)
   unfolding flatten_answer flatten_tape
   flatten_refused why f =
       let e = first_answered f (answer 0 (length (letters_of (root p) code count))) in
@@ -86,21 +85,21 @@ module _ (p : Pattern) (code : List ℕ) (count : ℕ) (tape : List ℕ) where
       (clear_success (flatten_order p code count (length tape)) (answer 0 (length (letters_of (root p) code count))) c)
 
   -- so is one of the code's causes
-  pub flatten_no_code : (why : Refusal) → First why (code_order p code count) → Flattens p code count tape tape (Refused why)
+  pub flatten_no_code : (why : Refusal) → First why (code_order p code count) → Flattens p code count tape tape (Err why)
   flatten_no_code why f = flatten_refused why (first_more (room_check p code count (length tape)) f)
 
-  pub flatten_bad : obeys p ≡ false → Flattens p code count tape tape (Refused (TreeFault 0))
+  pub flatten_bad : obeys p ≡ false → Flattens p code count tape tape (Err (TreeFault 0))
   flatten_bad o = flatten_no_code (TreeFault 0) (first_2 p code count o)
 
   module _ (o : obeys p ≡ true) {own ys own' ys' : List ℕ} {m : Measured} (k : Reads code (root p) count own ys own' ys' m) where
-    pub flatten_not : m.whole ≡ false → Flattens p code count tape tape (Refused NotACode)
+    pub flatten_not : m.whole ≡ false → Flattens p code count tape tape (Err NotACode)
     flatten_not f = flatten_no_code NotACode (first_8 p code count o (measured_no (root p) code count m k.is f))
 
     module _ (f : m.whole ≡ true) where
       whole : whole_code (root p) code count ≡ true
       whole = measured_yes (root p) code count m k.is f
 
-      pub flatten_long : letter_limit < m.letters → Flattens p code count tape tape (Refused TapeTooLong)
+      pub flatten_long : letter_limit < m.letters → Flattens p code count tape tape (Err TapeTooLong)
       flatten_long h =
           let n = measured-letters (root p) code count m k.is f in
           flatten_no_code TapeTooLong (first_3 p code count o whole (omega arith))
@@ -112,13 +111,13 @@ module _ (p : Pattern) (code : List ℕ) (count : ℕ) (tape : List ℕ) where
         sound : Sound p code count
         sound = record { good = o; whole = whole; few = omega (arith, exactly) }
 
-        pub flatten_short : length tape < m.letters → Flattens p code count tape tape (Refused (TapeTooShort m.letters))
+        pub flatten_short : length tape < m.letters → Flattens p code count tape tape (Err (TapeTooShort m.letters))
         flatten_short g =
-            subst (λ l. Flattens p code count tape tape (Refused (TapeTooShort l))) exactly
+            subst (λ l. Flattens p code count tape tape (Err (TapeTooShort l))) exactly
             (flatten_refused (TapeTooShort (length (letters_of (root p) code count))) (first_9 p code count sound (length tape) (omega (arith, exactly))))
 
         pub flatten_done : m.letters ≤ length tape → length own ≡ letter_limit → {tape' : List ℕ} → tape' ≡ paste tape 0 own' m.letters
-            → Flattens p code count tape tape' (Letters m.letters)
+            → Flattens p code count tape tape' (Ok m.letters)
         unfolding flatten_answer
         flatten_done g long e =
             let clear = flatten_clear p code count sound (length tape) (omega (arith, exactly)) in

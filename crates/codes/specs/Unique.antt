@@ -1,21 +1,20 @@
 -- The promise of spelling fixes everything: two outcomes that it allows on one input are the same.
-use Rattle.std.specs.Prelude.{◌≡◌, List, ℕ}
+use Rattle.std.specs.Prelude.{◌≡◌, List, ℕ, Err, Ok, Result}
 use Rattle.std.proofs.Common.{sym, ap, ◌∙◌, arith}
+use Rattle.refusals.specs.declared.Refusal.{Refusal}
 use Rattle.syntax.specs.declared.Pattern.{Pattern}
 use Rattle.refusals.specs.Refusals.{refused}
 use Rattle.refusals.specs.RefusalLaws.{refused_same, number_positive}
-use Rattle.codes.specs.declared.Flattened.{Flattened}
-use Rattle.codes.specs.declared.Flattened.TheVariants.{Letters, Refused}
 use Rattle.codes.specs.Flatten.{flattened_answer, Flattens}
 
 -- number and value fix the answer
-pub flattened_same : (r s : Flattened) → flattened_answer r ≡ flattened_answer s → r ≡ s
-flattened_same (Letters n) (Letters m) e = ap (λ a. Letters a.value) e
-flattened_same (Letters n) (Refused s) e = let z : 0 ≡ (refused s).number = ap (λ a. a.number) e in absurd (omega (arith, number_positive s))
-flattened_same (Refused r) (Letters m) e = let z : (refused r).number ≡ 0 = ap (λ a. a.number) e in absurd (omega (arith, number_positive r))
-flattened_same (Refused r) (Refused s) e = ap Refused (refused_same r s e)
+pub flattened_same : (r s : Result ℕ Refusal) → flattened_answer r ≡ flattened_answer s → r ≡ s
+flattened_same (Ok n) (Ok m) e = ap (λ a. Ok a.value) e
+flattened_same (Ok n) (Err s) e = let z : 0 ≡ (refused s).number = ap (λ a. a.number) e in absurd (omega (arith, number_positive s))
+flattened_same (Err r) (Ok m) e = let z : (refused r).number ≡ 0 = ap (λ a. a.number) e in absurd (omega (arith, number_positive r))
+flattened_same (Err r) (Err s) e = ap Err (refused_same r s e)
 
 module _ (p : Pattern) (code : List ℕ) (count : ℕ) where
-  pub flattens_one : (tape tape_now tape_too : List ℕ) (r s : Flattened) → Flattens p code count tape tape_now r
+  pub flattens_one : (tape tape_now tape_too : List ℕ) (r s : Result ℕ Refusal) → Flattens p code count tape tape_now r
       → Flattens p code count tape tape_too s → (r ≡ s) × (tape_now ≡ tape_too)
   flattens_one tape tape_now tape_too r s f g = (flattened_same r s (f.answers ∙ sym g.answers), f.leaves ∙ sym g.leaves)

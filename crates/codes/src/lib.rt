@@ -36,20 +36,13 @@ pub fn spells(table: &[u64; 64], l: usize, code: &[u8], count: u32, tape: &[u8])
     begins(&own, tape)
 }
 
-// What spelling answers: how many letters, or why not.
-#[derive(Clone, Copy)]
-pub enum Flattened {
-    Letters(u32),
-    Refused(Refusal),
-}
-
 // Spells a code: its letters in front of the tape, copied there once they are known to fit. It does not begin with `gather` of entries, whose
 // tests it makes: as so short a function it was compiled into settling, which then held its array while it parsed, for 3,632 bytes of stack more.
-pub fn flatten(p: Pattern, code: &[u8], count: u32, tape: &mut [u8]) -> Flattened
+pub fn flatten(p: Pattern, code: &[u8], count: u32, tape: &mut [u8]) -> Result<u32, Refusal>
     ensures { Flattens p code.now count tape.old tape.new result }
 {
     if !obeys_rules(p) {
-        return Flattened::Refused(Refusal::Tree(0));
+        return Err(Refusal::Tree(0));
     }
     let table = table_of(p);
     let root = p.count - 1;
@@ -57,15 +50,15 @@ pub fn flatten(p: Pattern, code: &[u8], count: u32, tape: &mut [u8]) -> Flattene
     let mut accounts = [0u8; 0];
     let measured = enter(&table, root, code, count, &mut own, &mut accounts);
     if !measured.whole {
-        return Flattened::Refused(Refusal::NotACode);
+        return Err(Refusal::NotACode);
     }
     let letters = measured.letters as usize;
     if Pattern::MAX_LETTERS < letters {
-        return Flattened::Refused(Refusal::TapeTooLong);
+        return Err(Refusal::TapeTooLong);
     }
     if tape.len() < letters {
-        return Flattened::Refused(Refusal::TapeTooShort(measured.letters));
+        return Err(Refusal::TapeTooShort(measured.letters));
     }
     put_front(&own, letters, tape);
-    Flattened::Letters(measured.letters)
+    Ok(measured.letters)
 }

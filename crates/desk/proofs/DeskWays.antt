@@ -1,5 +1,5 @@
 -- What each way of a call must show: its promise, by the first cause that holds, or where none does.
-use Rattle.std.specs.Prelude.{◌≡◌, true, false, not, cond, List, [], ℕ, ◌+◌, ◌-◌, ◌*◌, ◌≤◌, ◌<◌, eqb, get_or}
+use Rattle.std.specs.Prelude.{◌≡◌, true, false, not, cond, List, [], ℕ, ◌+◌, ◌-◌, ◌*◌, ◌≤◌, ◌<◌, eqb, get_or, Err, Ok, Result}
 use Rattle.std.proofs.Math.Path.{sym, ap}
 use Rattle.std.proofs.Common.{subst, ◌∙◌, arith, lt-ltb, le-ltb, ltb-false, ne_eqb}
 use Rattle.std.proofs.lemmas.Bool.{not-false}
@@ -21,13 +21,10 @@ use Rattle.first_sweep.specs.Growing.{Growable}
 use Rattle.desk.specs.declared.Desk.{Desk}
 use Rattle.desk.specs.declared.DeskRefusal.{DeskRefusal}
 use Rattle.desk.specs.declared.DeskRefusal.TheVariants.{Base}
-use Rattle.desk.specs.declared.DeskAnswer.TheVariants.{Letters, Refused}
 use Rattle.desk.specs.declared.DeskAfter.{DeskAfter}
 use Rattle.desk.specs.Desks.{page_limit, held, empty_desk, with_page, without_page, desk_number, desk_refused, if_accepted, DeskTest, words_for}
 use Rattle.desk.specs.Desks.{open_order, put_order, withdraw_order, open_answer, put_answer, withdraw_answer, Opens, Puts, Withdraws}
 use Rattle.desk.specs.Numbers.{desk_number_positive}
-use Rattle.desk.specs.declared.checks.Checked.{Checked}
-use Rattle.desk.specs.declared.checks.Checked.TheVariants.{Held, Refused as ChecksRefused}
 use Rattle.desk.specs.Checking.{Checks, checked_why, checked-held, put_upto, withdraw_few}
 use Rattle.desk.specs.Pages.{less_page}
 
@@ -45,7 +42,7 @@ taken order n new old c = sym (ap (λ a. if_accepted a new old) (clear_said desk
 
 -- ── `open_desk` ──
 module _ (p : Pattern) (d : Desk) (words : List ℕ) where
-  pub open_refused : (why : DeskRefusal) → First why (open_order p (length words)) → Opens p d d words words (Refused why)
+  pub open_refused : (why : DeskRefusal) → First why (open_order p (length words)) → Opens p d d words words (Err why)
   unfolding open_answer
   open_refused why f =
       let order = open_order p (length words) in
@@ -55,7 +52,7 @@ module _ (p : Pattern) (d : Desk) (words : List ℕ) where
         words_left = kept order 0 why (in_front (tail_words p []) words) words f;
       }
 
-  pub open_clear : Clear (open_order p (length words)) → (now : List ℕ) → now ≡ in_front (tail_words p []) words → Opens p d empty_desk words now (Letters 0)
+  pub open_clear : Clear (open_order p (length words)) → (now : List ℕ) → now ≡ in_front (tail_words p []) words → Opens p d empty_desk words now (Ok 0)
   unfolding open_answer
   open_clear c now k =
       let order = open_order p (length words) in
@@ -76,7 +73,7 @@ module _ (p : Pattern) (d : Desk) (page letters words : List ℕ) where
   abbrev order : List DeskTest
   order = put_order d p page letters (length words)
 
-  pub put_refused : (why : DeskRefusal) → First why (put_order d p page letters (length words)) → Puts p page d d letters letters words words (Refused why)
+  pub put_refused : (why : DeskRefusal) → First why (put_order d p page letters (length words)) → Puts p page d d letters letters words words (Err why)
   unfolding put_answer
   put_refused why f =
       let n = held d + length page in
@@ -87,16 +84,16 @@ module _ (p : Pattern) (d : Desk) (page letters words : List ℕ) where
         words_left = kept order n why put_words words f;
       }
 
-  module _ (r : Checked) (c : Checks (put_order d p page letters (length words)) (held d) r) where
-    pub put_why : (why : DeskRefusal) → r ≡ ChecksRefused why → Puts p page d d letters letters words words (Refused why)
+  module _ (r : Result ℕ DeskRefusal) (c : Checks (put_order d p page letters (length words)) (held d) r) where
+    pub put_why : (why : DeskRefusal) → r ≡ Err why → Puts p page d d letters letters words words (Err why)
     put_why why e = put_refused why (checked_why order (held d) r c why e)
 
-    pub put-held : (m : ℕ) → r ≡ Held m → Clear (put_order d p page letters (length words)) × (m ≡ held d)
+    pub put-held : (m : ℕ) → r ≡ Ok m → Clear (put_order d p page letters (length words)) × (m ≡ held d)
     put-held m e = checked-held order (held d) r c m e
 
   module _ (c : Clear (put_order d p page letters (length words))) where
     pub put_done : (e : Desk) (after now : List ℕ) (n : ℕ) → e ≡ with_page d (length page) → after ≡ sets letters at page → now ≡ put_words
-        → n ≡ held d + length page → Puts p page d e letters after words now (Letters n)
+        → n ≡ held d + length page → Puts p page d e letters after words now (Ok n)
     unfolding put_answer
     put_done e after now n f g h k =
         let m = held d + length page in
@@ -130,14 +127,14 @@ module _ (p : Pattern) (d : Desk) (page letters words : List ℕ) where
 
       pub put-made : (f : Desk) (after now : List ℕ) → f ≡ with_page d (length page) → after ≡ sets letters (letter_limit - (b + length page)) page
           → now ≡ sets words (2 * (b + 1)) (grown p (get_or words (2 * b + 1) 0) (eqb b 0) page)
-          → Puts p page d f letters after words now (Letters (b + length page))
+          → Puts p page d f letters after words now (Ok (b + length page))
       put-made f after now g h k =
           put_done f after now (b + length page) g (h ∙ ap (λ n. sets letters (letter_limit - (n + length page)) page) e)
           (k ∙ ap (λ n. sets words (2 * (n + 1)) (grown p (get_or words (2 * n + 1) 0) (eqb n 0) page)) e) (ap (λ n. n + length page) e)
 
 -- ── `withdraw_page` ──
 module _ (p : Pattern) (d : Desk) (letters : List ℕ) where
-  pub withdraw_refused : (why : DeskRefusal) → First why (withdraw_order d p letters) → Withdraws p d d letters (Refused why)
+  pub withdraw_refused : (why : DeskRefusal) → First why (withdraw_order d p letters) → Withdraws p d d letters (Err why)
   unfolding withdraw_answer
   withdraw_refused why f =
       let n = held (without_page d) in
@@ -146,21 +143,21 @@ module _ (p : Pattern) (d : Desk) (letters : List ℕ) where
         leaves = kept (withdraw_order d p letters) n why (without_page d) d f;
       }
 
-  module _ (r : Checked) (c : Checks (withdraw_order d p letters) (held d) r) where
-    pub withdraw_why : (why : DeskRefusal) → r ≡ ChecksRefused why → Withdraws p d d letters (Refused why)
+  module _ (r : Result ℕ DeskRefusal) (c : Checks (withdraw_order d p letters) (held d) r) where
+    pub withdraw_why : (why : DeskRefusal) → r ≡ Err why → Withdraws p d d letters (Err why)
     withdraw_why why e = withdraw_refused why (checked_why (withdraw_order d p letters) (held d) r c why e)
 
-    pub withdraw_held : (m : ℕ) → r ≡ Held m → Clear (withdraw_order d p letters) × (m ≡ held d)
+    pub withdraw_held : (m : ℕ) → r ≡ Ok m → Clear (withdraw_order d p letters) × (m ≡ held d)
     withdraw_held m e = checked-held (withdraw_order d p letters) (held d) r c m e
 
     -- what taking a page off asks
-    pub takeable : (m : ℕ) → r ≡ Held m → (1 ≤ d.count) × (d.count ≤ page_limit) × (m ≡ held d) × (m ≤ letter_limit)
+    pub takeable : (m : ℕ) → r ≡ Ok m → (1 ≤ d.count) × (d.count ≤ page_limit) × (m ≡ held d) × (m ≤ letter_limit)
     takeable m e =
         let t = withdraw_held m e in
         let few = withdraw_few d p letters t.0 in
         (few.0, few.1, t.1, omega (arith, few.2, t.1))
 
-  withdrawn : Clear (withdraw_order d p letters) → Withdraws p d (without_page d) letters (Letters (held (without_page d)))
+  withdrawn : Clear (withdraw_order d p letters) → Withdraws p d (without_page d) letters (Ok (held (without_page d)))
   unfolding withdraw_answer
   withdrawn c =
       let n = held (without_page d) in

@@ -1,5 +1,5 @@
 -- The calls of a desk: the first cause that holds is answered, whatever later causes hold, and all is left as it was.
-use Rattle.std.specs.Prelude.{◌≡◌, refl, ◌⊎◌, List, [], ℕ, ◌+◌, ◌-◌, ◌*◌, eqb, length, get_or}
+use Rattle.std.specs.Prelude.{◌≡◌, refl, ◌⊎◌, List, [], ℕ, ◌+◌, ◌-◌, ◌*◌, eqb, length, get_or, Err, Ok, Result}
 use Rattle.std.proofs.Common.{inl, inr}
 use Rattle.std.proofs.lemmas.List.Edits.{sets}
 use Rattle.syntax.specs.declared.Pattern.{Pattern}
@@ -11,8 +11,6 @@ use Rattle.first_sweep.specs.Tail.{tail_words}
 use Rattle.first_sweep.specs.Grow.{grown}
 use Rattle.desk.specs.declared.Desk.{Desk}
 use Rattle.desk.specs.declared.DeskRefusal.{DeskRefusal}
-use Rattle.desk.specs.declared.DeskAnswer.{DeskAnswer}
-use Rattle.desk.specs.declared.DeskAnswer.TheVariants.{Letters, Refused}
 use Rattle.desk.specs.Desks.{held, empty_desk, with_page, without_page, DeskTest, open_order, put_order, withdraw_order}
 use Rattle.desk.specs.Desks.{Opens, Puts, Withdraws}
 use Rattle.desk.specs.Pages.{less_page}
@@ -20,18 +18,18 @@ use Rattle.desk.proofs.DeskWays.{open_refused, open_clear, put_refused, put_done
 use Rattle.desk.specs.Unique.{opens_one, puts_one, withdraws_one}
 
 -- 01: "A number is returned if its cause holds and none before it in the service's order does, and never otherwise."
-abbrev pub Answered : (order : List DeskTest) → (letters : ℕ) → DeskAnswer → Type 0
-Answered order n r = (Clear order × (r ≡ Letters n)) ⊎ ((why : DeskRefusal) × First why order × (r ≡ Refused why))
+abbrev pub Answered : (order : List DeskTest) → (letters : ℕ) → Result ℕ DeskRefusal → Type 0
+Answered order n r = (Clear order × (r ≡ Ok n)) ⊎ ((why : DeskRefusal) × First why order × (r ≡ Err why))
 
 -- ── opening ──
 module _ (p : Pattern) (d : Desk) (words : List ℕ) where
-  module _ (e : Desk) (now : List ℕ) (r : DeskAnswer) (h : Opens p d e words now r) where
-    pub open_only : (why : DeskRefusal) → First why (open_order p (length words)) → (r ≡ Refused why) × (e ≡ d) × (now ≡ words)
-    open_only why f = opens_one p d e d words now words r (Refused why) h (open_refused p d words why f)
+  module _ (e : Desk) (now : List ℕ) (r : Result ℕ DeskRefusal) (h : Opens p d e words now r) where
+    pub open_only : (why : DeskRefusal) → First why (open_order p (length words)) → (r ≡ Err why) × (e ≡ d) × (now ≡ words)
+    open_only why f = opens_one p d e d words now words r (Err why) h (open_refused p d words why f)
 
-    pub opened : Clear (open_order p (length words)) → (r ≡ Letters 0) × (e ≡ empty_desk) × (now ≡ in_front (tail_words p []) words)
+    pub opened : Clear (open_order p (length words)) → (r ≡ Ok 0) × (e ≡ empty_desk) × (now ≡ in_front (tail_words p []) words)
     opened c =
-        opens_one p d e empty_desk words now (in_front (tail_words p []) words) r (Letters 0) h
+        opens_one p d e empty_desk words now (in_front (tail_words p []) words) r (Ok 0) h
         (open_clear p d words c (in_front (tail_words p []) words) refl)
 
     pub open_answered : Answered (open_order p (length words)) 0 r
@@ -46,19 +44,19 @@ module _ (p : Pattern) (d : Desk) (page letters words : List ℕ) where
   abbrev put_checks : List DeskTest
   put_checks = put_order d p page letters (length words)
 
-  module _ (e : Desk) (after now : List ℕ) (r : DeskAnswer) (h : Puts p page d e letters after words now r) where
+  module _ (e : Desk) (after now : List ℕ) (r : Result ℕ DeskRefusal) (h : Puts p page d e letters after words now r) where
     pub put_only : (why : DeskRefusal) → First why (put_order d p page letters (length words))
-        → (r ≡ Refused why) × (e ≡ d) × (after ≡ letters) × (now ≡ words)
-    put_only why f = puts_one p d page e d letters after letters words now words r (Refused why) h (put_refused p d page letters words why f)
+        → (r ≡ Err why) × (e ≡ d) × (after ≡ letters) × (now ≡ words)
+    put_only why f = puts_one p d page e d letters after letters words now words r (Err why) h (put_refused p d page letters words why f)
 
     pub was_put : Clear (put_order d p page letters (length words))
-        → (r ≡ Letters (held d + length page)) × (e ≡ with_page d (length page))
+        → (r ≡ Ok (held d + length page)) × (e ≡ with_page d (length page))
         × (after ≡ sets letters (letter_limit - (held d + length page)) page)
         × (now ≡ sets words (2 * (held d + 1)) (grown p (get_or words (2 * held d + 1) 0) (eqb (held d) 0) page))
     was_put c =
         let cells = sets letters (letter_limit - (held d + length page)) page in
         let filled = sets words (2 * (held d + 1)) (grown p (get_or words (2 * held d + 1) 0) (eqb (held d) 0) page) in
-        puts_one p d page e (with_page d (length page)) letters after cells words now filled r (Letters (held d + length page)) h
+        puts_one p d page e (with_page d (length page)) letters after cells words now filled r (Ok (held d + length page)) h
         (put_done p d page letters words c (with_page d (length page)) cells filled (held d + length page) refl refl refl refl)
 
     pub put_answered : Answered (put_order d p page letters (length words)) (held d + length page) r
@@ -70,13 +68,13 @@ module _ (p : Pattern) (d : Desk) (page letters words : List ℕ) where
 
 -- ── withdrawing ──
 module _ (p : Pattern) (d : Desk) (letters : List ℕ) where
-  module _ (e : Desk) (r : DeskAnswer) (h : Withdraws p d e letters r) where
-    pub withdraw_only : (why : DeskRefusal) → First why (withdraw_order d p letters) → (r ≡ Refused why) × (e ≡ d)
-    withdraw_only why f = withdraws_one p d e d letters r (Refused why) h (withdraw_refused p d letters why f)
+  module _ (e : Desk) (r : Result ℕ DeskRefusal) (h : Withdraws p d e letters r) where
+    pub withdraw_only : (why : DeskRefusal) → First why (withdraw_order d p letters) → (r ≡ Err why) × (e ≡ d)
+    withdraw_only why f = withdraws_one p d e d letters r (Err why) h (withdraw_refused p d letters why f)
 
-    pub was_withdrawn : Clear (withdraw_order d p letters) → (r ≡ Letters (held (without_page d))) × (e ≡ without_page d)
+    pub was_withdrawn : Clear (withdraw_order d p letters) → (r ≡ Ok (held (without_page d))) × (e ≡ without_page d)
     was_withdrawn c =
-        withdraws_one p d e (without_page d) letters r (Letters (held (without_page d))) h (withdraw_done p d letters c (less_page d) refl)
+        withdraws_one p d e (without_page d) letters r (Ok (held (without_page d))) h (withdraw_done p d letters c (less_page d) refl)
 
     pub withdraw_answered : Answered (withdraw_order d p letters) (held (without_page d)) r
     withdraw_answered = go (which_first (withdraw_order d p letters))

@@ -1,6 +1,6 @@
 -- THE DESK IS A STACK. 02: "From an opening, while nothing but its calls writes desk and letters, the desk answers any run of calls as a plain
 -- stack of pages would, each accepted one with the count of letters then held, and its letters are those pages joined, the last put first."
-use Rattle.std.specs.Prelude.{◌≡◌, refl, Bool, true, ◌&&◌, not, cond, ℕ, ◌+◌, ◌-◌, eqb, leb, ltb, take}
+use Rattle.std.specs.Prelude.{◌≡◌, refl, Bool, true, ◌&&◌, not, cond, ℕ, ◌+◌, ◌-◌, eqb, leb, ltb, take, Result}
 use Rattle.std.proofs.Math.Path.{sym, ap, subst}
 use Rattle.std.proofs.Common.{ap₂, ◌∙◌, true≢false, arith, ltb-false, leb-false, eq-eqb, eqb-true}
 use Rattle.std.proofs.Math.Bool.{false, and-true}
@@ -8,6 +8,7 @@ use mathlib.Core.List.{List, [], ◌∷◌}
 use Rattle.std.proofs.lemmas.Bool.{not-false}
 use Rattle.std.proofs.Math.ListN.{length, length-append}
 use Rattle.std.proofs.lemmas.List.Edits.{sets}
+use Rattle.desk.specs.declared.DeskRefusal.{DeskRefusal}
 use Rattle.syntax.specs.declared.Pattern.{Pattern}
 use Rattle.syntax.specs.Letter.{first_bad, letter_limit}
 use Rattle.refusals.specs.declared.Refusal.TheVariants.{TapeByte}
@@ -16,7 +17,6 @@ use Rattle.refusals.specs.Checks.{first_of, Clear}
 use Rattle.refusals.specs.CheckLaws.{zero-said}
 use Rattle.desk.specs.declared.Desk.{Desk}
 use Rattle.desk.specs.declared.DeskRefusal.TheVariants.{Base, DeskLimits, DeskFull, DeskEmpty}
-use Rattle.desk.specs.declared.DeskAnswer.{DeskAnswer}
 use Rattle.desk.specs.Desks.{page_limit, good_page, sum, lengths_held, held, desk_good}
 use Rattle.desk.specs.Desks.{empty_desk, with_page, without_page, desk_refused, desk_answer, if_accepted}
 use Rattle.desk.specs.Desks.{words_for, table_check, cells_check, words_check, open_answer, put_answer, withdraw_answer, Opens, Puts, Withdraws}
@@ -44,12 +44,12 @@ same_letters a letters = go (eqb a.number 0)
     go false = refl
 
 -- what a call answers is what the stack answers, and the desk then holds the stack then
-record AnswersLike (cells : ℕ) (c : Call) (s : Stack) (e : Desk) (after : List ℕ) (r : DeskAnswer) : Type 0 where
+record AnswersLike (cells : ℕ) (c : Call) (s : Stack) (e : Desk) (after : List ℕ) (r : Result ℕ DeskRefusal) : Type 0 where
   answers : desk_answer r ≡ stack_answer cells c s
   holds : Holds cells (stack_step cells c s) e after
 
 -- where the answers are the same, the promise's new and old things are those of the stack's step
-module _ (cells : ℕ) (c : Call) (s : Stack) (d e new : Desk) (letters after fresh : List ℕ) (r : DeskAnswer) (a : Answer) where
+module _ (cells : ℕ) (c : Call) (s : Stack) (d e new : Desk) (letters after fresh : List ℕ) (r : Result ℕ DeskRefusal) (a : Answer) where
   like : desk_answer r ≡ a → e ≡ if_accepted a new d → after ≡ if_accepted a fresh letters → a ≡ stack_answer cells c s
       → ((stack_answer cells c s).number ≡ 0 → Holds cells (stack_next c s) new fresh) → Holds cells s d letters → AnswersLike cells c s e after r
   unfolding stack_step
@@ -72,7 +72,7 @@ accepted_none cells c s e =
 
 -- opening
 module _ (cells : ℕ) (s : Stack) (d e : Desk) (letters : List ℕ) (h : Holds cells s d letters) where
-  opened : (p : Pattern) (n : ℕ) (words now : List ℕ) (r : DeskAnswer) → length words ≡ n → Opens p d e words now r → (after : List ℕ)
+  opened : (p : Pattern) (n : ℕ) (words now : List ℕ) (r : Result ℕ DeskRefusal) → length words ≡ n → Opens p d e words now r → (after : List ℕ)
       → after ≡ letters → AnswersLike cells (opening p n) s e after r
   unfolding open_answer stack_answer
   opened p n words now r w o after k =
@@ -116,7 +116,7 @@ module _ (cells : ℕ) (s : Stack) (d : Desk) (letters : List ℕ) (h : Holds ce
       put_holds cells s d letters page h (ltb-false cells letter_limit none.1.0) (leb-false page_limit (length s) none.1.1.1.0)
       (not-false (good_page (length page)) none.1.1.0) (no_bad page (ltb-false (first_bad page) (length page) none.1.1.1.1.0))
 
-  puts_like : (e : Desk) (after : List ℕ) (p : Pattern) (page : List ℕ) (n : ℕ) (words now : List ℕ) (r : DeskAnswer) → length words ≡ n
+  puts_like : (e : Desk) (after : List ℕ) (p : Pattern) (page : List ℕ) (n : ℕ) (words now : List ℕ) (r : Result ℕ DeskRefusal) → length words ≡ n
       → Puts p page d e letters after words now r → AnswersLike cells (putting p page n) s e after r
   puts_like e after p page n words now r w k =
       like cells (putting p page n) s d e (with_page d (length page)) letters after
@@ -149,7 +149,7 @@ module _ (cells : ℕ) (s : Stack) (d : Desk) (letters : List ℕ) (h : Holds ce
       ∙ ap (λ x. less_by p cells false x left) h.count
       ∙ ap (less_by p cells false (length s)) (top_held cells s d letters h)
 
-  withdraws_like : (e : Desk) (after : List ℕ) (p : Pattern) (r : DeskAnswer) → Withdraws p d e letters r → after ≡ letters
+  withdraws_like : (e : Desk) (after : List ℕ) (p : Pattern) (r : Result ℕ DeskRefusal) → Withdraws p d e letters r → after ≡ letters
       → AnswersLike cells (withdrawing p) s e after r
   withdraws_like e after p r w k =
       let a = withdraw_answer d p letters in
@@ -157,13 +157,13 @@ module _ (cells : ℕ) (s : Stack) (d : Desk) (letters : List ℕ) (h : Holds ce
       (less_same p) (less-new cells s d letters p h) h
 
 -- ── runs ──
-one_call : (cells : ℕ) (c : Call) (s : Stack) (d e : Desk) (letters after : List ℕ) (r : DeskAnswer) → Does c d e letters after r → Holds cells s d letters
+one_call : (cells : ℕ) (c : Call) (s : Stack) (d e : Desk) (letters after : List ℕ) (r : Result ℕ DeskRefusal) → Does c d e letters after r → Holds cells s d letters
     → AnswersLike cells c s e after r
 one_call cells (opening p n) s d e letters after r (words, now, w, o, k) h = opened cells s d e letters h p n words now r w o after k
 one_call cells (putting p page n) s d e letters after r (words, now, w, k) h = puts_like cells s d letters h e after p page n words now r w k
 one_call cells (withdrawing p) s d e letters after r (w, k) h = withdraws_like cells s d letters h e after p r w k
 
-run_like : (cells : ℕ) {cs : List Call} {rs : List DeskAnswer} {d e : Desk} {letters after : List ℕ} (s : Stack) → Run d letters cs rs e after
+run_like : (cells : ℕ) {cs : List Call} {rs : List (Result ℕ DeskRefusal)} {d e : Desk} {letters after : List ℕ} (s : Stack) → Run d letters cs rs e after
     → Holds cells s d letters → LikeAStack cells cs s rs e after
 run_like cells s rest h = record { answers = refl; holds = h.holds; pages = h.count }
 run_like cells s (next {d = d} {e = e} {letters = letters} {after = after} {c = c} {r = r} does more) h =
@@ -177,8 +177,8 @@ run_like cells s (next {d = d} {e = e} {letters = letters} {after = after} {c = 
 
 -- THE THEOREM. An accepted opening leaves an empty desk, whatever desk and letters were there; any run of calls behind it, refused ones too, is
 -- answered as a stack that is empty at first answers it.
-pub desk_is_a_stack : {p : Pattern} {d e f : Desk} {words now : List ℕ} {r : DeskAnswer} → Opens p d e words now r → (desk_answer r).number ≡ 0
-    → {letters last : List ℕ} {cs : List Call} {rs : List DeskAnswer} → Run e letters cs rs f last → LikeAStack (length letters) cs [] rs f last
+pub desk_is_a_stack : {p : Pattern} {d e f : Desk} {words now : List ℕ} {r : Result ℕ DeskRefusal} → Opens p d e words now r → (desk_answer r).number ≡ 0
+    → {letters last : List ℕ} {cs : List Call} {rs : List (Result ℕ DeskRefusal)} → Run e letters cs rs f last → LikeAStack (length letters) cs [] rs f last
 desk_is_a_stack {p} {d} {e} {words = words} o z {letters} run =
     let a = open_answer p (length words) in
     let zero_first : eqb a.number 0 ≡ true = eq-eqb a.number 0 (sym (ap (λ x. x.number) o.answers) ∙ z) in

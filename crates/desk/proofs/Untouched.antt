@@ -1,12 +1,12 @@
 -- 02: "a put changes only its own letters' cells and mark words", accepted or refused.
-use Rattle.std.specs.Prelude.{◌≡◌, ◌⊎◌, List, ℕ, ◌+◌, ◌-◌, ◌*◌, ◌≤◌, ◌<◌, eqb, length, get_or}
+use Rattle.std.specs.Prelude.{◌≡◌, ◌⊎◌, List, ℕ, ◌+◌, ◌-◌, ◌*◌, ◌≤◌, ◌<◌, eqb, length, get_or, Result}
 use Rattle.std.proofs.Common.{ap, ◌∙◌, inl, inr, arith}
 use Rattle.std.proofs.lemmas.List.Edits.{sets}
+use Rattle.desk.specs.declared.DeskRefusal.{DeskRefusal}
 use Rattle.syntax.specs.declared.Pattern.{Pattern}
 use Rattle.syntax.specs.Letter.{letter_limit}
 use Rattle.first_sweep.specs.Grow.{grown, step_by, grown-length}
 use Rattle.desk.specs.declared.Desk.{Desk}
-use Rattle.desk.specs.declared.DeskAnswer.{DeskAnswer}
 use Rattle.desk.specs.Desks.{held, put_order, Puts}
 use Rattle.desk.specs.Checking.{put_upto}
 use Rattle.desk.specs.Moves.{sets-before, sets_behind}
@@ -17,7 +17,7 @@ outside : (vs l : List ℕ) (at end i : ℕ) → at + length vs ≡ end → (i <
 outside vs l at end i e (inl h) = sets-before vs l at i h
 outside vs l at end i e (inr h) = sets_behind vs l at i (omega (arith, e, h))
 
-module _ (p : Pattern) (page : List ℕ) (d e : Desk) (letters after words now : List ℕ) (r : DeskAnswer) (h : Puts p page d e letters after words now r) where
+module _ (p : Pattern) (page : List ℕ) (d e : Desk) (letters after words now : List ℕ) (r : Result ℕ DeskRefusal) (h : Puts p page d e letters after words now r) where
   abbrev How : Type 0
   How = Answered (put_order d p page letters (length words)) (held d + length page) r
 

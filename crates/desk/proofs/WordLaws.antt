@@ -1,14 +1,14 @@
 -- RIGHT WORDS STAY RIGHT. 02: "If before a call the marks are those of the joined letters under its table, they are so after it; a put changes only
 -- its own letters' cells and mark words, a withdrawal none." Each call is one of the ways of first_sweep RightWords.
-use Rattle.std.specs.Prelude.{◌≡◌, List, ◌++◌, ℕ, ◌+◌, ◌-◌, ◌*◌, eqb, length, get_or, take, drop}
+use Rattle.std.specs.Prelude.{◌≡◌, List, ◌++◌, ℕ, ◌+◌, ◌-◌, ◌*◌, eqb, length, get_or, take, drop, Result}
 use Rattle.std.proofs.Common.{sym, ap, ap₂, subst, ◌∙◌, inl, inr, arith, take-append-drop}
 use Rattle.std.proofs.lemmas.List.Edits.{sets}
+use Rattle.desk.specs.declared.DeskRefusal.{DeskRefusal}
 use Rattle.syntax.specs.declared.Pattern.{Pattern}
 use Rattle.refusals.specs.Checks.{Clear}
 use Rattle.first_sweep.specs.Grow.{grown}
 use Rattle.first_sweep.specs.RightWords.{RightWords, end_right, grown-right, withdrawn_right}
 use Rattle.desk.specs.declared.Desk.{Desk}
-use Rattle.desk.specs.declared.DeskAnswer.{DeskAnswer}
 use Rattle.desk.specs.Desks.{page_limit, held, letters_held, without_page, open_order, put_order, withdraw_order, Opens, Puts, Withdraws}
 use Rattle.desk.specs.Checking.{put-room, put_upto, put_cells, withdraw_few, withdraw_cells}
 use Rattle.desk.proofs.DeskWays.{put-rules, put_words-room}
@@ -16,14 +16,14 @@ use Rattle.desk.specs.Moves.{none_held, held-length, put-letters, less-letters}
 use Rattle.desk.proofs.Orders.{Answered, opened, put_answered, was_put, put_only, withdraw_answered, was_withdrawn, withdraw_only}
 
 -- an accepted opening, whatever the words were
-pub open_right : (p : Pattern) (d e : Desk) (words now letters : List ℕ) (r : DeskAnswer) → Opens p d e words now r → Clear (open_order p (length words))
+pub open_right : (p : Pattern) (d e : Desk) (words now letters : List ℕ) (r : Result ℕ DeskRefusal) → Opens p d e words now r → Clear (open_order p (length words))
     → RightWords p (letters_held e letters) now
 open_right p d e words now letters r h c =
     let o = opened p d words e now r h c in
     subst (λ w. RightWords p w now) (sym (ap (λ x. letters_held x letters) o.1 ∙ none_held letters)) (end_right p words now o.2)
 
 -- a put, accepted or refused, on a desk as the code has it, of 30 lengths
-module _ (p : Pattern) (page : List ℕ) (d e : Desk) (letters after words now : List ℕ) (r : DeskAnswer) (h : Puts p page d e letters after words now r)
+module _ (p : Pattern) (page : List ℕ) (d e : Desk) (letters after words now : List ℕ) (r : Result ℕ DeskRefusal) (h : Puts p page d e letters after words now r)
     (whole : length d.lengths ≡ page_limit) where
   -- 02: "a page is put before the letters held"
   pub put-before : Clear (put_order d p page letters (length words)) → letters_held e after ≡ page ++ letters_held d letters
@@ -50,7 +50,7 @@ module _ (p : Pattern) (page : List ℕ) (d e : Desk) (letters after words now :
           subst (λ w. RightWords p w now) (sym (ap₂ letters_held o.1 o.2)) (subst (RightWords p (letters_held d letters)) (sym o.3) right)
 
 -- a withdrawal, accepted or refused: the words are not touched
-module _ (p : Pattern) (d e : Desk) (letters words : List ℕ) (r : DeskAnswer) (h : Withdraws p d e letters r) where
+module _ (p : Pattern) (d e : Desk) (letters words : List ℕ) (r : Result ℕ DeskRefusal) (h : Withdraws p d e letters r) where
   pub withdraw_right : RightWords p (letters_held d letters) words → RightWords p (letters_held e letters) words
   withdraw_right right = go (withdraw_answered p d letters e r h)
     where

@@ -1,5 +1,5 @@
 -- What each way of a call's checks must show: the first cause that holds, or that none holds.
-use Rattle.std.specs.Prelude.{◌≡◌, refl, true, false, ◌&&◌, List, [], ◌∷◌, ◌++◌, ℕ, zero, suc, ◌+◌, ◌*◌, ◌≤◌, ◌<◌, length}
+use Rattle.std.specs.Prelude.{◌≡◌, refl, true, false, ◌&&◌, List, [], ◌∷◌, ◌++◌, ℕ, zero, suc, ◌+◌, ◌*◌, ◌≤◌, ◌<◌, length, Err, None, Ok, Option, Result, Some, tt, ⊤}
 use Rattle.std.proofs.Common.{sym, ap, subst, ◌∙◌, arith, lt-ltb, le-ltb, le-leb, eq-eqb, ne_eqb, leb-false, ltb-false}
 use Rattle.std.proofs.Math.Bool.{not}
 use Rattle.std.proofs.lemmas.Bool.{lt-leb, eqb-false, not-false}
@@ -11,14 +11,8 @@ use Rattle.refusals.specs.declared.Refusal.TheVariants.{Tree as TreeFault, TapeB
 use Rattle.refusals.specs.Checks.{numbers_of, First, here, past, Clear}
 use Rattle.refusals.specs.CheckLaws.{first_behind, clear_both}
 use Rattle.desk.specs.declared.Desk.{Desk}
-use Rattle.desk.specs.declared.DeskCheck.{DeskCheck}
-use Rattle.desk.specs.declared.DeskCheck.TheVariants.{Taken, Refused as NotTaken}
 use Rattle.desk.specs.declared.DeskRefusal.{DeskRefusal}
 use Rattle.desk.specs.declared.DeskRefusal.TheVariants.{Base, DeskLimits, DeskFull, DeskEmpty}
-use Rattle.desk.specs.declared.limits.Limits.{Limits}
-use Rattle.desk.specs.declared.limits.Limits.TheVariants.{Kept, Broken}
-use Rattle.desk.specs.declared.checks.Checked.{Checked}
-use Rattle.desk.specs.declared.checks.Checked.TheVariants.{Held, Refused}
 use Rattle.desk.specs.Desks.{page_limit, page_letters, good_page, held, limits_kept, desk_good, desk_refused, DeskTest, words_for}
 use Rattle.desk.specs.Desks.{open_order, lent_order, page_order, put_order, held_order, withdraw_order}
 use Rattle.desk.specs.Limits.{put_limits, held_limits, by_kept, by_broken, page_upto, limits_few}
@@ -41,15 +35,15 @@ module _ (p : Pattern) (d : Desk) (letters : List ℕ) where
 
 -- ── the checks ──
 -- the promise of a call's checks: the letters held where no cause of the order holds, or the first that does
-abbrev pub Checks : (order : List DeskTest) → (letters : ℕ) → Checked → Type 0
-Checks order n (Held m) = Clear order × (m ≡ n)
-Checks order n (Refused why) = First why order
+abbrev pub Checks : (order : List DeskTest) → (letters : ℕ) → Result ℕ DeskRefusal → Type 0
+Checks order n (Ok m) = Clear order × (m ≡ n)
+Checks order n (Err why) = First why order
 
-module _ (order : List DeskTest) (n : ℕ) (r : Checked) (c : Checks order n r) where
-  pub checked_why : (why : DeskRefusal) → r ≡ Refused why → First why order
+module _ (order : List DeskTest) (n : ℕ) (r : Result ℕ DeskRefusal) (c : Checks order n r) where
+  pub checked_why : (why : DeskRefusal) → r ≡ Err why → First why order
   checked_why why e = subst (Checks order n) e c
 
-  pub checked-held : (m : ℕ) → r ≡ Held m → Clear order × (m ≡ n)
+  pub checked-held : (m : ℕ) → r ≡ Ok m → Clear order × (m ≡ n)
   checked-held m e = subst (Checks order n) e c
 
 -- ── the desk's part ──
@@ -63,15 +57,15 @@ module _ (d : Desk) (letters : List ℕ) where
 
 -- ── the causes of an opening, and those that a put and a withdrawal test first ──
 -- the promise of their checks
-abbrev pub ChecksFirst : (order : List DeskTest) → DeskCheck → Type 0
-ChecksFirst order Taken = Clear order
-ChecksFirst order (NotTaken why) = First why order
+abbrev pub ChecksFirst : (order : List DeskTest) → Result ⊤ DeskRefusal → Type 0
+ChecksFirst order (Ok tt) = Clear order
+ChecksFirst order (Err why) = First why order
 
-module _ (order : List DeskTest) (r : DeskCheck) (c : ChecksFirst order r) where
-  pub not_taken : (why : DeskRefusal) → r ≡ NotTaken why → First why order
+module _ (order : List DeskTest) (r : Result ⊤ DeskRefusal) (c : ChecksFirst order r) where
+  pub not_taken : (why : DeskRefusal) → r ≡ Err why → First why order
   not_taken why e = subst (ChecksFirst order) e c
 
-  pub when_taken : r ≡ Taken → Clear order
+  pub when_taken : r ≡ Ok tt → Clear order
   when_taken e = subst (ChecksFirst order) e c
 
 module _ (p : Pattern) (n : ℕ) where
@@ -100,17 +94,17 @@ module _ (p : Pattern) (n : ℕ) where
   lent_cells c = ltb-false n letter_limit c.1.0
 
 -- the other causes, behind these
-pub checks_behind : (order more : List DeskTest) (n : ℕ) (r : Checked) → Clear order → Checks more n r → Checks (order ++ more) n r
-checks_behind order more n (Held m) c x = (clear_both order more c x.0, x.1)
-checks_behind order more n (Refused why) c x = first_behind order c x
+pub checks_behind : (order more : List DeskTest) (n : ℕ) (r : Result ℕ DeskRefusal) → Clear order → Checks more n r → Checks (order ++ more) n r
+checks_behind order more n (Ok m) c x = (clear_both order more c x.0, x.1)
+checks_behind order more n (Err why) c x = first_behind order c x
 
 -- ── putting ──
-module _ (d : Desk) (page letters : List ℕ) (words : ℕ) (r : Limits) (e : r ≡ put_limits (length page) d letters) where
-  pub put_13 : r ≡ Broken → First DeskLimits (page_order d page letters words)
+module _ (d : Desk) (page letters : List ℕ) (words : ℕ) (r : Option ℕ) (e : r ≡ put_limits (length page) d letters) where
+  pub put_13 : r ≡ None → First DeskLimits (page_order d page letters words)
   unfolding put_limits
   put_13 k = here (ap not (by_broken (good_page (length page) && desk_good d letters) (held d) r e k))
 
-  module _ (h : ℕ) (k : r ≡ Kept h) where
+  module _ (h : ℕ) (k : r ≡ Some h) where
     right : ((good_page (length page) && desk_good d letters) ≡ true) × (h ≡ held d)
     unfolding put_limits
     right = by_kept (good_page (length page) && desk_good d letters) (held d) r e h k
@@ -160,12 +154,12 @@ module _ (d : Desk) (page letters : List ℕ) (words : ℕ) (r : Limits) (e : r 
         )
 
 -- ── withdrawing ──
-module _ (d : Desk) (letters : List ℕ) (r : Limits) (e : r ≡ held_limits d letters) where
-  pub withdraw_13 : r ≡ Broken → First DeskLimits (held_order d letters)
+module _ (d : Desk) (letters : List ℕ) (r : Option ℕ) (e : r ≡ held_limits d letters) where
+  pub withdraw_13 : r ≡ None → First DeskLimits (held_order d letters)
   unfolding held_limits
   withdraw_13 k = here (ap not (by_broken (desk_good d letters) (held d) r e k))
 
-  module _ (h : ℕ) (k : r ≡ Kept h) where
+  module _ (h : ℕ) (k : r ≡ Some h) where
     good : (desk_good d letters ≡ true) × (h ≡ held d)
     unfolding held_limits
     good = by_kept (desk_good d letters) (held d) r e h k

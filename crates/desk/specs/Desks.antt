@@ -1,5 +1,5 @@
 -- The page desk: what its calls answer and what they leave, for every input. Definitions only.
-use Rattle.std.specs.Prelude.{◌≡◌, Bool, true, ◌&&◌, not, cond, List, [], ◌∷◌, ◌++◌, ℕ, suc, ◌+◌, ◌-◌, ◌*◌, eqb, leb, ltb, length, get_or, take, drop, set, replicate}
+use Rattle.std.specs.Prelude.{◌≡◌, Bool, true, ◌&&◌, not, cond, List, [], ◌∷◌, ◌++◌, ℕ, suc, ◌+◌, ◌-◌, ◌*◌, eqb, leb, ltb, length, get_or, take, drop, set, replicate, Err, Ok, Result}
 use Rattle.std.proofs.lemmas.List.Edits.{sets}
 use Rattle.syntax.specs.declared.Pattern.{Pattern}
 use Rattle.syntax.specs.Letter.{is_letter, first_bad, letter_limit}
@@ -13,8 +13,6 @@ use Rattle.first_sweep.specs.Grow.{grown}
 use Rattle.desk.specs.declared.Desk.{Desk}
 use Rattle.desk.specs.declared.DeskRefusal.{DeskRefusal}
 use Rattle.desk.specs.declared.DeskRefusal.TheVariants.{Base, DeskLimits, DeskFull, DeskEmpty}
-use Rattle.desk.specs.declared.DeskAnswer.{DeskAnswer}
-use Rattle.desk.specs.declared.DeskAnswer.TheVariants.{Letters, Refused}
 use Rattle.desk.specs.declared.DeskAfter.{DeskAfter}
 
 -- ── a desk and its letters ──
@@ -85,9 +83,9 @@ desk_value DeskEmpty = 0
 abbrev pub desk_refused : DeskRefusal → Answer
 desk_refused r = answer (desk_number r) (desk_value r)
 
-abbrev pub desk_answer : DeskAnswer → Answer
-desk_answer (Letters n) = answer 0 n
-desk_answer (Refused r) = desk_refused r
+abbrev pub desk_answer : Result ℕ DeskRefusal → Answer
+desk_answer (Ok n) = answer 0 n
+desk_answer (Err r) = desk_refused r
 
 abbrev pub DeskTest : Type 0
 DeskTest = CheckOf DeskRefusal
@@ -150,19 +148,19 @@ abbrev pub if_accepted : {A : Type 0} → Answer → (new old : A) → A
 if_accepted a new old = cond (eqb a.number 0) new old
 
 abbrev pub emptied : DeskAfter
-emptied = record { desk = empty_desk; answer = Letters 0 }
+emptied = record { desk = empty_desk; answer = Ok 0 }
 
 abbrev pub refused_change : Desk → DeskRefusal → DeskAfter
-refused_change d why = record { desk = d; answer = Refused why }
+refused_change d why = record { desk = d; answer = Err why }
 
 -- ── THE PROMISES, for every desk, table, page and lent buffers ──
-pub record Opens (p : Pattern) (d d_now : Desk) (words words_now : List ℕ) (r : DeskAnswer) : Type 0 where
+pub record Opens (p : Pattern) (d d_now : Desk) (words words_now : List ℕ) (r : Result ℕ DeskRefusal) : Type 0 where
   pub answers : desk_answer r ≡ open_answer p (length words)
   pub leaves : d_now ≡ if_accepted (open_answer p (length words)) empty_desk d
   pub words_left : words_now ≡ if_accepted (open_answer p (length words)) (in_front (tail_words p []) words) words
 
 -- 02: "a put changes only its own letters' cells and mark words"
-pub record Puts (p : Pattern) (page : List ℕ) (d d_now : Desk) (letters letters_now words words_now : List ℕ) (r : DeskAnswer) : Type 0 where
+pub record Puts (p : Pattern) (page : List ℕ) (d d_now : Desk) (letters letters_now words words_now : List ℕ) (r : Result ℕ DeskRefusal) : Type 0 where
   pub answers : desk_answer r ≡ put_answer d p page letters (length words)
   pub leaves : d_now ≡ if_accepted (put_answer d p page letters (length words)) (with_page d (length page)) d
   pub letters-left : letters_now ≡
@@ -172,6 +170,6 @@ pub record Puts (p : Pattern) (page : List ℕ) (d d_now : Desk) (letters letter
       (sets words (2 * (held d + 1)) (grown p (get_or words (2 * held d + 1) 0) (eqb (held d) 0) page)) words
 
 -- 02: "a withdrawal none"
-pub record Withdraws (p : Pattern) (d d_now : Desk) (letters : List ℕ) (r : DeskAnswer) : Type 0 where
+pub record Withdraws (p : Pattern) (d d_now : Desk) (letters : List ℕ) (r : Result ℕ DeskRefusal) : Type 0 where
   pub answers : desk_answer r ≡ withdraw_answer d p letters
   pub leaves : d_now ≡ if_accepted (withdraw_answer d p letters) (without_page d) d

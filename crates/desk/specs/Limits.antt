@@ -1,5 +1,5 @@
 -- What the functions that look at a desk answer, and the laws of their loop.
-use Rattle.std.specs.Prelude.{◌≡◌, refl, Bool, ◌&&◌, List, [], ◌∷◌, ℕ, suc, ◌+◌, ◌-◌, ◌*◌, ◌≤◌, ◌<◌, leb, get_or, take}
+use Rattle.std.specs.Prelude.{◌≡◌, refl, Bool, ◌&&◌, List, [], ◌∷◌, ℕ, suc, ◌+◌, ◌-◌, ◌*◌, ◌≤◌, ◌<◌, leb, get_or, take, None, Option, Some}
 use Rattle.std.proofs.Math.Path.{sym, ap}
 use Rattle.std.proofs.Common.{◌∙◌, arith, leb-true, le-leb, length-take, drop-cons}
 use Rattle.std.proofs.Math.Bool.{true, false, cond}
@@ -9,54 +9,52 @@ use Rattle.std.proofs.Math.Seq.{length-slice}
 use Rattle.syntax.specs.Bools.{and_fst, and_snd}
 use Rattle.syntax.specs.Letter.{is_letter, first_bad, letter_limit}
 use Rattle.desk.specs.declared.Desk.{Desk}
-use Rattle.desk.specs.declared.limits.Limits.{Limits}
-use Rattle.desk.specs.declared.limits.Limits.TheVariants.{Kept, Broken}
 use Rattle.desk.specs.Desks.{page_limit, page_letters, good_page, every, sum, lengths_held, held, letters_held, limits_kept, desk_good}
 use Rattle.desk.specs.Lists.{no_bad, some-bad, drop-take}
 
-unfoldable pub pages_limits : (pages : List ℕ) → Limits
-pages_limits xs = cond (every good_page xs) (Kept (sum xs)) Broken
+unfoldable pub pages_limits : (pages : List ℕ) → Option ℕ
+pages_limits xs = cond (every good_page xs) (Some (sum xs)) None
 
-unfoldable pub desk_limits : Desk → Limits
-desk_limits d = cond (limits_kept d) (Kept (held d)) Broken
+unfoldable pub desk_limits : Desk → Option ℕ
+desk_limits d = cond (limits_kept d) (Some (held d)) None
 
 abbrev pub desk_of : (count : ℕ) → (lengths : List ℕ) → Desk
 desk_of n ls = record { count = n; lengths = ls }
 
-unfoldable pub held_limits : Desk → (letters : List ℕ) → Limits
-held_limits d letters = cond (desk_good d letters) (Kept (held d)) Broken
+unfoldable pub held_limits : Desk → (letters : List ℕ) → Option ℕ
+held_limits d letters = cond (desk_good d letters) (Some (held d)) None
 
 -- the same, where a page of so many letters is to be put
-unfoldable pub put_limits : (letters : ℕ) → Desk → (cells : List ℕ) → Limits
-put_limits n d cells = cond (good_page n && desk_good d cells) (Kept (held d)) Broken
+unfoldable pub put_limits : (letters : ℕ) → Desk → (cells : List ℕ) → Option ℕ
+put_limits n d cells = cond (good_page n && desk_good d cells) (Some (held d)) None
 
-kept_broken : (n : ℕ) → Kept n ≡ Broken → ⊥
+kept_broken : (n : ℕ) → Some n ≡ None → ⊥
 kept_broken n e = let z : ◌≡◌ {A = ℕ} 0 1 = ap (λ l. told l) e in omega arith
   where
-    told : Limits → ℕ
-    told (Kept m) = 0
-    told Broken = 1
+    told : Option ℕ → ℕ
+    told (Some m) = 0
+    told None = 1
 
-kept_same : (n m : ℕ) → Kept n ≡ Kept m → n ≡ m
+kept_same : (n m : ℕ) → Some n ≡ Some m → n ≡ m
 kept_same n m e = ap (λ l. told l) e
   where
-    told : Limits → ℕ
-    told (Kept j) = j
-    told Broken = 0
+    told : Option ℕ → ℕ
+    told (Some j) = j
+    told None = 0
 
 -- what is told of a test by what was answered
-module _ (b : Bool) (h : ℕ) (r : Limits) (e : r ≡ cond b (Kept h) Broken) where
-  pub by_kept : (n : ℕ) → r ≡ Kept n → (b ≡ true) × (n ≡ h)
+module _ (b : Bool) (h : ℕ) (r : Option ℕ) (e : r ≡ cond b (Some h) None) where
+  pub by_kept : (n : ℕ) → r ≡ Some n → (b ≡ true) × (n ≡ h)
   by_kept n k = go b refl (sym k ∙ e)
     where
-      go : (t : Bool) → b ≡ t → Kept n ≡ cond t (Kept h) Broken → (b ≡ true) × (n ≡ h)
+      go : (t : Bool) → b ≡ t → Some n ≡ cond t (Some h) None → (b ≡ true) × (n ≡ h)
       go true q f = (q, kept_same n h f)
       go false q f = absurd (kept_broken n f)
 
-  pub by_broken : r ≡ Broken → b ≡ false
+  pub by_broken : r ≡ None → b ≡ false
   by_broken k = go b refl (sym k ∙ e)
     where
-      go : (t : Bool) → b ≡ t → Broken ≡ cond t (Kept h) Broken → b ≡ false
+      go : (t : Bool) → b ≡ t → None ≡ cond t (Some h) None → b ≡ false
       go true q f = absurd (kept_broken h (sym f))
       go false q f = q
 
@@ -103,23 +101,23 @@ pub pages_summed_start : (xs : List ℕ) → PagesSummed xs 0 0
 pages_summed_start xs = record { within = omega arith; few = omega arith; good = refl; sums = omega arith }
 
 module _ (xs : List ℕ) (i total : ℕ) (s : PagesSummed xs i total) where
-  pub pages_summed_end : length xs ≤ i → Kept total ≡ pages_limits xs
+  pub pages_summed_end : length xs ≤ i → Some total ≡ pages_limits xs
   unfolding pages_limits
   pages_summed_end h =
       let none = drop_of_length-le xs h in
       let g : every good_page xs ≡ true = s.good ∙ ap (every good_page) none in
       let t : sum xs ≡ total = s.sums ∙ (let z : sum (drop i xs) ≡ 0 = ap sum none in omega arith) in
-      sym (ap (λ b. cond b (Kept (sum xs)) Broken) g ∙ ap Kept t)
+      sym (ap (λ b. cond b (Some (sum xs)) None) g ∙ ap Some t)
 
   -- the length there is n
   module _ (l : i < length xs) (n : ℕ) (e : n ≡ get_or xs i 0) where
     first_good : every good_page xs ≡ (good_page n && every good_page (drop (suc i) xs))
     first_good = s.good ∙ ap (every good_page) (drop-cons xs i 0 l) ∙ ap (λ m. good_page m && every good_page (drop (suc i) xs)) (sym e)
 
-    pub pages_summed_broken : good_page n ≡ false → Broken ≡ pages_limits xs
+    pub pages_summed_broken : good_page n ≡ false → None ≡ pages_limits xs
     unfolding pages_limits
     pages_summed_broken g =
-        sym (ap (λ b. cond b (Kept (sum xs)) Broken) (first_good ∙ ap (λ b. b && every good_page (drop (suc i) xs)) g))
+        sym (ap (λ b. cond b (Some (sum xs)) None) (first_good ∙ ap (λ b. b && every good_page (drop (suc i) xs)) g))
 
     pub pages_summed_few : length xs ≤ page_limit → good_page n ≡ true → total + n ≤ letter_limit
     pages_summed_few h g = omega (arith, s.few, page_upto n g)
@@ -138,26 +136,26 @@ module _ (xs : List ℕ) (i total : ℕ) (s : PagesSummed xs i total) where
 
 -- ── `limits_of` ──
 module _ (count : ℕ) (lengths : List ℕ) where
-  pub count_over : page_limit < count → Broken ≡ desk_limits (desk_of count lengths)
+  pub count_over : page_limit < count → None ≡ desk_limits (desk_of count lengths)
   unfolding desk_limits limits_kept
   count_over h = rw (lt-leb count page_limit h)
 
-  pub limits_summed : count ≤ page_limit → (r : Limits) → r ≡ pages_limits (take count lengths) → r ≡ desk_limits (desk_of count lengths)
+  pub limits_summed : count ≤ page_limit → (r : Option ℕ) → r ≡ pages_limits (take count lengths) → r ≡ desk_limits (desk_of count lengths)
   unfolding desk_limits limits_kept pages_limits held lengths_held
   limits_summed h r e = e ∙ rw (le-leb count page_limit h)
 
 -- ── `limits_held` ──
-module _ (d : Desk) (letters : List ℕ) (r : Limits) (e : r ≡ desk_limits d) where
-  limits_told : (n : ℕ) → r ≡ Kept n → (limits_kept d ≡ true) × (n ≡ held d)
+module _ (d : Desk) (letters : List ℕ) (r : Option ℕ) (e : r ≡ desk_limits d) where
+  limits_told : (n : ℕ) → r ≡ Some n → (limits_kept d ≡ true) × (n ≡ held d)
   unfolding desk_limits
   limits_told = by_kept (limits_kept d) (held d) r e
 
-  pub held_broken : r ≡ Broken → Broken ≡ held_limits d letters
+  pub held_broken : r ≡ None → None ≡ held_limits d letters
   unfolding desk_limits held_limits desk_good
   held_broken k =
-      sym (ap (λ b. cond (b && every is_letter (letters_held d letters)) (Kept (held d)) Broken) (by_broken (limits_kept d) (held d) r e k))
+      sym (ap (λ b. cond (b && every is_letter (letters_held d letters)) (Some (held d)) None) (by_broken (limits_kept d) (held d) r e k))
 
-  module _ (n : ℕ) (k : r ≡ Kept n) where
+  module _ (n : ℕ) (k : r ≡ Some n) where
     pub held_upto : n ≤ letter_limit
     held_upto = let t = limits_told n k in omega (arith, t.1, limits_few d t.0)
 
@@ -180,28 +178,28 @@ module _ (d : Desk) (letters : List ℕ) (r : Limits) (e : r ≡ desk_limits d) 
           ap length (part_held part q l) ∙ length-slice (letter_limit - held d) letter_limit letters l
           ∙ (let e : letter_limit - (letter_limit - held d) ≡ n = omega (arith, t.1, held_upto) in e)
 
-      pub held-bad : bad < n → Broken ≡ held_limits d letters
+      pub held-bad : bad < n → None ≡ held_limits d letters
       unfolding held_limits desk_good
       held-bad h =
           let bad_letters : every is_letter (letters_held d letters) ≡ false =
           ap (every is_letter) (sym (part_held part q l)) ∙ some-bad part (omega (arith, f, h, part_length)) in
-          sym (ap (λ b. cond (limits_kept d && b) (Kept (held d)) Broken) bad_letters
-          ∙ ap (λ b. cond (b && false) (Kept (held d)) Broken) (limits_told n k).0)
+          sym (ap (λ b. cond (limits_kept d && b) (Some (held d)) None) bad_letters
+          ∙ ap (λ b. cond (b && false) (Some (held d)) None) (limits_told n k).0)
 
-      pub held-good : n ≤ bad → Kept n ≡ held_limits d letters
+      pub held-good : n ≤ bad → Some n ≡ held_limits d letters
       unfolding held_limits desk_good
       held-good h =
           let good : every is_letter (letters_held d letters) ≡ true =
           ap (every is_letter) (sym (part_held part q l)) ∙ no_bad part (omega (arith, f, h, part_length)) in
-          sym (ap (λ b. cond (limits_kept d && b) (Kept (held d)) Broken) good
-          ∙ ap (λ b. cond (b && true) (Kept (held d)) Broken) (limits_told n k).0 ∙ ap Kept (sym (limits_told n k).1))
+          sym (ap (λ b. cond (limits_kept d && b) (Some (held d)) None) good
+          ∙ ap (λ b. cond (b && true) (Some (held d)) None) (limits_told n k).0 ∙ ap Some (sym (limits_told n k).1))
 
 -- ── `limits_put` ──
 module _ (n : ℕ) (d : Desk) (cells : List ℕ) where
-  pub put-page_wrong : good_page n ≡ false → Broken ≡ put_limits n d cells
+  pub put-page_wrong : good_page n ≡ false → None ≡ put_limits n d cells
   unfolding put_limits
   put-page_wrong e = rw e
 
-  pub put-page-right : good_page n ≡ true → (r : Limits) → r ≡ held_limits d cells → r ≡ put_limits n d cells
+  pub put-page-right : good_page n ≡ true → (r : Option ℕ) → r ≡ held_limits d cells → r ≡ put_limits n d cells
   unfolding put_limits held_limits
   put-page-right e r f = f ∙ rw e

@@ -1,5 +1,6 @@
 -- A plain stack of pages, and runs of calls. Definitions only.
-use Rattle.std.specs.Prelude.{◌≡◌, not, List, [], ◌∷◌, ◌++◌, map, ℕ, ◌+◌, eqb, leb, ltb, length}
+use Rattle.std.specs.Prelude.{◌≡◌, not, List, [], ◌∷◌, ◌++◌, map, ℕ, ◌+◌, eqb, leb, ltb, length, Result}
+use Rattle.desk.specs.declared.DeskRefusal.{DeskRefusal}
 use Rattle.syntax.specs.declared.Pattern.{Pattern}
 use Rattle.syntax.specs.Letter.{first_bad}
 use Rattle.refusals.specs.declared.Refusal.TheVariants.{TapeByte}
@@ -7,7 +8,6 @@ use Rattle.refusals.specs.Refusals.{Answer, answer}
 use Rattle.refusals.specs.Checks.{first_of}
 use Rattle.desk.specs.declared.Desk.{Desk}
 use Rattle.desk.specs.declared.DeskRefusal.TheVariants.{Base, DeskLimits, DeskFull, DeskEmpty}
-use Rattle.desk.specs.declared.DeskAnswer.{DeskAnswer}
 use Rattle.desk.specs.Desks.{page_limit, good_page, letters_held, desk_refused, desk_answer, if_accepted}
 use Rattle.desk.specs.Desks.{DeskTest, words_for, table_check, cells_check, words_check, open_order, Opens, Puts, Withdraws}
 
@@ -67,7 +67,7 @@ stack_behind cells (c ∷ cs) s = stack_behind cells cs (stack_step cells c s)
 
 -- ── runs of calls ──
 -- what is known of a call is its promise: the desk and the letters before and after it, with any words of that number
-abbrev pub Does : Call → (d d_now : Desk) → (letters letters_now : List ℕ) → DeskAnswer → Type 0
+abbrev pub Does : Call → (d d_now : Desk) → (letters letters_now : List ℕ) → Result ℕ DeskRefusal → Type 0
 Does (opening p n) d d_now letters letters_now r =
     (words : List ℕ) × (words_now : List ℕ) × (length words ≡ n) × (Opens p d d_now words words_now r) × (letters_now ≡ letters)
 Does (putting p page n) d d_now letters letters_now r =
@@ -75,13 +75,13 @@ Does (putting p page n) d d_now letters letters_now r =
 Does (withdrawing p) d d_now letters letters_now r = (Withdraws p d d_now letters r) × (letters_now ≡ letters)
 
 -- 02: "while nothing but its calls writes desk and letters": each call finds them as the one before left them
-pub data Run : (d : Desk) → (letters : List ℕ) → List Call → List DeskAnswer → (d_now : Desk) → (letters_now : List ℕ) → Type 0 where
+pub data Run : (d : Desk) → (letters : List ℕ) → List Call → List (Result ℕ DeskRefusal) → (d_now : Desk) → (letters_now : List ℕ) → Type 0 where
   rest : {d : Desk} {letters : List ℕ} → Run d letters [] [] d letters
-  next : {d e f : Desk} {letters after last : List ℕ} {c : Call} {cs : List Call} {r : DeskAnswer} {rs : List DeskAnswer} → Does c d e letters after r
+  next : {d e f : Desk} {letters after last : List ℕ} {c : Call} {cs : List Call} {r : Result ℕ DeskRefusal} {rs : List (Result ℕ DeskRefusal)} → Does c d e letters after r
       → Run e after cs rs f last → Run d letters (c ∷ cs) (r ∷ rs) f last
 
 -- the answers of a run are those of the stack, number and value; the letters held at its end are its pages joined
-pub record LikeAStack (cells : ℕ) (cs : List Call) (s : Stack) (rs : List DeskAnswer) (d_now : Desk) (letters_now : List ℕ) : Type 0 where
+pub record LikeAStack (cells : ℕ) (cs : List Call) (s : Stack) (rs : List (Result ℕ DeskRefusal)) (d_now : Desk) (letters_now : List ℕ) : Type 0 where
   pub answers : map desk_answer rs ≡ stack_answers cells cs s
   pub holds : letters_held d_now letters_now ≡ joined (stack_behind cells cs s)
   pub pages : d_now.count ≡ length (stack_behind cells cs s)

@@ -5,10 +5,10 @@ ghost use Rattle.bits.specs.Bits.{in_front};
 ghost use Rattle.first_sweep.specs.Tail.{tail_words};
 ghost use Rattle.desk.specs.Desks.{held, open_order, put_order, emptied, refused_change, Opens, Puts, Withdraws};
 
-use crate::checks::{Checked, check_open, check_put};
+use crate::checks::{check_open, check_put};
 use crate::pages::{take_page, with_page};
 use crate::withdrawal::check_withdraw;
-use crate::{Desk, DeskAfter, DeskAnswer, DeskCheck, DeskRefusal};
+use crate::{Desk, DeskAfter, DeskRefusal};
 use first_sweep::{grow, put_end};
 use syntax::Pattern;
 use table::table_of;
@@ -20,7 +20,7 @@ fn unchanged(desk: Desk, why: DeskRefusal) -> DeskAfter
 {
     DeskAfter {
         desk,
-        answer: DeskAnswer::Refused(why),
+        answer: Err(why),
     }
 }
 
@@ -36,7 +36,7 @@ fn empty(p: Pattern, words: &mut [u64]) -> DeskAfter
             count: 0,
             lengths: [0; Desk::MAX_PAGES],
         },
-        answer: DeskAnswer::Letters(0),
+        answer: Ok(0),
     }
 }
 
@@ -46,8 +46,8 @@ pub fn open_desk(desk: Desk, p: Pattern, words: &mut [u64]) -> DeskAfter
 {
     let checked = check_open(p, words.len());
     match checked {
-        DeskCheck::Taken => empty(p, words),
-        DeskCheck::Refused(why) => unchanged(desk, why),
+        Ok(()) => empty(p, words),
+        Err(why) => unchanged(desk, why),
     }
 }
 
@@ -70,7 +70,7 @@ fn put_on(
     put_bytes(letters, Pattern::MAX_LETTERS - total, page);
     DeskAfter {
         desk: with_page(desk, n),
-        answer: DeskAnswer::Letters(total as u32),
+        answer: Ok(total as u32),
     }
 }
 
@@ -85,8 +85,8 @@ pub fn put_page(
 {
     let checked = check_put(desk, p, page, letters, words.len());
     match checked {
-        Checked::Refused(why) => unchanged(desk, why),
-        Checked::Held(held) => put_on(desk, p, page, letters, words, held),
+        Err(why) => unchanged(desk, why),
+        Ok(held) => put_on(desk, p, page, letters, words, held),
     }
 }
 
@@ -96,7 +96,7 @@ pub fn withdraw_page(desk: Desk, p: Pattern, letters: &[u8]) -> DeskAfter
 {
     let checked = check_withdraw(desk, p, letters);
     match checked {
-        Checked::Refused(why) => unchanged(desk, why),
-        Checked::Held(total) => take_page(desk, total),
+        Err(why) => unchanged(desk, why),
+        Ok(total) => take_page(desk, total),
     }
 }

@@ -5,78 +5,71 @@ ghost use Rattle.desk.specs.Desks.{held, open_order, lent_order, page_order, put
 ghost use Rattle.desk.specs.Limits.{put_limits};
 ghost use Rattle.desk.specs.Checking.{Checks, ChecksFirst};
 
-use crate::limits::{Limits, good_page, limits_held};
-use crate::{Desk, DeskCheck, DeskRefusal};
+use crate::limits::{good_page, limits_held};
+use crate::{Desk, DeskRefusal};
 use refusals::Refusal;
 use syntax::{Pattern, first_bad, obeys_rules};
 
-// The letters held where no cause holds, or the first cause that does.
-#[derive(Clone, Copy)]
-pub(crate) enum Checked {
-    Held(usize),
-    Refused(DeskRefusal),
-}
-
 // What a desk holds, where a page of n letters may be put on some desk.
-fn limits_put(n: usize, desk: Desk, letters: &[u8]) -> Limits
+fn limits_put(n: usize, desk: Desk, letters: &[u8]) -> Option<usize>
     requires { letter_limit ≤ length letters.now }
     ensures { result ≡ put_limits n desk letters.now }
 {
     if !good_page(n) {
-        return Limits::Broken;
+        return None;
     }
     limits_held(desk, letters)
 }
 
 // The causes of an opening. A caller that holds a desk in another form tests these before its own.
-pub fn check_open(p: Pattern, words: usize) -> DeskCheck
+pub fn check_open(p: Pattern, words: usize) -> Result<(), DeskRefusal>
     ensures { ChecksFirst (open_order p words) result }
 {
     if !obeys_rules(p) {
-        return DeskCheck::Refused(DeskRefusal::Base(Refusal::Tree(0)));
+        return Err(DeskRefusal::Base(Refusal::Tree(0)));
     }
     if words < 2 {
-        return DeskCheck::Refused(DeskRefusal::Base(Refusal::WordsTooShort(2)));
+        return Err(DeskRefusal::Base(Refusal::WordsTooShort(2)));
     }
-    DeskCheck::Taken
+    Ok(())
 }
 
 // The causes that a put and a withdrawal test first: the table, and the cells lent for letters.
-pub(crate) fn check_lent(p: Pattern, cells: usize) -> DeskCheck
+pub(crate) fn check_lent(p: Pattern, cells: usize) -> Result<(), DeskRefusal>
     ensures { ChecksFirst (lent_order p cells) result }
 {
     if !obeys_rules(p) {
-        return DeskCheck::Refused(DeskRefusal::Base(Refusal::Tree(0)));
+        return Err(DeskRefusal::Base(Refusal::Tree(0)));
     }
     if cells < Pattern::MAX_LETTERS {
         let needed = Pattern::MAX_LETTERS as u32;
-        return DeskCheck::Refused(DeskRefusal::Base(Refusal::TapeTooShort(needed)));
+        return Err(DeskRefusal::Base(Refusal::TapeTooShort(needed)));
     }
-    DeskCheck::Taken
+    Ok(())
 }
 
 // The others of a put.
-fn check_page(desk: Desk, page: &[u8], letters: &[u8], words: usize) -> Checked
+fn check_page(desk: Desk, page: &[u8], letters: &[u8], words: usize) -> Result<usize, DeskRefusal>
     requires { letter_limit ≤ length letters.now }
     ensures { Checks (page_order desk page.now letters.now words) (held desk) result }
 {
     let n = page.len();
     let limits = limits_put(n, desk, letters);
-    let Limits::Kept(held) = limits else {
-        return Checked::Refused(DeskRefusal::DeskLimits);
+    let Some(held) = limits else {
+        return Err(DeskRefusal::DeskLimits);
     };
     if Desk::MAX_PAGES <= desk.count as usize {
-        return Checked::Refused(DeskRefusal::DeskFull);
+        return Err(DeskRefusal::DeskFull);
     }
     let bad = first_bad(page);
     if bad < n {
-        return Checked::Refused(DeskRefusal::Base(Refusal::TapeByte(bad as u32)));
+        return Err(DeskRefusal::Base(Refusal::TapeByte(bad as u32)));
     }
     let needed = 2 * (held + n + 1);
     if words < needed {
-        return Checked::Refused(DeskRefusal::Base(Refusal::WordsTooShort(needed as u32)));
+        return Err(DeskRefusal::Base(Refusal::WordsTooShort(needed as u32)));
     }
-    Checked::Held(held)
+    Ok(held)
 }
 
 pub(crate) fn check_put(
@@ -85,12 +78,12 @@ pub(crate) fn check_put(
     page: &[u8],
     letters: &[u8],
     words: usize,
-) -> Checked
+) -> Result<usize, DeskRefusal>
     ensures { Checks (put_order desk p page.now letters.now words) (held desk) result }
 {
     let lent = check_lent(p, letters.len());
     match lent {
-        DeskCheck::Taken => check_page(desk, page, letters, words),
-        DeskCheck::Refused(why) => Checked::Refused(why),
+        Ok(()) => check_page(desk, page, letters, words),
+        Err(why) => Err(why),
     }
 }

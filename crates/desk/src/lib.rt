@@ -39,25 +39,11 @@ pub enum DeskRefusal {
     DeskEmpty,
 }
 
-// Whether a call goes on, or why not.
-#[derive(Clone, Copy)]
-pub enum DeskCheck {
-    Taken,
-    Refused(DeskRefusal),
-}
-
-// What a call answers: the letters held then, or why it is refused.
-#[derive(Clone, Copy)]
-pub enum DeskAnswer {
-    Letters(u32),
-    Refused(DeskRefusal),
-}
-
 // The desk after a call, and the call's answer.
 #[derive(Clone, Copy)]
 pub struct DeskAfter {
     pub desk: Desk,
-    pub answer: DeskAnswer,
+    pub answer: Result<u32, DeskRefusal>,
 }
 
 // The number of a cause: 02 gives 13, 14 and 15, 01's table the others.
@@ -85,7 +71,7 @@ pub fn desk_value_of(why: DeskRefusal) -> u32
 }
 
 // Opens a desk: it is empty then, whatever it held before.
-pub fn open(desk: &mut Desk, p: Pattern, words: &mut [u64]) -> DeskAnswer
+pub fn open(desk: &mut Desk, p: Pattern, words: &mut [u64]) -> Result<u32, DeskRefusal>
     ensures { Opens p desk.old desk.new words.old words.new result }
 {
     let changed = open_desk(*desk, p, words);
@@ -100,7 +86,7 @@ pub fn put(
     page: &[u8],
     letters: &mut [u8],
     words: &mut [u64],
-) -> DeskAnswer
+) -> Result<u32, DeskRefusal>
     ensures { Puts p page.now desk.old desk.new letters.old letters.new
         words.old words.new result }
 {
@@ -110,7 +96,7 @@ pub fn put(
 }
 
 // Withdraws the last page put.
-pub fn withdraw(desk: &mut Desk, p: Pattern, letters: &[u8]) -> DeskAnswer
+pub fn withdraw(desk: &mut Desk, p: Pattern, letters: &[u8]) -> Result<u32, DeskRefusal>
     ensures { Withdraws p desk.old desk.new letters.now result }
 {
     let changed = withdraw_page(*desk, p, letters);

@@ -7,13 +7,6 @@ ghost use Rattle.desk.specs.Limits.{desk_of, pages_limits, desk_limits, held_lim
 use crate::Desk;
 use syntax::{Pattern, first_bad};
 
-// How many letters are held, or that a limit is broken.
-#[derive(Clone, Copy)]
-pub(crate) enum Limits {
-    Kept(usize),
-    Broken,
-}
-
 // Whether a page may have so many letters.
 pub(crate) fn good_page(n: usize) -> bool
     ensures { result ≡ good_page n }
@@ -31,7 +24,7 @@ pub(crate) fn page_size(n: u8) -> usize
 }
 
 // The letters of pages of these lengths.
-fn sum_pages(pages: &[u8]) -> Limits
+fn sum_pages(pages: &[u8]) -> Option<usize>
     requires { length pages.now ≤ page_limit }
     ensures { result ≡ pages_limits pages.now }
 {
@@ -39,11 +32,11 @@ fn sum_pages(pages: &[u8]) -> Limits
     let mut i = 0;
     loop {
         if pages.len() <= i {
-            break Limits::Kept(held);
+            break Some(held);
         }
         let n = page_size(pages[i]);
         if !good_page(n) {
-            break Limits::Broken;
+            break None;
         }
         held += n;
         i += 1;
@@ -51,31 +44,31 @@ fn sum_pages(pages: &[u8]) -> Limits
 }
 
 // Lengths at or past the count are not looked at.
-fn limits_of(lengths: &[u8], count: usize) -> Limits
+fn limits_of(lengths: &[u8], count: usize) -> Option<usize>
     requires { page_limit ≤ length lengths.now }
     ensures { result ≡ desk_limits (desk_of count lengths.now) }
 {
     if Desk::MAX_PAGES < count {
-        return Limits::Broken;
+        return None;
     }
     sum_pages(&lengths[..count])
 }
 
 // The same, where the cells that a desk holds are looked at too: a byte there that is no letter breaks the limits.
-pub(crate) fn limits_held(desk: Desk, letters: &[u8]) -> Limits
+pub(crate) fn limits_held(desk: Desk, letters: &[u8]) -> Option<usize>
     requires { letter_limit ≤ length letters.now }
     ensures { result ≡ held_limits desk letters.now }
 {
     let lengths = desk.lengths;
     let limits = limits_of(&lengths, desk.count as usize);
-    let Limits::Kept(held) = limits else {
-        return Limits::Broken;
+    let Some(held) = limits else {
+        return None;
     };
     let from = Pattern::MAX_LETTERS - held;
     let end = Pattern::MAX_LETTERS;
     let bad = first_bad(&letters[from..end]);
     if held <= bad {
-        return Limits::Kept(held);
+        return Some(held);
     }
-    Limits::Broken
+    None
 }

@@ -5,7 +5,7 @@ ghost use Rattle.desk.specs.Desks.{page_limit, page_letters, held, with_page};
 ghost use Rattle.desk.specs.Pages.{less_page};
 
 use crate::limits::page_size;
-use crate::{Desk, DeskAfter, DeskAnswer};
+use crate::{Desk, DeskAfter};
 
 // The desk with one more page, of n letters.
 pub(crate) fn with_page(desk: Desk, n: usize) -> Desk
@@ -33,6 +33,6 @@ pub(crate) fn take_page(desk: Desk, letters: usize) -> DeskAfter
     let left = letters - page_size(lengths[at]);
     DeskAfter {
         desk: Desk { count, lengths },
-        answer: DeskAnswer::Letters(left as u32),
+        answer: Ok(left as u32),
     }
 }

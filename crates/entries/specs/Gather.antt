@@ -1,5 +1,5 @@
 -- Gathering the entries of a code, by which totals begin, of a whole tape or of a term. Definitions only.
-use Rattle.std.specs.Prelude.{◌≡◌, List, [], ◌∷◌, ℕ, zero, suc, ◌≤◌, ◌<◌, length, get_or}
+use Rattle.std.specs.Prelude.{◌≡◌, List, [], ◌∷◌, ℕ, zero, suc, ◌≤◌, ◌<◌, length, get_or, Err, Ok, Result}
 use Rattle.std.proofs.Math.Option.{Option, none, some}
 use Rattle.syntax.specs.declared.Pattern.{Pattern}
 use Rattle.syntax.specs.Letter.{letter_limit}
@@ -12,8 +12,6 @@ use Rattle.bits.specs.Bits.{held}
 use Rattle.semantics.specs.Value.{Value}
 use Rattle.semantics.specs.Accounts.{accounts}
 use Rattle.semantics.specs.Decode.{value_of}
-use Rattle.entries.specs.declared.Gathered.{Gathered}
-use Rattle.entries.specs.declared.Gathered.TheVariants.{Entries as GatheredEntries, Refused as NotGathered}
 use Rattle.entries.specs.Entries.{Entries}
 use Rattle.entries.specs.CodeOrder.{code_order}
 
@@ -44,6 +42,6 @@ pub record HoldsEntries (p : Pattern) (code : List ℕ) (count : ℕ) (letters a
   pub ready : (n ≤ length letters) × (n ≤ letter_limit) × Owned accounts n
 
 -- THE PROMISE of gathering, for every table, bytes and count: the first cause of the code that holds, or all entries
-pub record Gathers (p : Pattern) (code : List ℕ) (count : ℕ) (letters accounts : List ℕ) (r : Gathered) : Type 0 where
-  pub refuses : (why : Refusal) → r ≡ NotGathered why → First why (code_order p code count)
-  pub holds : (n : ℕ) → r ≡ GatheredEntries n → HoldsEntries p code count letters accounts n
+pub record Gathers (p : Pattern) (code : List ℕ) (count : ℕ) (letters accounts : List ℕ) (r : Result ℕ Refusal) : Type 0 where
+  pub refuses : (why : Refusal) → r ≡ Err why → First why (code_order p code count)
+  pub holds : (n : ℕ) → r ≡ Ok n → HoldsEntries p code count letters accounts n

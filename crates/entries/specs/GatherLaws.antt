@@ -1,5 +1,5 @@
 -- Gathering the entries of a code: one law for each way.
-use Rattle.std.specs.Prelude.{◌≡◌, true, false, List, ◌++◌, ℕ, ◌+◌, ◌-◌, ◌≤◌, ◌<◌, length, drop}
+use Rattle.std.specs.Prelude.{◌≡◌, true, false, List, ◌++◌, ℕ, ◌+◌, ◌-◌, ◌≤◌, ◌<◌, length, drop, Err, Ok}
 use Rattle.std.proofs.Common.{sym, subst, ◌∙◌, arith}
 use Rattle.std.proofs.Math.Path.{ap, ap₂}
 use Rattle.syntax.specs.declared.Pattern.{Pattern}
@@ -19,7 +19,6 @@ use Rattle.table.specs.CellLaws.{holds_tree}
 use Rattle.walks.specs.Whole.{whole_code, letters_of}
 use Rattle.walks.specs.WholeLaws.{whole-value}
 use Rattle.entries.specs.declared.Measured.{Measured}
-use Rattle.entries.specs.declared.Gathered.TheVariants.{Entries as GatheredEntries, Refused as NotGathered}
 use Rattle.entries.specs.Entries.{accounts_in}
 use Rattle.entries.specs.Entering.{Wrote}
 use Rattle.entries.specs.Measures.{Reads, measured_no, measured_yes, measured-letters}
@@ -35,24 +34,24 @@ pub reads-root : (p : Pattern) (table : List ℕ) → obeys p ≡ true → Holds
 reads-root p table o h {code} {count} {xs} {ys} {xs'} {ys'} {m} k = subst (λ t. Reads code t count xs ys xs' ys' m) (holds_tree p table o h) k
 
 module _ (p : Pattern) (code : List ℕ) (count : ℕ) where
-  not_gathered : (xs ys : List ℕ) (why : Refusal) → First why (code_order p code count) → Gathers p code count xs ys (NotGathered why)
+  not_gathered : (xs ys : List ℕ) (why : Refusal) → First why (code_order p code count) → Gathers p code count xs ys (Err why)
   not_gathered xs ys why f = record {
     refuses = λ w e. let same : why ≡ w = cc in subst (λ v. First v (code_order p code count)) same f;
     holds = λ n e. absurd (let z : ◌≡◌ {A = ℕ} 0 1 = (cc) in omega arith);
   }
 
-  pub gather_bad : (xs ys : List ℕ) → obeys p ≡ false → Gathers p code count xs ys (NotGathered (TreeFault 0))
+  pub gather_bad : (xs ys : List ℕ) → obeys p ≡ false → Gathers p code count xs ys (Err (TreeFault 0))
   gather_bad xs ys o = not_gathered xs ys (TreeFault 0) (first_2 p code count o)
 
   module _ (o : obeys p ≡ true) {xs ys xs' ys' : List ℕ} {m : Measured} (r : Reads code (root p) count xs ys xs' ys' m) where
-    pub gather_not : m.whole ≡ false → Gathers p code count xs' ys' (NotGathered NotACode)
+    pub gather_not : m.whole ≡ false → Gathers p code count xs' ys' (Err NotACode)
     gather_not f = not_gathered xs' ys' NotACode (first_8 p code count o (measured_no (root p) code count m r.is f))
 
     module _ (f : m.whole ≡ true) where
       whole : whole_code (root p) code count ≡ true
       whole = measured_yes (root p) code count m r.is f
 
-      pub gather_long : letter_limit < m.letters → Gathers p code count xs' ys' (NotGathered TapeTooLong)
+      pub gather_long : letter_limit < m.letters → Gathers p code count xs' ys' (Err TapeTooLong)
       gather_long h =
           let n = measured-letters (root p) code count m r.is f in
           not_gathered xs' ys' TapeTooLong (first_3 p code count o whole (omega arith))
@@ -108,7 +107,7 @@ module _ (p : Pattern) (code : List ℕ) (count : ℕ) where
           ready = (omega (arith, r.long, exactly), h, owned);
         }
 
-        pub gather_done : Gathers p code count xs' ys' (GatheredEntries m.letters)
+        pub gather_done : Gathers p code count xs' ys' (Ok m.letters)
         gather_done = record {
           refuses = λ w e. absurd (let z : ◌≡◌ {A = ℕ} 0 1 = (cc) in omega arith);
           holds = λ n e. let same : m.letters ≡ n = cc in subst (HoldsEntries p code count xs' ys') same holds_entries;

@@ -260,13 +260,6 @@ pub fn enter(
     }
 }
 
-// What gathering a code's entries answers: how many there are, or why there are none.
-#[derive(Clone, Copy)]
-pub enum Gathered {
-    Entries(usize),
-    Refused(Refusal),
-}
-
 // Tests the table and the code, and lays the code's letters in front of one buffer and their accounts in front of another. Refused, the
 // buffers hold anything. It is no service: services lend it arrays of their own, which are long enough for any tape.
 pub fn gather(
@@ -275,22 +268,22 @@ pub fn gather(
     count: u32,
     letters: &mut [u8],
     accounts: &mut [u8],
-) -> Gathered
+) -> Result<usize, Refusal>
     requires { (length letters.old ≡ letter_limit) × (length accounts.old ≡ letter_limit) }
     ensures { Gathers p code.now count letters.new accounts.new result }
 {
     if !obeys_rules(p) {
-        return Gathered::Refused(Refusal::Tree(0));
+        return Err(Refusal::Tree(0));
     }
     let table = table_of(p);
     let root = p.count - 1;
     let measured = enter(&table, root, code, count, letters, accounts);
     if !measured.whole {
-        return Gathered::Refused(Refusal::NotACode);
+        return Err(Refusal::NotACode);
     }
     let n = measured.letters as usize;
     if Pattern::MAX_LETTERS < n {
-        return Gathered::Refused(Refusal::TapeTooLong);
+        return Err(Refusal::TapeTooLong);
     }
-    Gathered::Entries(n)
+    Ok(n)
 }

@@ -1,5 +1,5 @@
 -- Laws of the listing: one for each way of the code.
-use Rattle.std.specs.Prelude.{◌≡◌, refl, Bool, true, false, List, [], ◌∷◌, ◌++◌, ℕ, zero, suc, ◌+◌, ◌*◌, ◌-◌, ◌≤◌, ◌<◌, ltb, take, drop}
+use Rattle.std.specs.Prelude.{◌≡◌, refl, Bool, true, false, List, [], ◌∷◌, ◌++◌, ℕ, zero, suc, ◌+◌, ◌*◌, ◌-◌, ◌≤◌, ◌<◌, ltb, take, drop, Err, Ok, Result}
 use Rattle.std.proofs.Math.Path.{sym, ap, ap₂}
 use Rattle.std.proofs.Common.{subst, ◌∙◌, arith, length-append, length-drop, take_at}
 use Rattle.std.proofs.lemmas.Bool.{false≢true}
@@ -34,8 +34,6 @@ use Rattle.entries.specs.Gather.{entries_by, entries_of}
 use Rattle.totals.specs.Totals.{totals_answer, totals_litres, Totals}
 use Rattle.totals.specs.TotalsLaws.{totalled_many}
 use Rattle.canonical.specs.RoundTrip.{canonical_whole, canonical_spells}
-use Rattle.parser.specs.declared.Parsed.{Parsed}
-use Rattle.parser.specs.declared.Parsed.TheVariants.{Bits, Refused}
 use Rattle.parser.specs.Parse.{parsed_answer, early_order, early, ReadsGreedily, Parses}
 use Rattle.parser.specs.ParseLaws.{greedy_few}
 use Rattle.listing.specs.declared.Listed.{Listed}
@@ -177,22 +175,22 @@ pub record Got (p : Pattern) (tape words_now code_now : List ℕ) (n bytes : ℕ
   pub lists : listing p tape (greedy (root p) tape) ≡ pattern_listing p tape
   pub fits : bytes ≤ length code_now
 
-abbrev Follows : Pattern → (tape us ys : List ℕ) → Parsed → Type 0
-Follows p tape us ys (Bits n) = Got p tape us ys n (cell_count 8 n)
-Follows p tape us ys (Refused why) = refused_line (refused why) ≡ pattern_listing p tape
+abbrev Follows : Pattern → (tape us ys : List ℕ) → Result ℕ Refusal → Type 0
+Follows p tape us ys (Ok n) = Got p tape us ys n (cell_count 8 n)
+Follows p tape us ys (Err why) = refused_line (refused why) ≡ pattern_listing p tape
 
 module _ (p : Pattern) (tape ws us xs ys : List ℕ) (lw : length ws ≡ word_limit) (lx : length xs ≡ byte_limit) where
-  refused-early : 1 ≤ (early_cause p tape).number → (r : Parsed) → parsed_answer r ≡ early_cause p tape → Follows p tape us ys r
-  refused-early n (Bits k) a = absurd (omega (arith, n, ap (λ x. x.number) a))
-  refused-early n (Refused why) a = ap refused_line a ∙ sym (refused_by p tape (λ z. omega arith))
+  refused-early : 1 ≤ (early_cause p tape).number → (r : Result ℕ Refusal) → parsed_answer r ≡ early_cause p tape → Follows p tape us ys r
+  refused-early n (Ok k) a = absurd (omega (arith, n, ap (λ x. x.number) a))
+  refused-early n (Err why) a = ap refused_line a ∙ sym (refused_by p tape (λ z. omega arith))
 
   module _ (z : (early_cause p tape).number ≡ 0) (fill : us ≡ in_front (state_sets p tape) ws) where
     clear : Passed p tape word_limit
     clear = passed p tape word_limit (ap (λ x. x.number) (early_same p tape) ∙ z)
 
-    not-readable : readable (root p) tape ≡ false → (r : Parsed) → parsed_answer r ≡ refused Unreadable → Follows p tape us ys r
-    not-readable e (Bits k) a = absurd (omega (arith, ap (λ x. x.number) a))
-    not-readable e (Refused why) a = ap refused_line a ∙ sym (read_by p tape z ∙ read_off p tape e)
+    not-readable : readable (root p) tape ≡ false → (r : Result ℕ Refusal) → parsed_answer r ≡ refused Unreadable → Follows p tape us ys r
+    not-readable e (Ok k) a = absurd (omega (arith, ap (λ x. x.number) a))
+    not-readable e (Err why) a = ap refused_line a ∙ sym (read_by p tape z ∙ read_off p tape e)
 
     at : (i : ℕ) → i ≤ length tape → get_or us (2 * i + 1) 0 ≡ get_or (state_sets p tape) (2 * i + 1) 0
     unfolding in_front
@@ -204,10 +202,10 @@ module _ (p : Pattern) (tape ws us xs ys : List ℕ) (lw : length ws ≡ word_li
     unfolding in_front
     words_long = ap length fill ∙ (let c = clear.room in simp (length-append, length-drop) (omega (arith, words-length p tape)))
 
-    is_readable : readable (root p) tape ≡ true → (r : Parsed)
+    is_readable : readable (root p) tape ≡ true → (r : Result ℕ Refusal)
         → (parsed_answer r ≡ answer 0 (length (greedy (root p) tape))) × (ys ≡ in_front (pack 8 (greedy (root p) tape)) xs) → Follows p tape us ys r
-    is_readable e (Refused why) g = absurd (omega (arith, number_positive why, ap (λ x. x.number) g.0))
-    is_readable e (Bits n) g =
+    is_readable e (Err why) g = absurd (omega (arith, number_positive why, ap (λ x. x.number) g.0))
+    is_readable e (Ok n) g =
         let k : n ≡ length (greedy (root p) tape) = ap (λ x. x.value) g.0 in
         let s : length (pack 8 (greedy (root p) tape)) ≡ cell_count 8 n = length-pack 8 (greedy (root p) tape) ∙ ap (cell_count 8) (sym k) in
         let f : cell_count 8 n ≤ byte_limit = omega (arith, greedy_few p clear.good tape clear.few e) in
@@ -225,12 +223,12 @@ module _ (p : Pattern) (tape ws us xs ys : List ℕ) (lw : length ws ≡ word_li
           fits = omega (arith, ap length g.1, front_long (pack 8 (greedy (root p) tape)) xs (cell_count 8 n) s);
         }
 
-    swept : (b : Bool) → readable (root p) tape ≡ b → (r : Parsed) → ReadsGreedily (root p) tape xs ys (parsed_answer r) → Follows p tape us ys r
+    swept : (b : Bool) → readable (root p) tape ≡ b → (r : Result ℕ Refusal) → ReadsGreedily (root p) tape xs ys (parsed_answer r) → Follows p tape us ys r
     swept true e r g =
         is_readable e r (g.1.fits (greedy (root p) tape) (greedy_canonical (root p) tape e) (omega (arith, greedy_few p clear.good tape clear.few e)))
     swept false e r g = not-readable e r (g.0.unreadable (λ v q. false≢true (sym e ∙ (readable_iff (root p) tape).1 (v, q)))).0
 
-  follows : (r : Parsed) → Parses p tape ws us xs ys r → Follows p tape us ys r
+  follows : (r : Result ℕ Refusal) → Parses p tape ws us xs ys r → Follows p tape us ys r
   follows r w = go (dec_le 1 (early_cause p tape).number)
     where
       same : early p tape (length ws) ≡ early_cause p tape
@@ -243,11 +241,11 @@ module _ (p : Pattern) (tape ws us xs ys : List ℕ) (lw : length ws ≡ word_li
           let e : (early p tape (length ws)).number ≡ 0 = ap (λ a. a.number) same ∙ z in
           swept z (w.fills e) (readable (root p) tape) refl r (w.reads e)
 
-  pub parse_refused : (r : Parsed) (why : Refusal) → r ≡ Refused why → Parses p tape ws us xs ys r → refused_line (refused why) ≡ pattern_listing p tape
-  parse_refused r why e w = follows (Refused why) (subst (Parses p tape ws us xs ys) e w)
+  pub parse_refused : (r : Result ℕ Refusal) (why : Refusal) → r ≡ Err why → Parses p tape ws us xs ys r → refused_line (refused why) ≡ pattern_listing p tape
+  parse_refused r why e w = follows (Err why) (subst (Parses p tape ws us xs ys) e w)
 
-  pub parse_bits : (r : Parsed) (n : ℕ) → r ≡ Bits n → Parses p tape ws us xs ys r → (bytes : ℕ) → bytes ≡ cell_count 8 n → Got p tape us ys n bytes
-  parse_bits r n e w bytes f = subst (Got p tape us ys n) (sym f) (follows (Bits n) (subst (Parses p tape ws us xs ys) e w))
+  pub parse_bits : (r : Result ℕ Refusal) (n : ℕ) → r ≡ Ok n → Parses p tape ws us xs ys r → (bytes : ℕ) → bytes ≡ cell_count 8 n → Got p tape us ys n bytes
+  parse_bits r n e w bytes f = subst (Got p tape us ys n) (sym f) (follows (Ok n) (subst (Parses p tape ws us xs ys) e w))
 
 -- ── one closing byte 10 is dropped ──
 pub record Letters (file : List ℕ) (n : ℕ) : Type 0 where

@@ -11,7 +11,7 @@ ghost use Rattle.syntax.specs.Trees.{root};
 use bits::bytes_for;
 use listing_lines::{put_accounts, put_open, put_tape};
 use loading::{LoadOutcome, load};
-use parser::{Parsed, parse};
+use parser::parse;
 use refusals::{number_of, value_of};
 use syntax::Pattern;
 use text::put_refused;
@@ -57,8 +57,8 @@ fn list_with(p: Pattern, tape: &[u8], words: &mut [u64], code: &mut [u8], out: &
 {
     let parsed = parse(p, tape, words, code);
     match parsed {
-        Parsed::Refused(why) => put_refused(out, 0, number_of(why), value_of(why)),
-        Parsed::Bits(count) => {
+        Err(why) => put_refused(out, 0, number_of(why), value_of(why)),
+        Ok(count) => {
             let n = bytes_for(count);
             list_read(p, tape, words, &code[..n], count, out)
         }

@@ -11,7 +11,7 @@ mod lines; // lines.rt: the lines of a text
 use lines::read_lines;
 use refusals::Refusal;
 use syntax::Pattern;
-use syntax::naming::{TreeFault, tree_fault_of};
+use syntax::naming::tree_fault_of;
 
 // What loading answers: the line count, or why the text is refused.
 #[derive(Clone, Copy)]
@@ -52,8 +52,8 @@ pub fn load(text: &[u8]) -> Loaded
         return refuse(Refusal::LineForm(0));
     }
     match tree_fault_of(pattern) {
-        TreeFault::Line(line) => refuse(Refusal::Tree(line as u32)),
-        TreeFault::Nothing => Loaded {
+        Some(line) => refuse(Refusal::Tree(line as u32)),
+        None => Loaded {
             pattern,
             outcome: LoadOutcome::Lines(count as u32),
         },

@@ -4,7 +4,7 @@ ghost use Rattle.packing.specs.Packing.{unpacked};
 ghost use Rattle.packing.specs.DeskBytes.{desk_of_bytes, other_opened, desk_laid};
 
 use crate::packed;
-use desk::{Desk, DeskCheck, check_open, desk_number_of, desk_value_of};
+use desk::{Desk, check_open, desk_number_of, desk_value_of};
 use syntax::Pattern;
 use text::put_bytes;
 
@@ -51,7 +51,7 @@ pub fn of_other_length(p: Pattern, words: usize) -> u64
 {
     let checked = check_open(p, words);
     match checked {
-        DeskCheck::Taken => packed(13, 0),
-        DeskCheck::Refused(why) => packed(desk_number_of(why), desk_value_of(why)),
+        Ok(()) => packed(13, 0),
+        Err(why) => packed(desk_number_of(why), desk_value_of(why)),
     }
 }

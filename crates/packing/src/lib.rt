@@ -16,12 +16,9 @@ ghost use Rattle.packing.specs.Cells.{beyond, Gives};
 
 mod desks; // desks.rt: a page desk in bytes
 
-use canonical::Canonicalized;
-use codes::Flattened;
-use desk::{DeskAnswer, desk_number_of, desk_value_of};
+use desk::{desk_number_of, desk_value_of};
 pub use desks::{DESK_BYTES, desk_of, of_other_length, put_desk};
 use loading::LoadOutcome;
-use parser::Parsed;
 use reach::Located;
 use refusals::{number_of, value_of};
 use syntax::Pattern;
@@ -54,30 +51,30 @@ pub fn of_outcome(outcome: LoadOutcome) -> u64
     }
 }
 
-pub fn of_parsed(parsed: Parsed) -> u64
+pub fn of_parsed(parsed: Result<u32, Refusal>) -> u64
     ensures { unpacked result ≡ parsed_answer parsed }
 {
     match parsed {
-        Parsed::Bits(n) => packed(0, n),
-        Parsed::Refused(why) => packed(number_of(why), value_of(why)),
+        Ok(n) => packed(0, n),
+        Err(why) => packed(number_of(why), value_of(why)),
     }
 }
 
-pub fn of_flattened(flattened: Flattened) -> u64
+pub fn of_flattened(flattened: Result<u32, Refusal>) -> u64
     ensures { unpacked result ≡ flattened_answer flattened }
 {
     match flattened {
-        Flattened::Letters(n) => packed(0, n),
-        Flattened::Refused(why) => packed(number_of(why), value_of(why)),
+        Ok(n) => packed(0, n),
+        Err(why) => packed(number_of(why), value_of(why)),
     }
 }
 
-pub fn of_canonicalized(canonicalized: Canonicalized) -> u64
+pub fn of_canonicalized(canonicalized: Result<u32, Refusal>) -> u64
     ensures { unpacked result ≡ canonicalized_answer canonicalized }
 {
     match canonicalized {
-        Canonicalized::Bits(n) => packed(0, n),
-        Canonicalized::Refused(why) => packed(number_of(why), value_of(why)),
+        Ok(n) => packed(0, n),
+        Err(why) => packed(number_of(why), value_of(why)),
     }
 }
 
@@ -109,12 +106,12 @@ pub fn of_term_totals(outcome: TermOutcome) -> u64
     }
 }
 
-pub fn of_desk_answer(answer: DeskAnswer) -> u64
+pub fn of_desk_answer(answer: Result<u32, DeskRefusal>) -> u64
     ensures { unpacked result ≡ desk_answer answer }
 {
     match answer {
-        DeskAnswer::Letters(n) => packed(0, n),
-        DeskAnswer::Refused(why) => packed(desk_number_of(why), desk_value_of(why)),
+        Ok(n) => packed(0, n),
+        Err(why) => packed(desk_number_of(why), desk_value_of(why)),
     }
 }
 

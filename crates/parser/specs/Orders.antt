@@ -1,5 +1,5 @@
 -- Reading a tape: the first cause that holds is answered, whatever later causes hold, and leaves what 01's table says.
-use Rattle.std.specs.Prelude.{◌≡◌, Bool, true, false, List, [], ◌∷◌, ℕ, ◌+◌, ◌*◌, ◌≤◌, ◌<◌, ltb, length}
+use Rattle.std.specs.Prelude.{◌≡◌, Bool, true, false, List, [], ◌∷◌, ℕ, ◌+◌, ◌*◌, ◌≤◌, ◌<◌, ltb, length, Err, Result}
 use Rattle.std.proofs.Math.Path.{refl, ap}
 use Rattle.std.proofs.Common.{sym, subst, ◌∙◌, true≢false, arith, lt-ltb}
 use Rattle.std.proofs.lemmas.Bool.{false≢true}
@@ -21,8 +21,6 @@ use Rattle.semantics.specs.Code.{Canonical}
 use Rattle.semantics.specs.Sweeps.{readable, greedy}
 use Rattle.semantics.proofs.GreedyLaws.{greedy_canonical, readable_iff}
 use Rattle.steps.specs.StateSets.{words as state_sets}
-use Rattle.parser.specs.declared.Parsed.{Parsed}
-use Rattle.parser.specs.declared.Parsed.TheVariants.{Refused}
 use Rattle.parser.specs.Parse.{parsed_answer, early_order, early, ReadsGreedily, Parses}
 use Rattle.parser.specs.ParseLaws.{parse_refused, Tested, tested_zero}
 use Rattle.parser.specs.Unique.{parsed_same, parses_one}
@@ -61,15 +59,15 @@ early_apart NotACode e f = false≢true e
 early_apart (TapeTooShort n) e f = false≢true e
 early_apart NoSuchVisit e f = false≢true e
 
-module _ (p : Pattern) (tape words words_now code code_now : List ℕ) (r : Parsed) (h : Parses p tape words words_now code code_now r) where
+module _ (p : Pattern) (tape words words_now code code_now : List ℕ) (r : Result ℕ Refusal) (h : Parses p tape words words_now code code_now r) where
   abbrev Only : Refusal → Type 0
-  Only why = (r ≡ Refused why) × (words_now ≡ words) × (code_now ≡ code)
+  Only why = (r ≡ Err why) × (words_now ≡ words) × (code_now ≡ code)
 
   pub only : (why : Refusal) → First why (early_order p tape (length words)) → Only why
-  only why f = parses_one p tape words words_now words code code_now code r (Refused why) h (parse_refused p tape words code why f)
+  only why f = parses_one p tape words words_now words code code_now code r (Err why) h (parse_refused p tape words code why f)
 
   -- "and never otherwise"
-  pub early_first : (why : Refusal) → r ≡ Refused why → among (number why) (2 ∷ 3 ∷ 4 ∷ 6 ∷ []) ≡ true → First why (early_order p tape (length words))
+  pub early_first : (why : Refusal) → r ≡ Err why → among (number why) (2 ∷ 3 ∷ 4 ∷ 6 ∷ []) ≡ true → First why (early_order p tape (length words))
   unfolding early
   early_first why e m = go (dec_le 1 (early p tape (length words)).number)
     where
@@ -92,7 +90,7 @@ module _ (p : Pattern) (tape words words_now code code_now : List ℕ) (r : Pars
     -- behind the first sweep: "code; marks are filled", and "code; the rest is filled"
     module _ (w : 2 * (length tape + 1) ≤ length words) where
       abbrev Filled : Refusal → Type 0
-      Filled why = (r ≡ Refused why) × (words_now ≡ in_front (state_sets p tape) words) × (code_now ≡ code)
+      Filled why = (r ≡ Err why) × (words_now ≡ in_front (state_sets p tape) words) × (code_now ≡ code)
 
       tested : Tested p tape words
       tested = record { good = t.good; few = t.few; letters = t.letters; room = w }
@@ -102,11 +100,11 @@ module _ (p : Pattern) (tape words words_now code code_now : List ℕ) (r : Pars
       only_5 unspelled =
           let z = tested_zero tested in
           let e = (h.reads z).0.unreadable unspelled in
-          (parsed_same r (Refused Unreadable) e.0, h.fills z, e.1)
+          (parsed_same r (Err Unreadable) e.0, h.fills z, e.1)
 
       pub only_7 : (bits : List Bool) → Canonical (root p) tape bits → length code < cell_count 8 (length bits)
           → Filled (CodeTooShort (cell_count 8 (length bits)))
       only_7 bits k l =
           let z = tested_zero tested in
           let e = (h.reads z).1.short bits k l in
-          (parsed_same r (Refused (CodeTooShort (cell_count 8 (length bits)))) e.0, h.fills z, e.1)
+          (parsed_same r (Err (CodeTooShort (cell_count 8 (length bits)))) e.0, h.fills z, e.1)

@@ -1,5 +1,6 @@
 -- Reading a tape: the answer and the buffers, for every input. Definitions only.
-use Rattle.std.specs.Prelude.{◌≡◌, Bool, List, [], ◌∷◌, ◌++◌, ℕ, ◌+◌, ◌*◌, ◌≤◌, ◌<◌, ltb, length}
+use Rattle.std.specs.Prelude.{◌≡◌, Bool, List, [], ◌∷◌, ◌++◌, ℕ, ◌+◌, ◌*◌, ◌≤◌, ◌<◌, ltb, length, Err, Ok, Result}
+use Rattle.refusals.specs.declared.Refusal.{Refusal}
 use Rattle.syntax.specs.declared.Pattern.{Pattern}
 use Rattle.refusals.specs.declared.Refusal.TheVariants.{Unreadable, WordsTooShort, CodeTooShort}
 use Rattle.refusals.specs.Refusals.{Answer, answer, refused}
@@ -11,12 +12,10 @@ use Rattle.bits.specs.Bits.{cell_count, pack, in_front}
 use Rattle.semantics.specs.Value.{Value, flat}
 use Rattle.semantics.specs.Code.{Canonical}
 use Rattle.steps.specs.StateSets.{words as state_sets}
-use Rattle.parser.specs.declared.Parsed.{Parsed}
-use Rattle.parser.specs.declared.Parsed.TheVariants.{Bits, Refused}
 
-abbrev pub parsed_answer : Parsed → Answer
-parsed_answer (Bits n) = answer 0 n
-parsed_answer (Refused r) = refused r
+abbrev pub parsed_answer : Result ℕ Refusal → Answer
+parsed_answer (Ok n) = answer 0 n
+parsed_answer (Err r) = refused r
 
 -- 01: "Reading a tape: 2, 3, 4, 6, 5, 7." The causes before the first sweep, in this order; 5 and 7 are the second sweep's.
 abbrev pub early_order : Pattern → (tape : List ℕ) → (words : ℕ) → List Check
@@ -42,7 +41,7 @@ abbrev pub ReadsGreedily : Tree → (tape code code_now : List ℕ) → Answer �
 ReadsGreedily t tape code code_now a = TellsUnreadable t tape code code_now a × WritesGreedily t tape code code_now a
 
 -- THE PROMISE of reading a tape, for every pattern value, tape and lent buffers
-pub record Parses (p : Pattern) (tape words words_now code code_now : List ℕ) (r : Parsed) : Type 0 where
+pub record Parses (p : Pattern) (tape words words_now code code_now : List ℕ) (r : Result ℕ Refusal) : Type 0 where
   -- a cause before the sweeps leaves everything as it was
   pub refuses : 1 ≤ (early p tape (length words)).number →
       (parsed_answer r ≡ early p tape (length words)) × (words_now ≡ words) × (code_now ≡ code)

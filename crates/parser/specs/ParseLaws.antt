@@ -1,5 +1,5 @@
 -- Laws of reading a tape: one for each way of the code.
-use Rattle.std.specs.Prelude.{◌≡◌, Bool, false, ◌&&◌, ◌||◌, ◌↔◌, ℕ, zero, suc, ◌+◌, ◌*◌, ◌-◌, ◌/◌, ◌≤◌, ◌<◌, eqb, ltb, length, drop}
+use Rattle.std.specs.Prelude.{◌≡◌, Bool, false, ◌&&◌, ◌||◌, ◌↔◌, ℕ, zero, suc, ◌+◌, ◌*◌, ◌-◌, ◌/◌, ◌≤◌, ◌<◌, eqb, ltb, length, drop, Err, Ok, Result}
 use Rattle.std.proofs.Math.Path.{refl, sym, ap, ap₂}
 use Rattle.std.proofs.Common.{subst, ◌∙◌, true≢false, length-append, length-drop}
 use Rattle.std.proofs.Math.Bool.{true, not, cond}
@@ -44,8 +44,6 @@ use Rattle.second_sweep.specs.Parts.{Sweeps}
 use Rattle.second_sweep.specs.Sweeping.{Own, may_stop, Behind, Knows, Wrote}
 use Rattle.checks.specs.TapeOrder.{tape_order}
 use Rattle.checks.specs.TapeLaws.{IsTaken, taken_clear}
-use Rattle.parser.specs.declared.Parsed.{Parsed}
-use Rattle.parser.specs.declared.Parsed.TheVariants.{Bits, Refused}
 use Rattle.parser.specs.Parse.{parsed_answer, early_order, early, ReadsGreedily, Parses}
 use Rattle.parser.specs.Writing.{FirstSwept, missing, Writable, Writes}
 
@@ -146,18 +144,18 @@ module _ {table words tape : List ℕ} {l : ℕ} (s : Writable table words tape 
   pub needed_small : 0 < needed → needed ≤ byte_limit
   needed_small h = omega (arith, (missing_is (length s.ready.it.bits) (length xs) needed e h).1, s.ready.it.few)
 
-  pub write_short : 0 < needed → Writes s.ready.it.bits xs xs (Refused (CodeTooShort needed))
+  pub write_short : 0 < needed → Writes s.ready.it.bits xs xs (Err (CodeTooShort needed))
   write_short h =
       let q = missing_is (length s.ready.it.bits) (length xs) needed e h in
-      record { fits = λ f. absurd (omega (arith, q.0)); short = λ f. (ap (λ n. Refused (CodeTooShort n)) q.1, refl) }
+      record { fits = λ f. absurd (omega (arith, q.0)); short = λ f. (ap (λ n. Err (CodeTooShort n)) q.1, refl) }
 
   pub write_fits : {ys : List ℕ} {r : Swept} → needed ≤ 0 → Wrote 0 0 s.ready.it.letters s.ready.it.bits xs ys r →
-      Writes s.ready.it.bits xs ys (Bits r.at)
+      Writes s.ready.it.bits xs ys (Ok r.at)
   write_fits {r = r} h v =
       let a : r.at ≡ length s.ready.it.bits = omega (arith, v.at_is) in
       let q = missing-not (length s.ready.it.bits) (length xs) needed e h in
       record {
-        fits = λ f. (ap Bits a, v.written (omega (arith, q)) ∙ write-start 8 (omega arith) xs s.ready.it.bits);
+        fits = λ f. (ap Ok a, v.written (omega (arith, q)) ∙ write-start 8 (omega arith) xs s.ready.it.bits);
         short = λ f. absurd (omega (arith, q));
       }
 
@@ -240,7 +238,7 @@ module _ (p : Pattern) (tape ws : List ℕ) (h : FirstSwept p tape ws) where
       }
 
   -- the code of the greedy value, written or not, is what reading promises
-  pub reads_greedily : {xs ys : List ℕ} {r : Parsed} → Writes (greedy (root p) tape) xs ys r →
+  pub reads_greedily : {xs ys : List ℕ} {r : Result ℕ Refusal} → Writes (greedy (root p) tape) xs ys r →
       ReadsGreedily (root p) tape xs ys (parsed_answer r)
   reads_greedily {xs} {ys} {r} w = (
     record { unreadable = λ f. let q = (readable_iff (root p) tape).0 h.reads in absurd (f q.0 q.1) },
@@ -256,7 +254,7 @@ module _ (p : Pattern) (tape ws : List ℕ) (h : FirstSwept p tape ws) where
 -- ── the ways of reading ──
 module _ (p : Pattern) (tape ws xs : List ℕ) where
   -- the first cause that holds before the sweeps is answered, and everything is left as it was
-  pub parse_refused : (why : Refusal) → First why (early_order p tape (length ws)) → Parses p tape ws ws xs xs (Refused why)
+  pub parse_refused : (why : Refusal) → First why (early_order p tape (length ws)) → Parses p tape ws ws xs xs (Err why)
   unfolding early
   parse_refused why f =
       let n = first_positive f (answer 0 0) in
@@ -267,9 +265,9 @@ module _ (p : Pattern) (tape ws xs : List ℕ) where
       }
 
   pub parse_words : IsTaken p tape → (needed : ℕ) → needed ≡ 2 * (length tape + 1) → length ws < needed
-      → Parses p tape ws ws xs xs (Refused (WordsTooShort needed))
+      → Parses p tape ws ws xs xs (Err (WordsTooShort needed))
   parse_words t needed e h =
-      subst (λ n. Parses p tape ws ws xs xs (Refused (WordsTooShort n))) (sym e)
+      subst (λ n. Parses p tape ws ws xs xs (Err (WordsTooShort n))) (sym e)
       (parse_refused (WordsTooShort (2 * (length tape + 1)))
       (first_behind (tape_order p tape) (taken_clear p tape t) (here (lt-ltb (length ws) (2 * (length tape + 1)) (omega (arith, e, h))))))
 
@@ -300,7 +298,7 @@ module _ {p : Pattern} {tape ws : List ℕ} (d : Tested p tape ws) where
         ),
       ))
 
-  on : (us xs ys : List ℕ) (a : Parsed) → us ≡ in_front (words p tape) ws → ReadsGreedily (root p) tape xs ys (parsed_answer a) →
+  on : (us xs ys : List ℕ) (a : Result ℕ Refusal) → us ≡ in_front (words p tape) ws → ReadsGreedily (root p) tape xs ys (parsed_answer a) →
       Parses p tape ws us xs ys a
   on us xs ys a e r =
       let z = tested_zero in
@@ -319,11 +317,11 @@ module _ {p : Pattern} {tape ws : List ℕ} (d : Tested p tape ws) where
           ∙ ap (λ x. test_bit x (index (root p))) (ap (λ v. get_or v (2 * 0 + bit true) 0) filled ∙ filled_at p tape ws 0 (omega arith) true)
           ∙ state_bit p ((obeys_iff p).0 d.good) true tape (root p) top
 
-      pub parse_unreadable : (xs : List ℕ) → o ≡ false → Parses p tape ws us xs xs (Refused Unreadable)
+      pub parse_unreadable : (xs : List ℕ) → o ≡ false → Parses p tape ws us xs xs (Err Unreadable)
       parse_unreadable xs f =
           let none : (bits : List Bool) → Canonical (root p) tape bits → ⊥ =
           λ bits k. true≢false (sym (canonical_greedy (root p) tape bits k).0 ∙ sym marked ∙ f) in
-          on us xs xs (Refused Unreadable) filled (
+          on us xs xs (Err Unreadable) filled (
             record { unreadable = λ n. (refl, refl) },
             record { fits = λ bits k l. absurd (none bits k); short = λ bits k l. absurd (none bits k) },
           )
@@ -340,14 +338,14 @@ module _ {p : Pattern} {tape ws : List ℕ} (d : Tested p tape ws) where
             reads = sym marked ∙ f;
           }
 
-      pub parse_done : {xs ys : List ℕ} {r : Parsed} → o ≡ true → Writes (greedy (root p) tape) xs ys r → Parses p tape ws us xs ys r
+      pub parse_done : {xs ys : List ℕ} {r : Result ℕ Refusal} → o ≡ true → Writes (greedy (root p) tape) xs ys r → Parses p tape ws us xs ys r
       parse_done {xs} {ys} {r} f w = on us xs ys r filled (reads_greedily p tape us (first_swept f) w)
 
 pub obeys_few : (p : Pattern) → obeys p ≡ true → (1 ≤ p.count) × (p.count ≤ 64)
 obeys_few p h = let r = (obeys_iff p).0 h in (r.one, r.few)
 
 -- ── laws of the promise ──
-module _ (p : Pattern) (tape ws us xs ys : List ℕ) (r : Parsed) (h : Parses p tape ws us xs ys r) where
+module _ (p : Pattern) (tape ws us xs ys : List ℕ) (r : Result ℕ Refusal) (h : Parses p tape ws us xs ys r) where
   -- 5 is answered exactly if the checks before it pass and no value of the pattern, with or without an empty round, spells the tape
   pub unreadable_iff : (early p tape (length ws)).number ≡ 0 → (parsed_answer r ≡ refused Unreadable) ↔ ((v : Value (root p)) → flat (root p) v ≡ tape → ⊥)
   unreadable_iff e = (λ a v f. other (h.reads e) a v f, λ n. ((h.reads e).0.unreadable n).0)

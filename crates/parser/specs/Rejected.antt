@@ -1,10 +1,11 @@
 -- 01, the bodies to try on reading: "The first round read, then stop bits (2)", "One code for all tapes (2, 3)", "Every tape unreadable (2)".
 -- On the pattern a* the contract of `parse` leaves one answer for each of two tapes, so each of these bodies breaks it.
 use Rattle.std.proofs.Math.Path.{◌≡◌, ap}
-use Rattle.std.specs.Prelude.{refl, true, false, List, [], ◌∷◌, ℕ, ◌+◌, ◌*◌, ◌≤◌, length, replicate}
+use Rattle.std.specs.Prelude.{refl, true, false, List, [], ◌∷◌, ℕ, ◌+◌, ◌*◌, ◌≤◌, length, replicate, Result}
 use Rattle.std.proofs.Common.{sym, ◌∙◌}
 use native.Mathlib.Omega.{arith}
 use Rattle.std.proofs.Math.ListN.{get_or}
+use Rattle.refusals.specs.declared.Refusal.{Refusal}
 use Rattle.syntax.specs.declared.Leaf.TheVariants.{Letter}
 use Rattle.syntax.specs.declared.Node.TheVariants.{Leaf as LeafNode, Star}
 use Rattle.syntax.specs.declared.Pattern.{Pattern}
@@ -16,12 +17,11 @@ use Rattle.syntax.specs.Trees.{root, tree_of}
 use Rattle.bits.specs.Bits.{cell_count, pack, in_front}
 use Rattle.semantics.specs.Sweeps.{readable, greedy}
 use Rattle.semantics.proofs.GreedyLaws.{greedy_canonical}
-use Rattle.parser.specs.declared.Parsed.{Parsed}
 use Rattle.parser.specs.Parse.{parsed_answer, Parses}
 use Rattle.parser.specs.ParseLaws.{Tested, tested_zero}
 
 -- what reading answers and leaves where a tape is readable and the buffers suffice
-pub reads-greedy : (p : Pattern) (tape ws us xs ys : List ℕ) (r : Parsed) → Parses p tape ws us xs ys r →
+pub reads-greedy : (p : Pattern) (tape ws us xs ys : List ℕ) (r : Result ℕ Refusal) → Parses p tape ws us xs ys r →
     obeys p ≡ true → length tape ≤ letter_limit → length tape ≤ first_bad tape → 2 * (length tape + 1) ≤ length ws →
     readable (root p) tape ≡ true → cell_count 8 (length (greedy (root p) tape)) ≤ length xs →
     (parsed_answer r ≡ answer 0 (length (greedy (root p) tape))) × (ys ≡ in_front (pack 8 (greedy (root p) tape)) xs)
@@ -65,7 +65,7 @@ letters_aa : first_bad (97 ∷ 97 ∷ []) ≡ 2
 unfolding first_bad is_letter
 letters_aa = refl
 
-module _ (ws us xs ys : List ℕ) (r : Parsed) (room : 6 ≤ length ws) (fits : 1 ≤ length xs) where
+module _ (ws us xs ys : List ℕ) (r : Result ℕ Refusal) (room : 6 ≤ length ws) (fits : 1 ≤ length xs) where
   -- the tape a: two bits, 01
   pub one_round : Parses rounds (97 ∷ []) ws us xs ys r → parsed_answer r ≡ answer 0 2
   one_round h =
@@ -89,7 +89,7 @@ module _ (ws us xs ys : List ℕ) (r : Parsed) (room : 6 ≤ length ws) (fits : 
   never_unreadable h e = let z : ◌≡◌ {A = ℕ} 0 5 = ap (λ a. a.number) (sym (one_round h) ∙ e) in omega arith
 
   -- the two tapes have not one code
-  pub not_one_code : (vs zs : List ℕ) (q : Parsed) → Parses rounds (97 ∷ []) ws us xs ys r → Parses rounds (97 ∷ 97 ∷ []) ws vs xs zs q →
+  pub not_one_code : (vs zs : List ℕ) (q : Result ℕ Refusal) → Parses rounds (97 ∷ []) ws us xs ys r → Parses rounds (97 ∷ 97 ∷ []) ws vs xs zs q →
       parsed_answer r ≡ parsed_answer q → ⊥
   not_one_code vs zs q h k e =
       let w = (reads-greedy rounds (97 ∷ 97 ∷ []) ws vs xs zs q k obeys-rounds (omega arith) (rw letters_aa (omega arith)) (omega arith) readable_aa

@@ -1,7 +1,8 @@
 -- The promise of reading fixes everything: on the same pattern, tape and buffers two runs answer the same and leave the same.
-use Rattle.std.specs.Prelude.{◌≡◌, refl, Bool, true, false, List, ℕ, ◌≤◌, length}
+use Rattle.std.specs.Prelude.{◌≡◌, refl, Bool, true, false, List, ℕ, ◌≤◌, length, Err, Ok, Result}
 use Rattle.std.proofs.Common.{sym, ap, ◌∙◌, true≢false, arith}
 use Rattle.std.proofs.Math.Decide.{dec_le}
+use Rattle.refusals.specs.declared.Refusal.{Refusal}
 use Rattle.syntax.specs.declared.Pattern.{Pattern}
 use Rattle.refusals.specs.Refusals.{Answer, refused}
 use Rattle.refusals.specs.RefusalLaws.{refused_same, number_positive}
@@ -11,8 +12,6 @@ use Rattle.bits.specs.Bits.{cell_count}
 use Rattle.semantics.specs.Value.{Value, flat}
 use Rattle.semantics.specs.Sweeps.{readable, greedy}
 use Rattle.semantics.proofs.GreedyLaws.{greedy_canonical, readable_iff}
-use Rattle.parser.specs.declared.Parsed.{Parsed}
-use Rattle.parser.specs.declared.Parsed.TheVariants.{Bits, Refused}
 use Rattle.parser.specs.Parse.{parsed_answer, early, ReadsGreedily, Parses}
 
 -- there is no third case: the tape is unreadable, or its greedy code fits, or it does not
@@ -33,13 +32,13 @@ greedily_one t tape xs ys zs a b f g = go (readable t tape) refl
         both _ _ (f.0.unreadable none) (g.0.unreadable none)
 
 -- number and value fix the answer
-pub parsed_same : (r s : Parsed) → parsed_answer r ≡ parsed_answer s → r ≡ s
-parsed_same (Bits n) (Bits m) e = ap (λ a. Bits a.value) e
-parsed_same (Bits n) (Refused s) e = let z : 0 ≡ (refused s).number = ap (λ a. a.number) e in absurd (omega (arith, number_positive s))
-parsed_same (Refused r) (Bits m) e = let z : (refused r).number ≡ 0 = ap (λ a. a.number) e in absurd (omega (arith, number_positive r))
-parsed_same (Refused r) (Refused s) e = ap Refused (refused_same r s e)
+pub parsed_same : (r s : Result ℕ Refusal) → parsed_answer r ≡ parsed_answer s → r ≡ s
+parsed_same (Ok n) (Ok m) e = ap (λ a. Ok a.value) e
+parsed_same (Ok n) (Err s) e = let z : 0 ≡ (refused s).number = ap (λ a. a.number) e in absurd (omega (arith, number_positive s))
+parsed_same (Err r) (Ok m) e = let z : (refused r).number ≡ 0 = ap (λ a. a.number) e in absurd (omega (arith, number_positive r))
+parsed_same (Err r) (Err s) e = ap Err (refused_same r s e)
 
-pub parses_one : (p : Pattern) (tape words words_now words_too code code_now code_too : List ℕ) (r s : Parsed)
+pub parses_one : (p : Pattern) (tape words words_now words_too code code_now code_too : List ℕ) (r s : Result ℕ Refusal)
     → Parses p tape words words_now code code_now r → Parses p tape words words_too code code_too s
     → (r ≡ s) × (words_now ≡ words_too) × (code_now ≡ code_too)
 parses_one p tape words words_now words_too code code_now code_too r s f g = go (dec_le 1 (early p tape (length words)).number)

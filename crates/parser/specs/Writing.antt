@@ -1,5 +1,6 @@
 -- The second half of reading: what is known once the state sets are filled and the tape is known to be readable, and what is written then.
-use Rattle.std.specs.Prelude.{◌≡◌, Bool, true, cond, List, ℕ, ◌+◌, ◌*◌, ◌≤◌, ◌<◌, ltb, length, get_or, drop}
+use Rattle.std.specs.Prelude.{◌≡◌, Bool, true, cond, List, ℕ, ◌+◌, ◌*◌, ◌≤◌, ◌<◌, ltb, length, get_or, drop, Err, Ok, Result}
+use Rattle.refusals.specs.declared.Refusal.{Refusal}
 use Rattle.syntax.specs.declared.Pattern.{Pattern}
 use Rattle.refusals.specs.declared.Refusal.TheVariants.{CodeTooShort}
 use Rattle.syntax.specs.Letter.{letter_limit}
@@ -9,8 +10,6 @@ use Rattle.bits.specs.Bits.{bit, cell_count, pack, in_front}
 use Rattle.semantics.specs.Sweeps.{readable}
 use Rattle.steps.specs.StateSets.{state_set}
 use Rattle.second_sweep.specs.Sweeping.{Ready}
-use Rattle.parser.specs.declared.Parsed.{Parsed}
-use Rattle.parser.specs.declared.Parsed.TheVariants.{Bits, Refused}
 
 -- what the tests and the first sweep leave for a tape that is readable
 pub record FirstSwept (p : Pattern) (tape words : List ℕ) : Type 0 where
@@ -33,9 +32,9 @@ abbrev pub Misses : (table words tape : List ℕ) → (l size missing : ℕ) →
 Misses table words tape l size m = (s : Writable table words tape l) → m ≡ missing (length s.ready.it.bits) size
 
 -- bits in front of the code if they fit, else the bytes needed and the code as it was
-pub record Writes (bits : List Bool) (code code_now : List ℕ) (r : Parsed) : Type 0 where
-  pub fits : cell_count 8 (length bits) ≤ length code → (r ≡ Bits (length bits)) × (code_now ≡ in_front (pack 8 bits) code)
-  pub short : length code < cell_count 8 (length bits) → (r ≡ Refused (CodeTooShort (cell_count 8 (length bits)))) × (code_now ≡ code)
+pub record Writes (bits : List Bool) (code code_now : List ℕ) (r : Result ℕ Refusal) : Type 0 where
+  pub fits : cell_count 8 (length bits) ≤ length code → (r ≡ Ok (length bits)) × (code_now ≡ in_front (pack 8 bits) code)
+  pub short : length code < cell_count 8 (length bits) → (r ≡ Err (CodeTooShort (cell_count 8 (length bits)))) × (code_now ≡ code)
 
-abbrev pub WritesAll : (table words tape : List ℕ) → (l : ℕ) → (code code_now : List ℕ) → Parsed → Type 0
+abbrev pub WritesAll : (table words tape : List ℕ) → (l : ℕ) → (code code_now : List ℕ) → Result ℕ Refusal → Type 0
 WritesAll table words tape l code code_now r = (s : Writable table words tape l) → Writes s.ready.it.bits code code_now r

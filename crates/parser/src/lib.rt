@@ -9,19 +9,12 @@ ghost use Rattle.parser.specs.Parse.{Parses};
 ghost use Rattle.parser.specs.Writing.{Writable, Misses, WritesAll};
 
 use bits::{bytes_for, is_open};
-use checks::{TapeCheck, check_tape};
+use checks::check_tape;
 use first_sweep::fill;
 use refusals::Refusal;
 use second_sweep::sweep;
 use syntax::Pattern;
 use table::table_of;
-
-// What reading a tape answers: the bit count of its code, or why it is refused.
-#[derive(Clone, Copy)]
-pub enum Parsed {
-    Bits(u32),
-    Refused(Refusal),
-}
 
 // How many bytes the code of node l needs where a buffer has fewer, else 0. Bits are counted only where the buffer might not hold them: with
 // at most 64 choices no code of n letters takes more than 17n + 8 bytes.
@@ -48,41 +41,41 @@ pub fn write_code(
     tape: &[u8],
     l: usize,
     code: &mut [u8],
-) -> Parsed
+) -> Result<u32, Refusal>
     requires { Good table.now × (l < 64) × Writable table.now words.now tape.now l }
     ensures { WritesAll table.now words.now tape.now l code.old code.new result }
 {
     let needed = bytes_missing(table, words, tape, l, code.len());
     if 0 < needed {
-        return Parsed::Refused(Refusal::CodeTooShort(needed as u32));
+        return Err(Refusal::CodeTooShort(needed as u32));
     }
     let swept = sweep(table, words, tape, l, 0, true, code, 0);
-    Parsed::Bits(swept.at)
+    Ok(swept.at)
 }
 
 // Reads a tape that is taken.
-fn read(p: Pattern, tape: &[u8], words: &mut [u64], code: &mut [u8]) -> Parsed
+fn read(p: Pattern, tape: &[u8], words: &mut [u64], code: &mut [u8]) -> Result<u32, Refusal>
     requires { IsTaken p tape.now }
     ensures { Parses p tape.now words.old words.new code.old code.new result }
 {
     let needed = 2 * (tape.len() + 1);
     if words.len() < needed {
-        return Parsed::Refused(Refusal::WordsTooShort(needed as u32));
+        return Err(Refusal::WordsTooShort(needed as u32));
     }
     let table = table_of(p);
     fill(p, &table, tape, words);
     let root = p.count - 1;
     if !is_open(words, 0, true, root) {
-        return Parsed::Refused(Refusal::Unreadable);
+        return Err(Refusal::Unreadable);
     }
     write_code(&table, words, tape, root, code)
 }
 
-pub fn parse(p: Pattern, tape: &[u8], words: &mut [u64], code: &mut [u8]) -> Parsed
+pub fn parse(p: Pattern, tape: &[u8], words: &mut [u64], code: &mut [u8]) -> Result<u32, Refusal>
     ensures { Parses p tape.now words.old words.new code.old code.new result }
 {
     match check_tape(p, tape) {
-        TapeCheck::Refused(why) => Parsed::Refused(why),
-        TapeCheck::Taken => read(p, tape, words, code),
+        Err(why) => Err(why),
+        Ok(()) => read(p, tape, words, code),
     }
 }

@@ -15,7 +15,7 @@ ghost use Rattle.reach.specs.Locate.{Tells, Locates};
 ghost use Rattle.reach.specs.FrontWords.{has_any, matched_leaves, state_word, following, reach_words, resume_words};
 ghost use Rattle.reach.specs.Reaching.{Locatable};
 
-use checks::{TapeCheck, check_tape};
+use checks::check_tape;
 use masks::scatter::put_takers;
 use masks::{LETTER_CELLS, put_masks};
 use refusals::Refusal;
@@ -172,7 +172,7 @@ pub fn locate(p: Pattern, tape: &[u8]) -> Located
     ensures { Locates p tape.now result }
 {
     match check_tape(p, tape) {
-        TapeCheck::Refused(why) => Located::Refused(why),
-        TapeCheck::Taken => locate_taken(p, tape),
+        Err(why) => Located::Refused(why),
+        Ok(()) => locate_taken(p, tape),
     }
 }

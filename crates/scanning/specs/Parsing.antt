@@ -1,12 +1,11 @@
 -- Laws of parsing: what a kind and its fields say, one law for each way of the code.
-use Rattle.std.specs.Prelude.{◌≡◌, refl, Bool, true, false, ◌&&◌, cond, List, ℕ, ◌≤◌, ◌<◌, eqb, ltb}
+use Rattle.std.specs.Prelude.{◌≡◌, refl, Bool, true, false, ◌&&◌, cond, List, ℕ, ◌≤◌, ◌<◌, eqb, ltb, None, Some}
 use Rattle.std.proofs.Common.{sym, ap, arith}
 use Rattle.std.proofs.Math.Option.{Option, none, some}
 use borrow.Author.Tests.{eq-eqb, ne_eqb, lt-ltb, le-ltb, le-leb, lt-leb}
 use Rattle.syntax.specs.declared.Leaf.TheVariants.{Letter, Range}
 use Rattle.syntax.specs.declared.Node.{Node}
 use Rattle.syntax.specs.declared.Node.TheVariants.{Leaf as LeafNode, Sequence, Alternative, Star}
-use Rattle.scanning.specs.declared.ScannedNode.TheVariants.{Node as IsNode, Fault as NoNode}
 use Rattle.syntax.specs.Letter.{is_letter}
 use Rattle.syntax.specs.LetterLaws.{letter_small}
 use Rattle.fields.specs.Text.{place, single, when, star_of, node_of_one, range_of, parts_of, node_of_two}
@@ -21,19 +20,19 @@ big_no_letter c h = go (is_letter c) refl
 
 -- a star of either kind
 module _ (again : Bool) (x : List ℕ) (p : ℕ) (e : p ≡ place x) where
-  pub star_good : p < 64 → IsNode (Star again p) ≡ scanned_node (star_of again (place x))
+  pub star_good : p < 64 → Some (Star again p) ≡ scanned_node (star_of again (place x))
   star_good l = rw (← e, lt-ltb p 64 l)
 
-  pub star_bad : 64 ≤ p → NoNode ≡ scanned_node (star_of again (place x))
+  pub star_bad : 64 ≤ p → None ≡ scanned_node (star_of again (place x))
   star_bad l = rw (← e, le-ltb p 64 l)
 
 module _ (k : ℕ) (x : List ℕ) where
   module _ (c : ℕ) (h : k ≡ 76) (e : c ≡ single x) where
-    pub one_letter : is_letter c ≡ true → IsNode (LeafNode (Letter c)) ≡ scanned_node (node_of_one k x)
+    pub one_letter : is_letter c ≡ true → Some (LeafNode (Letter c)) ≡ scanned_node (node_of_one k x)
     unfolding node_of_one
     one_letter l = rw (eq-eqb k 76 h, ← e, l)
 
-    pub one_no_letter : is_letter c ≡ false → NoNode ≡ scanned_node (node_of_one k x)
+    pub one_no_letter : is_letter c ≡ false → None ≡ scanned_node (node_of_one k x)
     unfolding node_of_one
     one_no_letter l = rw (eq-eqb k 76 h, ← e, l)
 
@@ -47,26 +46,26 @@ module _ (k : ℕ) (x : List ℕ) where
       unfolding node_of_one
       one_lazy h = rw (ne_eqb k 76 n, ne_eqb k 75 m, eq-eqb k 90 h)
 
-      pub one_other : (k ≡ 90 → ⊥) → NoNode ≡ scanned_node (node_of_one k x)
+      pub one_other : (k ≡ 90 → ⊥) → None ≡ scanned_node (node_of_one k x)
       unfolding node_of_one
       one_other l = rw (ne_eqb k 76 n, ne_eqb k 75 m, ne_eqb k 90 l)
 
 module _ (a b : ℕ) where
-  pub range_no_low : is_letter a ≡ false → NoNode ≡ scanned_node (range_of a b)
+  pub range_no_low : is_letter a ≡ false → None ≡ scanned_node (range_of a b)
   unfolding range_of
   range_no_low h = rw h
 
   module _ (ha : is_letter a ≡ true) where
-    pub range_no_high : is_letter b ≡ false → NoNode ≡ scanned_node (range_of a b)
+    pub range_no_high : is_letter b ≡ false → None ≡ scanned_node (range_of a b)
     unfolding range_of
     range_no_high h = rw (ha, h)
 
     module _ (hb : is_letter b ≡ true) where
-      pub range_good : a ≤ b → IsNode (LeafNode (Range a b)) ≡ scanned_node (range_of a b)
+      pub range_good : a ≤ b → Some (LeafNode (Range a b)) ≡ scanned_node (range_of a b)
       unfolding range_of
       range_good l = rw (ha, hb, le-leb a b l)
 
-      pub range_reversed : b < a → NoNode ≡ scanned_node (range_of a b)
+      pub range_reversed : b < a → None ≡ scanned_node (range_of a b)
       unfolding range_of
       range_reversed l = rw (ha, hb, lt-leb a b l)
 
@@ -97,29 +96,29 @@ module _ (k : ℕ) (x y : List ℕ) where
   two_range h = rw (eq-eqb k 82 h)
 
   module _ (n : k ≡ 82 → ⊥) where
-    two_none : parts_of Sequence (place x) (place y) ≡ none → parts_of Alternative (place x) (place y) ≡ none → NoNode ≡ scanned_node (node_of_two k x y)
+    two_none : parts_of Sequence (place x) (place y) ≡ none → parts_of Alternative (place x) (place y) ≡ none → None ≡ scanned_node (node_of_two k x y)
     unfolding node_of_two
     two_none e f = rw (ne_eqb k 82 n, e, f) (ap scanned_node (sym (neither (eqb k 83) (eqb k 65))))
 
-    pub two_no_first : (p : ℕ) → p ≡ place x → 64 ≤ p → NoNode ≡ scanned_node (node_of_two k x y)
+    pub two_no_first : (p : ℕ) → p ≡ place x → 64 ≤ p → None ≡ scanned_node (node_of_two k x y)
     two_no_first p e h =
         let l : 64 ≤ place x = omega arith in
         two_none (parts_no_first Sequence (place x) (place y) l) (parts_no_first Alternative (place x) (place y) l)
 
-    pub two_no_second : (q : ℕ) → q ≡ place y → 64 ≤ q → NoNode ≡ scanned_node (node_of_two k x y)
+    pub two_no_second : (q : ℕ) → q ≡ place y → 64 ≤ q → None ≡ scanned_node (node_of_two k x y)
     two_no_second q e h =
         let l : 64 ≤ place y = omega arith in
         two_none (parts_no_second Sequence (place x) (place y) l) (parts_no_second Alternative (place x) (place y) l)
 
     module _ (p q : ℕ) (ep : p ≡ place x) (eq : q ≡ place y) (lp : p < 64) (lq : q < 64) where
-      pub two_sequence : k ≡ 83 → IsNode (Sequence p q) ≡ scanned_node (node_of_two k x y)
+      pub two_sequence : k ≡ 83 → Some (Sequence p q) ≡ scanned_node (node_of_two k x y)
       unfolding node_of_two
       two_sequence h = rw (ne_eqb k 82 n, eq-eqb k 83 h, ← ep, ← eq, parts-good Sequence p q lp lq)
 
-      pub two_alternative : (k ≡ 83 → ⊥) → k ≡ 65 → IsNode (Alternative p q) ≡ scanned_node (node_of_two k x y)
+      pub two_alternative : (k ≡ 83 → ⊥) → k ≡ 65 → Some (Alternative p q) ≡ scanned_node (node_of_two k x y)
       unfolding node_of_two
       two_alternative m h = rw (ne_eqb k 82 n, ne_eqb k 83 m, eq-eqb k 65 h, ← ep, ← eq, parts-good Alternative p q lp lq)
 
-    pub two_other : (k ≡ 83 → ⊥) → (k ≡ 65 → ⊥) → NoNode ≡ scanned_node (node_of_two k x y)
+    pub two_other : (k ≡ 83 → ⊥) → (k ≡ 65 → ⊥) → None ≡ scanned_node (node_of_two k x y)
     unfolding node_of_two
     two_other m h = rw (ne_eqb k 82 n, ne_eqb k 83 m, ne_eqb k 65 h)

@@ -1,10 +1,8 @@
 -- The first line of a text, read field by field: what each scanning function answers.
-use Rattle.std.specs.Prelude.{Bool, true, false, cond, List, [], ◌∷◌, ℕ, suc, ◌+◌, eqb}
+use Rattle.std.specs.Prelude.{Bool, true, false, cond, List, [], ◌∷◌, ℕ, suc, ◌+◌, eqb, None, Some}
 use Rattle.std.proofs.Math.Option.{Option, none, some}
 use Rattle.syntax.specs.declared.Node.{Node}
 use Rattle.syntax.specs.declared.Line.{Line}
-use Rattle.scanning.specs.declared.ScannedNode.{ScannedNode}
-use Rattle.scanning.specs.declared.ScannedNode.TheVariants.{Node as IsNode, Fault as NoNode}
 use Rattle.scanning.specs.declared.Scanned.{Scanned}
 use Rattle.scanning.specs.declared.Scanned.TheVariants.{Line as ScanLine, Fault as NoLine}
 use Rattle.fields.specs.Text.{byte_front, account, node_of, with_account, line_of}
@@ -22,13 +20,13 @@ unfoldable pub first_size : List ℕ → ℕ
 first_size [] = 0
 first_size (b ∷ bs) = cond (eqb b 10) 0 (suc (first_size bs))
 
-abbrev pub scanned_node : Option Node → ScannedNode
-scanned_node none = NoNode
-scanned_node (some n) = IsNode n
+abbrev pub scanned_node : Option Node → Option Node
+scanned_node none = None
+scanned_node (some n) = Some n
 
-abbrev pub finished : ℕ → ScannedNode → ℕ → Scanned
-finished a NoNode next = NoLine
-finished a (IsNode n) next = ScanLine (record { account = a; node = n }) next
+abbrev pub finished : ℕ → Option Node → ℕ → Scanned
+finished a None next = NoLine
+finished a (Some n) next = ScanLine (record { account = a; node = n }) next
 
 abbrev pub scan_of : Option Line → ℕ → Scanned
 scan_of none next = NoLine

@@ -26,13 +26,6 @@ const STAR: u16 = b'K' as u16;
 
 const LAZY_STAR: u16 = b'Z' as u16;
 
-// What a kind and the fields after the account say.
-#[derive(Clone, Copy)]
-pub enum ScannedNode {
-    Node(Node),
-    Fault,
-}
-
 // A line of the table with the position behind it, or a fault of the line's form.
 #[derive(Clone, Copy)]
 pub enum Scanned {
@@ -50,35 +43,35 @@ fn is_field_letter(b: u16) -> bool
     is_letter(b as u8)
 }
 
-fn parse_none(kind: u16) -> ScannedNode
+fn parse_none(kind: u16) -> Option<Node>
     ensures { result ≡ scanned_node (node_of_none kind) }
 {
     if kind == NOTHING {
-        return ScannedNode::Node(Node::Leaf(Leaf::Nothing));
+        return Some(Node::Leaf(Leaf::Nothing));
     }
-    ScannedNode::Fault
+    None
 }
 
 // A star that takes another round for the bit `again`, and its part.
-fn parse_star(again: bool, x: Field) -> ScannedNode
+fn parse_star(again: bool, x: Field) -> Option<Node>
     ensures { result ≡ scanned_node (star_of again (place (word x))) }
 {
     let p = place_of(x);
     if p < NO_PLACE {
-        return ScannedNode::Node(Node::Star(again, p as u8));
+        return Some(Node::Star(again, p as u8));
     }
-    ScannedNode::Fault
+    None
 }
 
-fn parse_one(kind: u16, x: Field) -> ScannedNode
+fn parse_one(kind: u16, x: Field) -> Option<Node>
     ensures { result ≡ scanned_node (node_of_one kind (word x)) }
 {
     if kind == LETTER {
         let c = single_of(x);
         if is_field_letter(c) {
-            return ScannedNode::Node(Node::Leaf(Leaf::Letter(c as u8)));
+            return Some(Node::Leaf(Leaf::Letter(c as u8)));
         }
-        return ScannedNode::Fault;
+        return None;
     }
     if kind == STAR {
         return parse_star(false, x);
@@ -86,25 +79,25 @@ fn parse_one(kind: u16, x: Field) -> ScannedNode
     if kind == LAZY_STAR {
         return parse_star(true, x);
     }
-    ScannedNode::Fault
+    None
 }
 
-fn parse_range(a: u16, b: u16) -> ScannedNode
+fn parse_range(a: u16, b: u16) -> Option<Node>
     ensures { result ≡ scanned_node (range_of a b) }
 {
     if !is_field_letter(a) {
-        return ScannedNode::Fault;
+        return None;
     }
     if !is_field_letter(b) {
-        return ScannedNode::Fault;
+        return None;
     }
     if a <= b {
-        return ScannedNode::Node(Node::Leaf(Leaf::Range(a as u8, b as u8)));
+        return Some(Node::Leaf(Leaf::Range(a as u8, b as u8)));
     }
-    ScannedNode::Fault
+    None
 }
 
-fn parse_two(kind: u16, x: Field, y: Field) -> ScannedNode
+fn parse_two(kind: u16, x: Field, y: Field) -> Option<Node>
     ensures { result ≡ scanned_node (node_of_two kind (word x) (word y)) }
 {
     if kind == RANGE {
@@ -113,26 +106,26 @@ fn parse_two(kind: u16, x: Field, y: Field) -> ScannedNode
     let p = place_of(x);
     let q = place_of(y);
     if NO_PLACE <= p {
-        return ScannedNode::Fault;
+        return None;
     }
     if NO_PLACE <= q {
-        return ScannedNode::Fault;
+        return None;
     }
     if kind == SEQUENCE {
-        return ScannedNode::Node(Node::Sequence(p as u8, q as u8));
+        return Some(Node::Sequence(p as u8, q as u8));
     }
     if kind == ALTERNATIVE {
-        return ScannedNode::Node(Node::Alternative(p as u8, q as u8));
+        return Some(Node::Alternative(p as u8, q as u8));
     }
-    ScannedNode::Fault
+    None
 }
 
-fn finish(account: u8, what: ScannedNode, next: usize) -> Scanned
+fn finish(account: u8, what: Option<Node>, next: usize) -> Scanned
     ensures { result ≡ finished account what next }
 {
     match what {
-        ScannedNode::Node(node) => Scanned::Line(Line { account, node }, next),
-        ScannedNode::Fault => Scanned::Fault,
+        Some(node) => Scanned::Line(Line { account, node }, next),
+        None => Scanned::Fault,
     }
 }
 

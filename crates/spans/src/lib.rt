@@ -10,7 +10,7 @@ ghost use Rattle.spans.specs.Parts.{Part-of-tape};
 
 mod find; // find.rt: the walk that looks for a visit
 
-use checks::{TapeCheck, check_tape};
+use checks::check_tape;
 use codes::spells;
 use find::{Found, find};
 use refusals::Refusal;
@@ -68,8 +68,8 @@ pub fn span(p: Pattern, tape: &[u8], code: &[u8], count: u32, node: u32, visit: 
     ensures { Spans p tape.now code.now count node visit result }
 {
     match check_tape(p, tape) {
-        TapeCheck::Refused(why) => no_span(why),
-        TapeCheck::Taken => show(p, tape, code, count, node, visit),
+        Err(why) => no_span(why),
+        Ok(()) => show(p, tape, code, count, node, visit),
     }
 }
 

@@ -1,5 +1,5 @@
 -- Laws of naming: the flags say what the tree rules say.
-use Rattle.std.specs.Prelude.{◌≡◌, Bool, ◌&&◌, ◌||◌, List, [], ◌∷◌, ◌++◌, ℕ, ◌+◌, ◌-◌, ◌≤◌, ◌<◌, eqb, ltb, length, get_or, set, replicate}
+use Rattle.std.specs.Prelude.{◌≡◌, Bool, ◌&&◌, ◌||◌, List, [], ◌∷◌, ◌++◌, ℕ, ◌+◌, ◌-◌, ◌≤◌, ◌<◌, eqb, ltb, length, get_or, set, replicate, Some}
 use Rattle.std.proofs.Math.Path.{refl, sym, ap}
 use Rattle.std.proofs.Common.{◌∙◌, add-one, arith, lt-ltb, le-ltb, ltb-true, eqb-true, length-set, get_or-set_same, get_or-set_other}
 use Rattle.std.proofs.Math.Bool.{true, false, not, cond}
@@ -10,7 +10,6 @@ use Rattle.std.proofs.lemmas.List.{get_or-replicate}
 use Rattle.syntax.specs.declared.Pattern.{Pattern}
 use Rattle.syntax.specs.declared.naming.Naming.{Naming}
 use Rattle.syntax.specs.declared.naming.Names.{Names}
-use Rattle.syntax.specs.declared.naming.TreeFault.TheVariants.{Line as FaultLine}
 use Rattle.syntax.specs.Table.{node_at, parts, named_below, member, rightly_named, wrongly_names, unnamed, lowest, or_else, tree_fault}
 use Rattle.syntax.specs.Bools.{and_fst}
 use Rattle.syntax.specs.Lowest.{lowest-within, lowest_same, searched_start, searched_end, searched_here, searched_on}
@@ -152,13 +151,13 @@ names_start p = record { flags = flags_start; search = searched_start (wrongly_n
 
 -- ── the tree fault ──
 module _ (p : Pattern) (r : Names) (w : NamesWrongly p r) where
-  pub fault_wrong : r.line < p.count → FaultLine r.line ≡ fault_of (tree_fault p)
+  pub fault_wrong : r.line < p.count → Some r.line ≡ fault_of (tree_fault p)
   unfolding tree_fault
   fault_wrong h = go (lowest (wrongly_names p) 0 p.count) w.line_is
     where
-      go : (o : Option ℕ) → r.line ≡ index_or p.count o → FaultLine r.line ≡ fault_of (or_else o (lowest (unnamed p) 0 (p.count - 1)))
+      go : (o : Option ℕ) → r.line ≡ index_or p.count o → Some r.line ≡ fault_of (or_else o (lowest (unnamed p) 0 (p.count - 1)))
       go none e = absurd (omega arith)
-      go (some j) e = ap FaultLine e
+      go (some j) e = ap Some e
 
   pub fault_unnamed : p.count ≤ 64 → p.count ≤ r.line → fault_of (first_unnamed r.named p.count) ≡ fault_of (tree_fault p)
   unfolding tree_fault unnamed

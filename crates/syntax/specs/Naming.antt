@@ -1,11 +1,9 @@
 -- Naming parts one by one: the computed form of the tree rules.
-use Rattle.std.specs.Prelude.{◌≡◌, Bool, true, false, ◌&&◌, not, cond, List, [], ◌∷◌, ℕ, ◌-◌, ◌<◌, ltb, length, get_or, set}
+use Rattle.std.specs.Prelude.{◌≡◌, Bool, true, false, ◌&&◌, not, cond, List, [], ◌∷◌, ℕ, ◌-◌, ◌<◌, ltb, length, get_or, set, None, Some}
 use Rattle.std.proofs.Math.Option.{Option, none, some}
 use Rattle.syntax.specs.declared.Pattern.{Pattern}
 use Rattle.syntax.specs.declared.naming.Naming.{Naming}
 use Rattle.syntax.specs.declared.naming.Names.{Names}
-use Rattle.syntax.specs.declared.naming.TreeFault.{TreeFault}
-use Rattle.syntax.specs.declared.naming.TreeFault.TheVariants.{Line as FaultLine, Nothing as NoFault}
 use Rattle.syntax.specs.Table.{named_below, member, wrongly_names, lowest}
 use Rattle.syntax.specs.Lowest.{Searched}
 
@@ -45,6 +43,6 @@ not_flagged m l = not (get_or m l false)
 abbrev pub first_unnamed : List Bool → (count : ℕ) → Option ℕ
 first_unnamed m n = lowest (not_flagged m) 0 (n - 1)
 
-abbrev pub fault_of : Option ℕ → TreeFault
-fault_of none = NoFault
-fault_of (some l) = FaultLine l
+abbrev pub fault_of : Option ℕ → Option ℕ
+fault_of none = None
+fault_of (some l) = Some l

@@ -1,11 +1,9 @@
 -- Laws of the table test and of the tree fault that it looks for: one for each way of the code.
-use Rattle.std.specs.Prelude.{◌≡◌, refl, true, false, ℕ, ◌-◌, ◌≤◌, ◌<◌}
+use Rattle.std.specs.Prelude.{◌≡◌, refl, true, false, ℕ, ◌-◌, ◌≤◌, ◌<◌, None, Some}
 use Rattle.std.proofs.Common.{sym, ◌∙◌, arith}
 use Rattle.std.proofs.Math.Option.{Option, none, some}
 use borrow.Author.Tests.{le-leb, lt-leb}
 use Rattle.syntax.specs.declared.Pattern.{Pattern}
-use Rattle.syntax.specs.declared.naming.TreeFault.{TreeFault}
-use Rattle.syntax.specs.declared.naming.TreeFault.TheVariants.{Line as FaultLine, Nothing as NoFault}
 use Rattle.syntax.specs.Table.{badly_formed, wrongly_names, unnamed, lowest, or_else, tree_fault, is_none, obeys}
 use Rattle.syntax.specs.Lowest.{lowest-within}
 use Rattle.syntax.specs.Naming.{fault_of}
@@ -20,17 +18,17 @@ fault_within p l h = go (lowest (wrongly_names p) 0 p.count) refl h
     go (some j) e q = let s : j ≡ l = (cc) in omega (arith, lowest-within (wrongly_names p) 0 p.count j e)
 
 -- what the answer of the program says of the fault
-pub fault_found : (p : Pattern) (r : TreeFault) (l : ℕ) → r ≡ fault_of (tree_fault p) → r ≡ FaultLine l → tree_fault p ≡ some l
+pub fault_found : (p : Pattern) (r : Option ℕ) (l : ℕ) → r ≡ fault_of (tree_fault p) → r ≡ Some l → tree_fault p ≡ some l
 fault_found p r l e h = go (tree_fault p) (sym e ∙ h)
   where
-    go : (o : Option ℕ) → fault_of o ≡ FaultLine l → o ≡ some l
+    go : (o : Option ℕ) → fault_of o ≡ Some l → o ≡ some l
     go none q = absurd (let z : ◌≡◌ {A = ℕ} 0 1 = (cc) in omega arith)
     go (some j) q = (cc)
 
-pub fault_none : (p : Pattern) (r : TreeFault) → r ≡ fault_of (tree_fault p) → r ≡ NoFault → tree_fault p ≡ none
+pub fault_none : (p : Pattern) (r : Option ℕ) → r ≡ fault_of (tree_fault p) → r ≡ None → tree_fault p ≡ none
 fault_none p r e h = go (tree_fault p) (sym e ∙ h)
   where
-    go : (o : Option ℕ) → fault_of o ≡ NoFault → o ≡ none
+    go : (o : Option ℕ) → fault_of o ≡ None → o ≡ none
     go none q = refl
     go (some j) q = absurd (let z : ◌≡◌ {A = ℕ} 0 1 = (cc) in omega arith)
 

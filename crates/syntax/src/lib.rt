@@ -10,7 +10,7 @@ ghost use Rattle.syntax.specs.Table.{no_lines, obeys};
 pub mod naming; // naming.rt: which nodes are named as parts
 mod table; // table.rt: the form of a table's lines
 
-use naming::{TreeFault, tree_fault_of};
+use naming::tree_fault_of;
 use table::good_lines;
 
 // A leaf of the pattern.
@@ -143,7 +143,7 @@ pub fn obeys_rules(p: Pattern) -> bool
         return false;
     }
     match tree_fault_of(p) {
-        TreeFault::Line(_) => false,
-        TreeFault::Nothing => true,
+        Some(_) => false,
+        None => true,
     }
 }

@@ -19,13 +19,6 @@ pub struct Names {
     pub named: [bool; 64],
 }
 
-// The line of a tree fault.
-#[derive(Clone, Copy)]
-pub enum TreeFault {
-    Line(usize),
-    Nothing,
-}
-
 fn name_part(named: [bool; 64], i: usize, part: u8) -> Naming
     requires { i ≤ 64 }
     ensures { result ≡ name_one i named part }
@@ -93,30 +86,30 @@ fn names_of(p: Pattern) -> Names
 }
 
 // The lowest node but the last that is not named.
-fn unnamed_of(named: [bool; 64], count: usize) -> TreeFault
+fn unnamed_of(named: [bool; 64], count: usize) -> Option<usize>
     requires { count ≤ 64 }
     ensures { result ≡ fault_of (first_unnamed named count) }
 {
     let mut l = 0;
     loop {
         if count <= l + 1 {
-            break TreeFault::Nothing;
+            break None;
         }
         if !named[l] {
-            break TreeFault::Line(l);
+            break Some(l);
         }
         l += 1;
     }
 }
 
-pub fn tree_fault_of(p: Pattern) -> TreeFault
+pub fn tree_fault_of(p: Pattern) -> Option<usize>
     requires { p.count ≤ 64 }
     ensures { result ≡ fault_of (tree_fault p) }
 {
     let names = names_of(p);
     let line = names.line;
     if line < p.count {
-        return TreeFault::Line(line);
+        return Some(line);
     }
     let named = names.named;
     unnamed_of(named, p.count)

@@ -13,7 +13,7 @@ mod selection; // selection.rt: selecting the entries of a term
 
 use calendar::{Date, is_date};
 use days::{is_term, last_date};
-use entries::{Gathered, gather};
+use entries::gather;
 use refusals::{Refusal, number_of, value_of};
 use selection::select_term;
 use syntax::Pattern;
@@ -113,7 +113,7 @@ pub fn term_totals(p: Pattern, code: &[u8], count: u32, start: Date, term: Term)
     let mut accounts = [0u8; Pattern::MAX_LETTERS];
     let gathered = gather(p, code, count, &mut letters, &mut accounts);
     match gathered {
-        Gathered::Refused(why) => no_term_totals(TermRefusal::Base(why)),
-        Gathered::Entries(n) => total_dates(&mut letters, &mut accounts, n, start, term),
+        Err(why) => no_term_totals(TermRefusal::Base(why)),
+        Ok(n) => total_dates(&mut letters, &mut accounts, n, start, term),
     }
 }

@@ -1,9 +1,10 @@
 -- WHAT READING ANSWERS AND LEAVES, handed on: spelling gives back the tape, settling the same code, totals and pieces are those of the greedy
 -- value. Over the promises of the services: for every pattern, tape, lent buffers and answers that they allow.
-use Rattle.std.specs.Prelude.{◌≡◌, refl, Bool, List, ℕ, ◌+◌, ◌*◌, ◌≤◌, length, take}
+use Rattle.std.specs.Prelude.{◌≡◌, refl, Bool, List, ℕ, ◌+◌, ◌*◌, ◌≤◌, length, take, Err, Ok, Result}
 use Rattle.std.proofs.Math.Path.{sym, ap}
 use Rattle.std.proofs.Common.{ap₂, subst, ◌∙◌, arith, take_all}
 use Rattle.std.proofs.Math.Option.{some}
+use Rattle.refusals.specs.declared.Refusal.{Refusal}
 use Rattle.syntax.specs.declared.Pattern.{Pattern}
 use Rattle.refusals.specs.Refusals.{answer, number}
 use Rattle.refusals.specs.RefusalLaws.{number_positive}
@@ -23,8 +24,6 @@ use Rattle.semantics.specs.Sweeps.{greedy}
 use Rattle.semantics.proofs.CodeLaws.{value_of-code}
 use Rattle.semantics.proofs.GreedyLaws.{canonical_greedy}
 use Rattle.steps.specs.StateSets.{words}
-use Rattle.codes.specs.declared.Flattened.{Flattened}
-use Rattle.codes.specs.declared.Flattened.TheVariants.{Letters, Refused as NotFlattened}
 use Rattle.totals.specs.declared.Totalled.{Totalled}
 use Rattle.totals.specs.declared.TotalsOutcome.{TotalsOutcome}
 use Rattle.totals.specs.declared.TotalsOutcome.TheVariants.{Added, Refused as NotAdded}
@@ -33,10 +32,7 @@ use Rattle.entries.specs.Gather.{entries_by, entries_of}
 use Rattle.totals.specs.Totals.{totals_outcome, Totals}
 use Rattle.spans.specs.declared.Spanned.{Spanned}
 use Rattle.spans.specs.Spans.{visit_by, span_visit, span_answer, start_of, size_of, span_shown, span_outcome, Spans}
-use Rattle.parser.specs.declared.Parsed.TheVariants.{Bits as ParsedBits}
 use Rattle.parser.specs.Parse.{Parses}
-use Rattle.canonical.specs.declared.Canonicalized.{Canonicalized}
-use Rattle.canonical.specs.declared.Canonicalized.TheVariants.{Bits}
 use Rattle.canonical.specs.Canonicalize.{Canonicalizes}
 use Rattle.canonical.specs.CanonicalLaws.{laid, settle_read}
 use Rattle.canonical.specs.Unique.{canonicalizes_one}
@@ -55,15 +51,15 @@ pub written_all : (n : ℕ) (ys : List ℕ) → length ys ≤ cell_count 8 n →
 written_all n ys h = take_all (cell_count 8 n) ys h
 
 -- number 0 is the answer of what is given, not of a refusal
-letters-given : (r : Flattened) (n : ℕ) → flattened_answer r ≡ answer 0 n → r ≡ Letters n
-letters-given (Letters m) n e = ap (λ a. Letters a.value) e
-letters-given (NotFlattened why) n e = let z : number why ≡ 0 = ap (λ a. a.number) e in absurd (omega (arith, number_positive why))
+letters-given : (r : Result ℕ Refusal) (n : ℕ) → flattened_answer r ≡ answer 0 n → r ≡ Ok n
+letters-given (Ok m) n e = ap (λ a. Ok a.value) e
+letters-given (Err why) n e = let z : number why ≡ 0 = ap (λ a. a.number) e in absurd (omega (arith, number_positive why))
 
 added-given : (r : TotalsOutcome) → totals_outcome r ≡ answer 0 0 → r ≡ Added
 added-given Added e = refl
 added-given (NotAdded why) e = let z : number why ≡ 0 = ap (λ a. a.number) e in absurd (omega (arith, number_positive why))
 
-module _ (p : Pattern) (tape ws us xs ys : List ℕ) (n : ℕ) (h : Parses p tape ws us xs ys (ParsedBits n)) where
+module _ (p : Pattern) (tape ws us xs ys : List ℕ) (n : ℕ) (h : Parses p tape ws us xs ys (Ok n)) where
   abbrev best : List Bool
   best = greedy (root p) tape
 
@@ -94,7 +90,7 @@ module _ (p : Pattern) (tape ws us xs ys : List ℕ) (n : ℕ) (h : Parses p tap
     enough : length (tape_of p (written n ys) n) ≤ length cells
     enough = subst (λ w. length w ≤ length cells) (sym parsed_spells) room
 
-    pub flattens_back : Flattens p (written n ys) n cells (in_front tape cells) (Letters (length tape))
+    pub flattens_back : Flattens p (written n ys) n cells (in_front tape cells) (Ok (length tape))
     flattens_back =
         let r = is_read in
         let whole = parsed_earliest.is.whole in
@@ -103,26 +99,26 @@ module _ (p : Pattern) (tape ws us xs ys : List ℕ) (n : ℕ) (h : Parses p tap
           leaves = sym (flatten_writes p (written n ys) n r.good whole few_spelled cells enough ∙ ap (λ w. in_front w cells) parsed_spells);
         }
 
-    pub parse_flatten : (after : List ℕ) (r : Flattened) → Flattens p (written n ys) n cells after r
-        → (r ≡ Letters (length tape)) × (after ≡ in_front tape cells)
+    pub parse_flatten : (after : List ℕ) (r : Result ℕ Refusal) → Flattens p (written n ys) n cells after r
+        → (r ≡ Ok (length tape)) × (after ≡ in_front tape cells)
     parse_flatten after r f = let s = flattens_back in (letters-given r (length tape) (f.answers ∙ sym s.answers), f.leaves ∙ sym s.leaves)
 
   -- settling gives the same code, and leaves tape and words as reading does
-  module _ (ts ts_now vs vs_now zs zs_now : List ℕ) (r : Canonicalized) (c : Canonicalizes p (written n ys) n ts ts_now vs vs_now zs zs_now r) where
+  module _ (ts ts_now vs vs_now zs zs_now : List ℕ) (r : Result ℕ Refusal) (c : Canonicalizes p (written n ys) n ts ts_now vs vs_now zs zs_now r) where
     pub parse_canonicalize : length tape ≤ length ts → 2 * (length tape + 1) ≤ length vs → cell_count 8 n ≤ length zs
-        → (r ≡ Bits n) × (ts_now ≡ in_front tape ts) × (vs_now ≡ in_front (words p tape) vs) × (zs_now ≡ in_front (written n ys) zs)
+        → (r ≡ Ok n) × (ts_now ≡ in_front tape ts) × (vs_now ≡ in_front (words p tape) vs) × (zs_now ≡ in_front (written n ys) zs)
     parse_canonicalize tape-room word_room code-room =
         let d = is_read in
         let k = read_greedily p tape vs (record { good = d.good; few = d.few; letters = d.letters; room = word_room }) d.reads zs
         (subst (λ m. cell_count 8 m ≤ length zs) d.count_is code-room) in
-        let l = laid p (written n ys) n ts (in_front tape ts) (Letters (length tape)) (flattens_back ts tape-room) (length tape) refl in
-        let w = subst (λ x. Parses p x vs (in_front (words p tape) vs) zs (in_front (pack 8 best) zs) (ParsedBits (length best)))
+        let l = laid p (written n ys) n ts (in_front tape ts) (Ok (length tape)) (flattens_back ts tape-room) (length tape) refl in
+        let w = subst (λ x. Parses p x vs (in_front (words p tape) vs) zs (in_front (pack 8 best) zs) (Ok (length best)))
         (sym (l.front_is ∙ parsed_spells)) k in
         let s = settle_read p (written n ys) n ts (in_front tape ts) (length tape) l vs (in_front (words p tape) vs) zs (in_front (pack 8 best) zs)
-        (ParsedBits (length best)) w (Bits (length best)) refl in
+        (Ok (length best)) w (Ok (length best)) refl in
         let q = canonicalizes_one p (written n ys) n ts ts_now (in_front tape ts) vs vs_now (in_front (words p tape) vs) zs zs_now
-        (in_front (pack 8 best) zs) r (Bits (length best)) c s in
-        (q.0 ∙ ap Bits (sym d.count_is), q.1, q.2, q.3 ∙ ap (λ b. in_front b zs) (sym bytes_are))
+        (in_front (pack 8 best) zs) r (Ok (length best)) c s in
+        (q.0 ∙ ap Ok (sym d.count_is), q.1, q.2, q.3 ∙ ap (λ b. in_front b zs) (sym bytes_are))
 
   -- totals and pieces are those of the greedy value
   module _ (v : Value (root p)) (g : Greedy (root p) tape v) where

@@ -1,7 +1,8 @@
 -- The same for the calls from C: what `wumbyra_parse` answers and leaves, handed to the other calls with the same pattern text.
-use Rattle.std.specs.Prelude.{◌≡◌, List, ℕ, ◌+◌, ◌*◌, ◌≤◌, length, get_or}
+use Rattle.std.specs.Prelude.{◌≡◌, List, ℕ, ◌+◌, ◌*◌, ◌≤◌, length, get_or, Err, Ok, Result}
 use Rattle.std.proofs.Common.{sym, ap, subst, ◌∙◌, arith}
 use Rattle.std.proofs.Math.Path.{ap₂}
+use Rattle.refusals.specs.declared.Refusal.{Refusal}
 use Rattle.refusals.specs.Refusals.{answer, number}
 use Rattle.refusals.specs.RefusalLaws.{number_positive}
 use Rattle.syntax.specs.Trees.{root}
@@ -12,8 +13,6 @@ use Rattle.semantics.specs.Order.{Greedy}
 use Rattle.semantics.specs.Accounts.{accounts, totals}
 use Rattle.semantics.specs.Visits.{visit}
 use Rattle.steps.specs.StateSets.{words}
-use Rattle.parser.specs.declared.Parsed.{Parsed}
-use Rattle.parser.specs.declared.Parsed.TheVariants.{Bits, Refused}
 use Rattle.parser.specs.Parse.{parsed_answer, Parses}
 use Rattle.canonical.specs.Canonicalize.{canonicalized_answer}
 use Rattle.packing.specs.Packing.{unpacked}
@@ -26,11 +25,11 @@ use Rattle.theorems.specs.RoundTrip.{written, flattens_back, parse_canonicalize,
 
 -- `wumbyra_parse` answered r, which is number 0 and n bits
 module _ (text tape ws us xs ys : List ℕ) (r n : ℕ) (h : ParsesText text tape ws us xs ys r) (bits : unpacked r ≡ answer 0 n) where
-  by : (a : Parsed) → answer 0 n ≡ parsed_answer a → Parses (load_table text) tape ws us xs ys a → Parses (load_table text) tape ws us xs ys (Bits n)
-  by (Bits m) e q = subst (λ k. Parses (load_table text) tape ws us xs ys (Bits k)) (sym (ap (λ a. a.value) e)) q
-  by (Refused why) e q = let z : 0 ≡ number why = ap (λ a. a.number) e in absurd (omega (arith, number_positive why))
+  by : (a : Result ℕ Refusal) → answer 0 n ≡ parsed_answer a → Parses (load_table text) tape ws us xs ys a → Parses (load_table text) tape ws us xs ys (Ok n)
+  by (Ok m) e q = subst (λ k. Parses (load_table text) tape ws us xs ys (Ok k)) (sym (ap (λ a. a.value) e)) q
+  by (Err why) e q = let z : 0 ≡ number why = ap (λ a. a.number) e in absurd (omega (arith, number_positive why))
 
-  pub parsed_text : Parses (load_table text) tape ws us xs ys (Bits n)
+  pub parsed_text : Parses (load_table text) tape ws us xs ys (Ok n)
   parsed_text = by h.parsed (sym bits ∙ h.answers) h.parses
 
   -- THE ROUND TRIP from C: `wumbyra_flatten` gives back the tape

@@ -1,5 +1,5 @@
 -- Every piece stands by itself: from the promises and the theory only.
-use Rattle.std.specs.Prelude.{◌≡◌, Bool, true, List, [], ◌∷◌, ℕ, ◌+◌, ◌≤◌, length, take, drop}
+use Rattle.std.specs.Prelude.{◌≡◌, Bool, true, List, [], ◌∷◌, ℕ, ◌+◌, ◌≤◌, length, take, drop, Ok}
 use Rattle.std.proofs.Math.Path.{refl, sym, ap}
 use Rattle.std.proofs.Common.{subst, ◌∙◌, arith, length-take, length-drop}
 use Rattle.std.proofs.Math.Option.{Option, map, none, some}
@@ -20,10 +20,8 @@ use Rattle.semantics.proofs.CutLaws.{cut-visit}
 use Rattle.semantics.proofs.AlikeLaws.{alike_canonical}
 use Rattle.semantics.proofs.PieceLaws.{piece-stands}
 use Rattle.semantics.proofs.PieceExamples.{whole, unsettled_cut, unsettled_falls}
-use Rattle.parser.specs.declared.Parsed.TheVariants.{Bits}
 use Rattle.parser.specs.ParseLaws.{tested_zero}
 use Rattle.parser.specs.Unique.{parsed_same}
-use Rattle.canonical.specs.declared.Canonicalized.TheVariants.{Bits as SettledBits}
 use Rattle.canonical.specs.CanonicalLaws.{spelled, letters_good, settles}
 use Rattle.canonical.specs.RoundTrip.{canonical_whole, canonical_spells}
 use Rattle.canonical.specs.Unique.{canonicalized_same}
@@ -53,13 +51,13 @@ module _ (q : Pattern) (good : obeys q ≡ true) (w : List ℕ) (few : length w 
   canonical_code = record {
     read = λ words words_now code code_now r h wide long.
         let f = (h.reads (tested_zero {ws = words} (record { good = good; few = few; letters = letters; room = wide }))).1.fits bs c long in
-        (parsed_same r (Bits (length bs)) f.0, f.1);
+        (parsed_same r (Ok (length bs)) f.0, f.1);
     settled = λ x e y.
         let d : Canonical (root q) (spells x) bs = subst (λ z. Canonical (root q) z bs) (sym e) c in
         let s = settles q x.bytes x.count y.tape y.tape_now y.words y.words_now y.out y.out_now y.result y.kept good
         x.is.whole x.few y.tape-room y.word_room in
         let f = s.2.1.fits bs d (y.code-room bs d) in
-        (canonicalized_same y.result (SettledBits (length bs)) f.0, f.1);
+        (canonicalized_same y.result (Ok (length bs)) f.0, f.1);
   }
 
   -- ── the cut of a visit is of the visit that is shown ──

@@ -8,7 +8,7 @@ ghost use Rattle.entries.specs.Gather.{pairs, Owned};
 ghost use Rattle.totals.specs.Sums.{charge_one};
 ghost use Rattle.totals.specs.Totals.{Totals, refused_totals};
 
-use entries::{Gathered, gather};
+use entries::gather;
 use refusals::Refusal;
 use syntax::Pattern;
 
@@ -80,8 +80,8 @@ pub fn totals(p: Pattern, code: &[u8], count: u32) -> Totalled
     let mut accounts = [0u8; Pattern::MAX_LETTERS];
     let gathered = gather(p, code, count, &mut letters, &mut accounts);
     match gathered {
-        Gathered::Refused(why) => no_totals(why),
-        Gathered::Entries(n) => Totalled {
+        Err(why) => no_totals(why),
+        Ok(n) => Totalled {
             outcome: TotalsOutcome::Added,
             litres: add_up(&letters, &accounts, n),
         },

@@ -10,8 +10,9 @@ ghost use Rattle.totals.specs.Totals.{totals_outcome};
 ghost use Rattle.text.specs.Text.{Puts};
 ghost use Rattle.vector_codes.specs.Answers.{answer_text, litres_text, Shown, PutsTotals, letters_text, settled_text};
 
-use canonical::{Canonicalized, canonicalize};
-use codes::{Flattened, flatten};
+use canonical::canonicalize;
+use codes::flatten;
+use refusals::Refusal;
 use std::io;
 use syntax::Pattern;
 use text::{least, put_pair, put_parted, put_refusal};
@@ -25,12 +26,12 @@ use vector_text::{
 const ALL_LETTERS: usize = 3700;
 
 // Number and value, from the start of `out`.
-fn put_flattened(out: &mut [u8], answer: Flattened) -> usize
+fn put_flattened(out: &mut [u8], answer: Result<u32, Refusal>) -> usize
     ensures { Puts out.old 0 (answer_text (flattened_answer answer)) out.new result }
 {
     match answer {
-        Flattened::Letters(letters) => put_pair(out, 0, 0, letters as u64),
-        Flattened::Refused(why) => put_refusal(out, 0, why),
+        Ok(letters) => put_pair(out, 0, 0, letters as u64),
+        Err(why) => put_refusal(out, 0, why),
     }
 }
 
@@ -43,12 +44,12 @@ fn put_outcome(out: &mut [u8], answer: TotalsOutcome) -> usize
     }
 }
 
-fn put_canonicalized(out: &mut [u8], answer: Canonicalized) -> usize
+fn put_canonicalized(out: &mut [u8], answer: Result<u32, Refusal>) -> usize
     ensures { Puts out.old 0 (answer_text (canonicalized_answer answer)) out.new result }
 {
     match answer {
-        Canonicalized::Bits(count) => put_pair(out, 0, 0, count as u64),
-        Canonicalized::Refused(why) => put_refusal(out, 0, why),
+        Ok(count) => put_pair(out, 0, 0, count as u64),
+        Err(why) => put_refusal(out, 0, why),
     }
 }
 
@@ -105,7 +106,7 @@ fn put_letters(out: &mut [u8], at: usize, tape: &[u8], lent: usize) -> usize
 // Prints the line of spelling, with `lent` cells of the tape lent. This line and the next two take less than 1,024 bytes.
 fn print_flattening(
     rt: &impl Print,
-    answer: Flattened,
+    answer: Result<u32, Refusal>,
     tape: &[u8],
     lent: usize,
 ) -> io::Result<()> {
@@ -154,7 +155,7 @@ fn put_settled(
 // The line of settling.
 fn print_settling(
     rt: &impl Print,
-    answer: Canonicalized,
+    answer: Result<u32, Refusal>,
     tape: &[u8],
     words: &[u64],
     code: &[u8],

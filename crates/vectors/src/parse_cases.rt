@@ -2,7 +2,8 @@
 // the pattern's text a case has the tape in hexadecimal, and how many words and code bytes are lent, in decimal. The
 // lent parts are the starts of larger arrays, whose cells are set before each case. Each `put_` function puts its bytes
 // into `out` from `at` on and answers where they end. What does not fit is left out.
-use parser::{Parsed, parse};
+use parser::parse;
+use refusals::Refusal;
 use std::io;
 use syntax::Pattern;
 use text::{least, put_pair, put_parted, put_refusal};
@@ -17,10 +18,10 @@ const SHOWN_LETTERS: usize = 8;
 const SHOWN_WORDS: usize = 20;
 
 // Number and value, from the start of `out`.
-fn put_parsed(out: &mut [u8], parsed: Parsed) -> usize {
+fn put_parsed(out: &mut [u8], parsed: Result<u32, Refusal>) -> usize {
     match parsed {
-        Parsed::Bits(count) => put_pair(out, 0, 0, count as u64),
-        Parsed::Refused(why) => put_refusal(out, 0, why),
+        Ok(count) => put_pair(out, 0, 0, count as u64),
+        Err(why) => put_refusal(out, 0, why),
     }
 }
 
@@ -52,7 +53,7 @@ fn put_words(out: &mut [u8], at: usize, words: &[u64], lent: usize, letters: usi
 // many letters.
 fn print_parsing(
     rt: &impl Print,
-    parsed: Parsed,
+    parsed: Result<u32, Refusal>,
     words: &[u64],
     lent: usize,
     code: &[u8],

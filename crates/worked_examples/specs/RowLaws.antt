@@ -1,9 +1,10 @@
 -- The theorem: every row holds. The definitions are computed on each row, and the laws of the promises carry that to every outcome.
-use Rattle.std.specs.Prelude.{◌≡◌, Bool, ◌&&◌, ℕ, ◌+◌, ◌*◌, ◌-◌, ◌≤◌, leb, length, get_or}
+use Rattle.std.specs.Prelude.{◌≡◌, Bool, ◌&&◌, ℕ, ◌+◌, ◌*◌, ◌-◌, ◌≤◌, leb, length, get_or, Err, Result}
 use Rattle.std.proofs.Math.Path.{refl, ap}
 use Rattle.std.proofs.Common.{sym, subst, ◌∙◌, arith, leb-true}
 use Rattle.std.proofs.Math.Bool.{true, false}
 use mathlib.Core.List.{List, [], ◌∷◌, head-eq_of_cons-eq, map, tail-eq_of_cons-eq}
+use Rattle.refusals.specs.declared.Refusal.{Refusal}
 use Rattle.syntax.specs.declared.Pattern.{Pattern}
 use Rattle.refusals.specs.declared.Refusal.TheVariants.{Unreadable}
 use Rattle.refusals.specs.Refusals.{Answer, answer, refused}
@@ -46,8 +47,6 @@ use Rattle.semantics.specs.Every.{All}
 use Rattle.steps.specs.StateSets.{words}
 use Rattle.steps.specs.StateLaws.{state_bit}
 use Rattle.walks.specs.Whole.{whole_code, letters_of}
-use Rattle.parser.specs.declared.Parsed.{Parsed}
-use Rattle.parser.specs.declared.Parsed.TheVariants.{Refused}
 use Rattle.parser.specs.Parse.{parsed_answer, ReadsGreedily, Parses}
 use Rattle.parser.specs.ParseLaws.{Tested, filled_at, root-index, parse_unreadable}
 use Rattle.parser.specs.Rejected.{reads-greedy}
@@ -114,7 +113,7 @@ module _ (text : List ℕ) (loads : (load_answer text).number ≡ 0) where
   good : obeys p ≡ true
   good = loaded-obeys text loads
 
-  module _ (tape ws us xs ys : List ℕ) (r : Parsed) (h : Parses p tape ws us xs ys r) (few : length tape ≤ letter_limit)
+  module _ (tape ws us xs ys : List ℕ) (r : Result ℕ Refusal) (h : Parses p tape ws us xs ys r) (few : length tape ≤ letter_limit)
       (letters : length tape ≤ first_bad tape) (room : 2 * (length tape + 1) ≤ length ws) where
     unread : readable t tape ≡ false → (parsed_answer r ≡ refused Unreadable) × (ys ≡ xs)
     unfolding readable
@@ -123,7 +122,7 @@ module _ (text : List ℕ) (loads : (load_answer text).number ≡ 0) where
         let off : test_bit (get_or (in_front (words p tape) ws) (2 * 0 + bit true) 0) (p.count - 1) ≡ false =
         ap (λ l. test_bit (get_or (in_front (words p tape) ws) (2 * 0 + bit true) 0) l) (sym (root-index p good))
         ∙ ap (λ x. test_bit x (index t)) (filled_at p tape ws 0 (omega arith) true) ∙ state_bit p ((obeys_iff p).0 good) true tape t top ∙ none in
-        let q = parses_one p tape ws us (in_front (words p tape) ws) xs ys xs r (Refused Unreadable) h (parse_unreadable d refl refl xs off) in
+        let q = parses_one p tape ws us (in_front (words p tape) ws) xs ys xs r (Err Unreadable) h (parse_unreadable d refl refl xs off) in
         (ap parsed_answer q.0, q.2)
 
     read : (b : Bool) → readable t tape ≡ b → length (read_bytes b t tape) ≤ length xs

@@ -1,13 +1,12 @@
 -- C1 to C11 of document 01, and rows for kind `Z` and the letters of the hot side of document 02, as a caller meets them: the pattern's text, the
 -- tape's or code's bytes, the number and value answered, the code's bytes. Definitions only.
-use Rattle.std.specs.Prelude.{◌≡◌, List, [], ◌∷◌, ℕ, ◌+◌, ◌*◌, ◌≤◌, length}
+use Rattle.std.specs.Prelude.{◌≡◌, List, [], ◌∷◌, ℕ, ◌+◌, ◌*◌, ◌≤◌, length, Result}
+use Rattle.refusals.specs.declared.Refusal.{Refusal}
 use Rattle.refusals.specs.Refusals.{Answer, answer}
 use Rattle.bits.specs.Bits.{in_front}
 use Rattle.loading.specs.declared.Loaded.{Loaded}
 use Rattle.loading.specs.Load.{outcome_answer, Loads}
-use Rattle.parser.specs.declared.Parsed.{Parsed}
 use Rattle.parser.specs.Parse.{parsed_answer, Parses}
-use Rattle.canonical.specs.declared.Canonicalized.{Canonicalized}
 use Rattle.canonical.specs.Canonicalize.{canonicalized_answer, Canonicalizes}
 use Rattle.worked_examples.specs.Texts.{P1, P2, P3, P4, P5, Listing, Z1, Z2, Z3, Z4, Z5, Z6, Z7, H1, d, a, b, W}
 
@@ -33,13 +32,13 @@ pub record Row : Type 0 where
 abbrev pub Says : Asked → (text tape : List ℕ) → Answer → (written : List ℕ) → Type 0
 Says reading text tape answered written =
     (l : Loaded) → Loads text l
-    → (words words_now code code_now : List ℕ) (r : Parsed) → Parses l.pattern tape words words_now code code_now r
+    → (words words_now code code_now : List ℕ) (r : Result ℕ Refusal) → Parses l.pattern tape words words_now code code_now r
     → 2 * (length tape + 1) ≤ length words → length written ≤ length code
     → (parsed_answer r ≡ answered) × (code_now ≡ in_front written code)
 -- 01: "buffers suffice with at least n tape cells, 2 × (n + 1) mark words, and as many code bytes as the code [..] fills"
 Says (settling handed count) text tape answered written =
     (l : Loaded) → Loads text l
-    → (cells cells_now words words_now code code_now : List ℕ) (r : Canonicalized)
+    → (cells cells_now words words_now code code_now : List ℕ) (r : Result ℕ Refusal)
     → Canonicalizes l.pattern handed count cells cells_now words words_now code code_now r
     → length tape ≤ length cells → 2 * (length tape + 1) ≤ length words → length written ≤ length code
     → (canonicalized_answer r ≡ answered) × (cells_now ≡ in_front tape cells) × (code_now ≡ in_front written code)

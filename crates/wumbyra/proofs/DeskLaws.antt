@@ -1,9 +1,10 @@
 -- Laws of the page desk's calls from C: one for each way of the code.
-use Rattle.std.specs.Prelude.{◌≡◌, false, cond, ℕ, eqb, length}
+use Rattle.std.specs.Prelude.{◌≡◌, false, cond, ℕ, eqb, length, Result}
 use Rattle.std.proofs.Common.{sym, ap, ap₂, subst, ◌∙◌}
 use Rattle.std.proofs.Math.Bool.{true≢false, not}
 use mathlib.Core.List.{List, [], ◌∷◌, ◌++◌}
 use borrow.Author.Tests.{eq-eqb, ne_eqb}
+use Rattle.desk.specs.declared.DeskRefusal.{DeskRefusal}
 use Rattle.syntax.specs.declared.Pattern.{Pattern}
 use Rattle.refusals.specs.Refusals.{answer}
 use Rattle.refusals.specs.Checks.{first_of}
@@ -14,7 +15,6 @@ use Rattle.loading.specs.Load.{load_table, Loads}
 use Rattle.first_sweep.specs.Tail.{tail_words}
 use Rattle.desk.specs.declared.Desk.{Desk}
 use Rattle.desk.specs.declared.DeskRefusal.TheVariants.{DeskLimits}
-use Rattle.desk.specs.declared.DeskAnswer.{DeskAnswer}
 use Rattle.desk.specs.Desks.{empty_desk, with_page, without_page, desk_refused, desk_answer, DeskTest, open_order, open_answer, if_accepted}
 use Rattle.desk.specs.Desks.{Opens, Puts, Withdraws}
 use Rattle.desk.specs.Numbers.{desk_number_positive}
@@ -56,7 +56,7 @@ module _ (text : List ℕ) (l : Loaded) (g : Loads text l) (desk words : List �
         words_left = sym (ap (λ b. cond b (in_front (tail_words p []) words) words) not_said);
       }
 
-  module _ (h : length desk ≡ desk_bytes) (d : Desk) (f : d ≡ desk_of_bytes desk) (after : Desk) (words_now : List ℕ) (a : DeskAnswer)
+  module _ (h : length desk ≡ desk_bytes) (d : Desk) (f : d ≡ desk_of_bytes desk) (after : Desk) (words_now : List ℕ) (a : Result ℕ DeskRefusal)
       (o : Opens l.pattern d after words words_now a) (desk_now : List ℕ) (k : desk_now ≡ desk_laid after desk) (e : unpacked r ≡ desk_answer a) where
     pub open_packed : DeskOpensText text desk desk_now words words_now r
     open_packed =
@@ -74,7 +74,7 @@ module _ (text : List ℕ) (l : Loaded) (g : Loads text l) (desk words : List �
 -- ── putting and withdrawing ──
 module _ (text : List ℕ) (l : Loaded) (g : Loads text l) (desk : List ℕ) (d : Desk) (f : d ≡ desk_of_bytes desk) (letters : List ℕ) where
   pub put-packed :
-      (page letters_now words words_now : List ℕ) (after : Desk) (a : DeskAnswer) → Puts l.pattern page d after letters letters_now words words_now a
+      (page letters_now words words_now : List ℕ) (after : Desk) (a : Result ℕ DeskRefusal) → Puts l.pattern page d after letters letters_now words words_now a
       → (desk_now : List ℕ) → desk_now ≡ desk_laid after desk → (r : ℕ) → unpacked r ≡ desk_answer a
       → DeskPutsText text desk desk_now page letters letters_now words words_now r
   put-packed page letters_now words words_now after a o desk_now k r e =
@@ -94,7 +94,7 @@ module _ (text : List ℕ) (l : Loaded) (g : Loads text l) (desk : List ℕ) (d 
       }
 
   pub withdraw-packed :
-      (after : Desk) (a : DeskAnswer) → Withdraws l.pattern d after letters a → (desk_now : List ℕ) → desk_now ≡ desk_laid after desk
+      (after : Desk) (a : Result ℕ DeskRefusal) → Withdraws l.pattern d after letters a → (desk_now : List ℕ) → desk_now ≡ desk_laid after desk
       → (r : ℕ) → unpacked r ≡ desk_answer a → DeskWithdrawsText text desk desk_now letters r
   withdraw-packed after a o desk_now k r e =
       let p = load_table text in

@@ -1,7 +1,8 @@
 -- THE DESK FROM C IS A STACK. 02: "From an opening, while nothing but its calls writes desk and letters, the desk answers any run of calls as a
 -- plain stack of pages would". What the services promise of runs holds for calls on a desk in bytes, each with a pattern's text.
-use Rattle.std.specs.Prelude.{◌≡◌, refl, not, cond, List, [], ◌∷◌, ◌++◌, map, ℕ, eqb, length}
+use Rattle.std.specs.Prelude.{◌≡◌, refl, not, cond, List, [], ◌∷◌, ◌++◌, map, ℕ, eqb, length, Result}
 use Rattle.std.proofs.Common.{sym, ap, ap₂, subst, ◌∙◌, eq-eqb}
+use Rattle.desk.specs.declared.DeskRefusal.{DeskRefusal}
 use Rattle.refusals.specs.Refusals.{answer}
 use Rattle.refusals.specs.Checks.{first_of}
 use Rattle.refusals.specs.CheckLaws.{zero-said, clear_parts}
@@ -9,7 +10,6 @@ use Rattle.bits.specs.Bits.{in_front}
 use Rattle.loading.specs.Load.{load_table}
 use Rattle.first_sweep.specs.Tail.{tail_words}
 use Rattle.desk.specs.declared.DeskRefusal.TheVariants.{DeskLimits}
-use Rattle.desk.specs.declared.DeskAnswer.{DeskAnswer}
 use Rattle.desk.specs.Desks.{letters_held, empty_desk, desk_refused, desk_answer, DeskTest, open_order}
 use Rattle.desk.specs.Numbers.{desk_number_positive}
 use Rattle.desk.proofs.DeskWays.{open_clear}
@@ -42,7 +42,7 @@ pub data TextRun : (desk letters : List ℕ) → List Call → List ℕ → (des
 -- ── they are runs of the services ──
 abbrev Served : Call → (desk now letters letters_now : List ℕ) → (r : ℕ) → Type 0
 Served c desk now letters letters_now r =
-    (a : DeskAnswer) × (unpacked r ≡ desk_answer a) × (Does c (desk_of_bytes desk) (desk_of_bytes now) letters letters_now a) × (length now ≡ desk_bytes)
+    (a : Result ℕ DeskRefusal) × (unpacked r ≡ desk_answer a) × (Does c (desk_of_bytes desk) (desk_of_bytes now) letters letters_now a) × (length now ≡ desk_bytes)
 
 served : (c : Call) (desk now letters letters_now : List ℕ) (r : ℕ) → length desk ≡ desk_bytes → TextDoes c desk now letters letters_now r
     → Served c desk now letters letters_now r
@@ -58,7 +58,7 @@ served (withdrawing p) desk now letters letters_now r whole (text, e, t, k) =
 
 abbrev RunServed : (desk letters : List ℕ) → List Call → List ℕ → (end last : List ℕ) → Type 0
 RunServed desk letters cs rs end last =
-    (told : List DeskAnswer) × (map unpacked rs ≡ map desk_answer told) × Run (desk_of_bytes desk) letters cs told (desk_of_bytes end) last
+    (told : List (Result ℕ DeskRefusal)) × (map unpacked rs ≡ map desk_answer told) × Run (desk_of_bytes desk) letters cs told (desk_of_bytes end) last
 
 run_served : {desk letters end last : List ℕ} {cs : List Call} {rs : List ℕ} → TextRun desk letters cs rs end last → length desk ≡ desk_bytes
     → RunServed desk letters cs rs end last

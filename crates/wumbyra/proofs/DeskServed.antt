@@ -1,5 +1,5 @@
 -- A call from C on a desk of 31 bytes is the service's call: from the desk that stands in the bytes before it to that which stands there after it.
-use Rattle.std.specs.Prelude.{◌≡◌, Bool, true, false, cond, ◌⊎◌, List, [], ℕ, suc, eqb, length}
+use Rattle.std.specs.Prelude.{◌≡◌, Bool, true, false, cond, ◌⊎◌, List, [], ℕ, suc, eqb, length, Err, Ok, Result}
 use Rattle.std.proofs.Math.Path.{refl, sym, ap}
 use Rattle.std.proofs.Common.{subst, ◌∙◌, inl, inr, arith, length-set}
 use Rattle.refusals.specs.Refusals.{Answer, answer}
@@ -11,8 +11,6 @@ use Rattle.first_sweep.specs.Tail.{tail_words}
 use Rattle.first_sweep.specs.RightWords.{RightWords}
 use Rattle.desk.specs.declared.Desk.{Desk}
 use Rattle.desk.specs.declared.DeskRefusal.{DeskRefusal}
-use Rattle.desk.specs.declared.DeskAnswer.{DeskAnswer}
-use Rattle.desk.specs.declared.DeskAnswer.TheVariants.{Letters, Refused}
 use Rattle.desk.specs.Desks.{page_limit, letters_held, empty_desk, with_page, without_page, desk_refused, desk_answer, if_accepted, DeskTest}
 use Rattle.desk.specs.Desks.{open_order, open_answer, Opens, Puts, Withdraws}
 use Rattle.desk.proofs.WordLaws.{put_right, withdraw_right}
@@ -49,16 +47,16 @@ module _ (desk : List ℕ) (whole : length desk ≡ desk_bytes) where
 
 -- ── the service's promise ──
 -- what an order has the service answer
-told : (order : List DeskTest) (n : ℕ) → (a : DeskAnswer) × (desk_answer a ≡ first_of desk_refused order (answer 0 n))
+told : (order : List DeskTest) (n : ℕ) → (a : Result ℕ DeskRefusal) × (desk_answer a ≡ first_of desk_refused order (answer 0 n))
 told order n = go (which_first order)
   where
-    go : Clear order ⊎ ((why : DeskRefusal) × First why order) → (a : DeskAnswer) × (desk_answer a ≡ first_of desk_refused order (answer 0 n))
-    go (inl c) = (Letters n, sym (clear_said desk_refused order (answer 0 n) c))
-    go (inr (why, f)) = (Refused why, sym (first_said desk_refused f (answer 0 n)))
+    go : Clear order ⊎ ((why : DeskRefusal) × First why order) → (a : Result ℕ DeskRefusal) × (desk_answer a ≡ first_of desk_refused order (answer 0 n))
+    go (inl c) = (Ok n, sym (clear_said desk_refused order (answer 0 n) c))
+    go (inr (why, f)) = (Err why, sym (first_said desk_refused f (answer 0 n)))
 
 module _ (text desk now : List ℕ) (r : ℕ) (whole : length desk ≡ desk_bytes) where
   pub opens_served : (words words_now : List ℕ) → DeskOpensText text desk now words words_now r
-      → (a : DeskAnswer) × (unpacked r ≡ desk_answer a) × (Opens (load_table text) (desk_of_bytes desk) (desk_of_bytes now) words words_now a)
+      → (a : Result ℕ DeskRefusal) × (unpacked r ≡ desk_answer a) × (Opens (load_table text) (desk_of_bytes desk) (desk_of_bytes now) words words_now a)
       × (length now ≡ desk_bytes)
   unfolding open_answer
   opens_served words words_now t =

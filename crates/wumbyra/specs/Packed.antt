@@ -1,6 +1,8 @@
 -- What each call from C answers: the number and value of the service on the loaded table, in one 64-bit number. Definitions only.
-use Rattle.std.specs.Prelude.{◌≡◌, not, List, [], ◌∷◌, ◌++◌, ℕ, ◌+◌, ◌*◌, eqb, length, get_or}
+use Rattle.std.specs.Prelude.{◌≡◌, not, List, [], ◌∷◌, ◌++◌, ℕ, ◌+◌, ◌*◌, eqb, length, get_or, Result}
 use Rattle.std.proofs.Math.Option.{Option, none, some}
+use Rattle.desk.specs.declared.DeskRefusal.{DeskRefusal}
+use Rattle.refusals.specs.declared.Refusal.{Refusal}
 use Rattle.syntax.specs.declared.Pattern.{Pattern}
 use Rattle.refusals.specs.Refusals.{Answer, answer}
 use Rattle.refusals.specs.Checks.{first_of}
@@ -15,16 +17,13 @@ use Rattle.totals.specs.Totals.{totals_answer, totals_litres}
 use Rattle.spans.specs.Spans.{span_answer, span_shown}
 use Rattle.calendar.specs.Dates.{date_of}
 use Rattle.terms.specs.Terms.{term_of, terms_answer, terms_litres}
-use Rattle.parser.specs.declared.Parsed.{Parsed}
 use Rattle.parser.specs.Parse.{parsed_answer, Parses}
-use Rattle.canonical.specs.declared.Canonicalized.{Canonicalized}
 use Rattle.canonical.specs.Canonicalize.{canonicalized_answer, Canonicalizes}
 use Rattle.reach.specs.declared.Located.{Located}
 use Rattle.reach.specs.Locate.{located_answer, Locates}
 use Rattle.first_sweep.specs.Tail.{tail_words}
 use Rattle.desk.specs.declared.Desk.{Desk}
 use Rattle.desk.specs.declared.DeskRefusal.TheVariants.{DeskLimits}
-use Rattle.desk.specs.declared.DeskAnswer.{DeskAnswer}
 use Rattle.desk.specs.Desks.{empty_desk, desk_refused, desk_answer, open_order, if_accepted, Puts, Withdraws}
 
 -- the version 1.7.0 as one number: major × 10000 + minor × 100 + patch
@@ -33,7 +32,7 @@ version_number = 1 * 10000 + 7 * 100 + 0
 
 -- THE PROMISE of reading a tape from C: answer and buffers are those that the service promises on the table of the text
 pub record ParsesText (text tape words words_now code code_now : List ℕ) (r : ℕ) : Type 0 where
-  pub parsed : Parsed
+  pub parsed : Result ℕ Refusal
   pub answers : unpacked r ≡ parsed_answer parsed
   pub parses : Parses (load_table text) tape words words_now code code_now parsed
 
@@ -44,7 +43,7 @@ pub record FlattensText (text code : List ℕ) (count : ℕ) (tape tape_now : Li
 
 -- THE PROMISE of settling a code from C
 pub record CanonicalizesText (text code : List ℕ) (count : ℕ) (tape tape_now words words_now canonical canonical_now : List ℕ) (r : ℕ) : Type 0 where
-  pub canonicalized : Canonicalized
+  pub canonicalized : Result ℕ Refusal
   pub answers : unpacked r ≡ canonicalized_answer canonicalized
   pub canonicalizes : Canonicalizes (load_table text) code count tape tape_now words words_now canonical canonical_now canonicalized
 
@@ -95,7 +94,7 @@ pub record DeskOpensText (text desk desk_now words words_now : List ℕ) (r : �
 -- another length than 31 is taken for a desk that breaks the limits.
 pub record DeskPutsText (text desk desk_now page letters letters_now words words_now : List ℕ) (r : ℕ) : Type 0 where
   pub after : Desk
-  pub desk_answered : DeskAnswer
+  pub desk_answered : Result ℕ DeskRefusal
   pub answers : unpacked r ≡ desk_answer desk_answered
   pub puts : Puts (load_table text) page (desk_of_bytes desk) after letters letters_now words words_now desk_answered
   pub leaves : desk_now ≡ if_accepted (desk_answer desk_answered) (bytes_of_desk after) desk
@@ -103,7 +102,7 @@ pub record DeskPutsText (text desk desk_now page letters letters_now words words
 -- THE PROMISE of withdrawing a page from C: the same
 pub record DeskWithdrawsText (text desk desk_now letters : List ℕ) (r : ℕ) : Type 0 where
   pub after : Desk
-  pub desk_answered : DeskAnswer
+  pub desk_answered : Result ℕ DeskRefusal
   pub answers : unpacked r ≡ desk_answer desk_answered
   pub withdraws : Withdraws (load_table text) (desk_of_bytes desk) after letters desk_answered
   pub leaves : desk_now ≡ if_accepted (desk_answer desk_answered) (bytes_of_desk after) desk

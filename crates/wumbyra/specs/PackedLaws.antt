@@ -1,5 +1,5 @@
 -- Laws of packed answers: one for each way of the code.
-use Rattle.std.specs.Prelude.{◌≡◌, List, ℕ, ◌+◌, ◌*◌, ◌≤◌, length, get_or}
+use Rattle.std.specs.Prelude.{◌≡◌, List, ℕ, ◌+◌, ◌*◌, ◌≤◌, length, get_or, Result}
 use Rattle.std.proofs.Math.Path.{sym, ap, ap₂, subst}
 use Rattle.std.proofs.Common.{◌∙◌, arith}
 use Rattle.std.proofs.Math.Bool.{false, cond}
@@ -16,7 +16,6 @@ use Rattle.refusals.specs.Checks.{Clear}
 use Rattle.refusals.specs.CheckLaws.{zero_clear}
 use Rattle.loading.specs.Load.{load_table, load_answer, outcome_answer, Loads}
 use Rattle.semantics.specs.Visits.{Visit}
-use Rattle.codes.specs.declared.Flattened.{Flattened}
 use Rattle.totals.specs.declared.Totalled.{Totalled}
 use Rattle.codes.specs.Flatten.{flattened_answer, Flattens}
 use Rattle.totals.specs.Totals.{totals_outcome, Totals}
@@ -29,9 +28,7 @@ use Rattle.spans.specs.declared.SpanOutcome.TheVariants.{Shown, Refused}
 use Rattle.spans.specs.Spans.{span_visit, span_order, span_answer, start_of, size_of, span_shown, span_outcome, Spans}
 use Rattle.spans.specs.SpanLaws.{visited}
 use Rattle.spans.specs.Pieces.{part}
-use Rattle.parser.specs.declared.Parsed.{Parsed}
 use Rattle.parser.specs.Parse.{parsed_answer, Parses}
-use Rattle.canonical.specs.declared.Canonicalized.{Canonicalized}
 use Rattle.canonical.specs.Canonicalize.{canonicalized_answer, Canonicalizes}
 use Rattle.reach.specs.declared.Located.{Located}
 use Rattle.reach.specs.Locate.{located_answer, Locates}
@@ -46,7 +43,7 @@ module _ (text : List ℕ) (l : Loaded) (h : Loads text l) where
   pub load_packed : (r : ℕ) → unpacked r ≡ outcome_answer l.outcome → unpacked r ≡ load_answer text
   load_packed r e = e ∙ h.answers
 
-  pub parse_packed : (tape ws us xs ys : List ℕ) (a : Parsed) → Parses l.pattern tape ws us xs ys a → (r : ℕ) → unpacked r ≡ parsed_answer a
+  pub parse_packed : (tape ws us xs ys : List ℕ) (a : Result ℕ Refusal) → Parses l.pattern tape ws us xs ys a → (r : ℕ) → unpacked r ≡ parsed_answer a
       → ParsesText text tape ws us xs ys r
   parse_packed tape ws us xs ys a p r e = record {
     parsed = a;
@@ -54,14 +51,14 @@ module _ (text : List ℕ) (l : Loaded) (h : Loads text l) where
     parses = subst (λ t. Parses t tape ws us xs ys a) h.gives p;
   }
 
-  pub flatten_packed : (code : List ℕ) (count : ℕ) (ts us : List ℕ) (a : Flattened) → Flattens l.pattern code count ts us a → (r : ℕ)
+  pub flatten_packed : (code : List ℕ) (count : ℕ) (ts us : List ℕ) (a : Result ℕ Refusal) → Flattens l.pattern code count ts us a → (r : ℕ)
       → unpacked r ≡ flattened_answer a → FlattensText text code count ts us r
   flatten_packed code count ts us a p r e =
       let q = subst (λ t. Flattens t code count ts us a) h.gives p in
       record { answers = e ∙ q.answers; leaves = q.leaves }
 
   pub canonicalize-packed :
-      (code : List ℕ) (count : ℕ) (ts us ws vs xs ys : List ℕ) (a : Canonicalized) → Canonicalizes l.pattern code count ts us ws vs xs ys a
+      (code : List ℕ) (count : ℕ) (ts us ws vs xs ys : List ℕ) (a : Result ℕ Refusal) → Canonicalizes l.pattern code count ts us ws vs xs ys a
       → (r : ℕ) → unpacked r ≡ canonicalized_answer a → CanonicalizesText text code count ts us ws vs xs ys r
   canonicalize-packed code count ts us ws vs xs ys a p r e = record {
     canonicalized = a;
