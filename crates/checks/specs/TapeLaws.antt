@@ -1,6 +1,6 @@
 -- The order of checking a tape: each cause that holds, with none before it, is the first; and what is known where none holds. Said here once, for a
 -- service whose order begins with these causes `first_more` and `clear_parts` of crate refusals hand it on.
-use Rattle.std.specs.Prelude.{◌≡◌, refl, true, false, not, List, [], ◌∷◌, ℕ, ◌≤◌, ◌<◌, length, Err, Ok, Result, tt, ⊤}
+use Rattle.std.specs.Prelude.{◌≡◌, refl, true, false, not, List, [], ◌∷◌, ℕ, ◌≤◌, ◌<◌, length, Err, Ok, Result, ⊤}
 use Rattle.std.proofs.Common.{sym, ap, subst, arith, lt-ltb, le-ltb, ltb-false}
 use Rattle.std.proofs.lemmas.Bool.{not-false}
 use Rattle.syntax.specs.declared.Pattern.{Pattern}

@@ -1,5 +1,5 @@
 -- The causes for which a tape is refused before it is looked at any further, in one order for all services. Definitions only.
-use Rattle.std.specs.Prelude.{◌≡◌, not, List, [], ◌∷◌, ℕ, ltb, length, Err, Ok, Result, tt, ⊤}
+use Rattle.std.specs.Prelude.{◌≡◌, not, List, [], ◌∷◌, ℕ, ltb, length, Err, Ok, Result, ⊤}
 use Rattle.syntax.specs.declared.Pattern.{Pattern}
 use Rattle.syntax.specs.Letter.{first_bad, letter_limit}
 use Rattle.syntax.specs.Table.{obeys}

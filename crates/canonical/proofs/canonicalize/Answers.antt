@@ -9,18 +9,18 @@ returns-in_default c = settle_refused _ c.args.code.now _ c.args.tape.now _ _ c.
 
 pub slice_bounds-parse-end : goal.slice_bounds-parse-end
 slice_bounds-parse-end c = laid-room _ c.args.code.now _ c.args.tape.now _ _
-    (laid _ c.args.code.now _ c.args.tape.now _ _ c.flatten-flattened.ensures _ c.in-Letters.is)
+    (laid _ c.args.code.now _ c.args.tape.now _ _ c.flatten-flattened.ensures _ c.in-Ok.is)
 
 pub slice_bounds-parse-end-2 : goal.slice_bounds-parse-end-2
 slice_bounds-parse-end-2 c = sym (length-take-le _ _ (laid-room _ c.args.code.now _ c.args.tape.now _ _
-    (laid _ c.args.code.now _ c.args.tape.now _ _ c.flatten-flattened.ensures _ c.in-Letters.is)))
+    (laid _ c.args.code.now _ c.args.tape.now _ _ c.flatten-flattened.ensures _ c.in-Ok.is)))
 
 pub returns-in_default-read : goal.returns-in_default-read
 returns-in_default-read c = settle_read _ c.args.code.now _ c.args.tape.now _ _
-    (laid _ c.args.code.now _ c.args.tape.now _ _ c.flatten-flattened.ensures _ c.in-Letters.is)
+    (laid _ c.args.code.now _ c.args.tape.now _ _ c.flatten-flattened.ensures _ c.in-Ok.is)
     _ _ _ _ _ c.parse-read.ensures _ (read-refused _ _ c.why_unread.ensures)
 
 pub returns : goal.returns
 returns c = settle_read _ c.args.code.now _ c.args.tape.now _ _
-    (laid _ c.args.code.now _ c.args.tape.now _ _ c.flatten-flattened.ensures _ c.in-Letters.is)
-    _ _ _ _ _ c.parse-read.ensures _ (read_bits _ _ c.in-Bits.is)
+    (laid _ c.args.code.now _ c.args.tape.now _ _ c.flatten-flattened.ensures _ c.in-Ok.is)
+    _ _ _ _ _ c.parse-read.ensures _ (read_bits _ _ c.in-Ok.is)

@@ -7,9 +7,9 @@ use Rattle.listing.proofs.list_text.Goals as goal
 pub slice_bounds-list_tape-end : goal.slice_bounds-list_tape-end
 slice_bounds-list_tape-end c = sym (length-take-le _ _ c.letters_of-n.ensures.within)
 
-pub returns-in-Refused : goal.returns-in-Refused
-returns-in-Refused c = shows_refused _ _ _ _ c.in-Refused.why _ _
-    (load_refused _ c.args.tape.now _ c.load-loaded.ensures _ c.in-Refused.is)
+pub returns-in-Err : goal.returns-in-Err
+returns-in-Err c = shows_refused _ _ _ _ c.in-Err.why _ _
+    (load_refused _ c.args.tape.now _ c.load-loaded.ensures _ c.in-Err.is)
     c.number_of.ensures c.value_of.ensures c.put_refused.ensures.puts c.put_refused.ensures.value_len_bound
 
 pub returns-in-Lines : goal.returns-in-Lines

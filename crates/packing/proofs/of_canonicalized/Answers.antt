@@ -4,10 +4,10 @@ use Rattle.refusals.specs.Refusals.{answer}
 use Rattle.canonical.specs.Canonicalize.{canonicalized_answer}
 use Rattle.packing.proofs.of_canonicalized.Goals as goal
 
-pub returns-in-Bits : goal.returns-in-Bits
-returns-in-Bits c = c.packed.ensures ∙ sym (ap canonicalized_answer c.in-Bits.is)
+pub returns-in-Ok : goal.returns-in-Ok
+returns-in-Ok c = c.packed.ensures ∙ sym (ap canonicalized_answer c.in-Ok.is)
 
-pub returns-in-Refused : goal.returns-in-Refused
-returns-in-Refused c = c.packed-in-Refused.ensures
+pub returns-in-Err : goal.returns-in-Err
+returns-in-Err c = c.packed-in-Err.ensures
     ∙ ap₂ (λ n v. answer n v) c.number_of.ensures c.value_of.ensures
-    ∙ sym (ap canonicalized_answer c.in-Refused.is)
+    ∙ sym (ap canonicalized_answer c.in-Err.is)

@@ -5,11 +5,11 @@ use Rattle.codes.specs.Flatten.{flattened_answer}
 use Rattle.packing.specs.Packing.{unpacked}
 use Rattle.packing.proofs.of_flattened.Goals as goal
 
-pub returns-in-Letters : goal.returns-in-Letters
-returns-in-Letters c = let said : unpacked c.packed.result ≡ answer 0 c.in-Letters.n = c.packed.ensures in
-    said ∙ sym (ap flattened_answer c.in-Letters.is)
+pub returns-in-Ok : goal.returns-in-Ok
+returns-in-Ok c = let said : unpacked c.packed.result ≡ answer 0 c.in-Ok.n = c.packed.ensures in
+    said ∙ sym (ap flattened_answer c.in-Ok.is)
 
-pub returns-in-Refused : goal.returns-in-Refused
-returns-in-Refused c = c.packed-in-Refused.ensures
+pub returns-in-Err : goal.returns-in-Err
+returns-in-Err c = c.packed-in-Err.ensures
     ∙ ap₂ (λ n v. answer n v) c.number_of.ensures c.value_of.ensures
-    ∙ sym (ap flattened_answer c.in-Refused.is)
+    ∙ sym (ap flattened_answer c.in-Err.is)

@@ -11,7 +11,7 @@ returns-in-Positions c = let at = c.in-Positions in
     let said : unpacked c.packed.result ≡ answer 0 (at.reach * 65536 + at.resume) = c.packed.ensures in
     said ∙ sym (ap located_answer c.in-Positions.is)
 
-pub returns-in-Refused : goal.returns-in-Refused
-returns-in-Refused c = c.packed-in-Refused.ensures
+pub returns-in-Err : goal.returns-in-Err
+returns-in-Err c = c.packed-in-Err.ensures
     ∙ ap₂ (λ n v. answer n v) c.number_of.ensures c.value_of.ensures
-    ∙ sym (ap located_answer c.in-Refused.is)
+    ∙ sym (ap located_answer c.in-Err.is)

@@ -7,7 +7,7 @@ use Rattle.packing.proofs.of_outcome.Goals as goal
 pub returns-in-Lines : goal.returns-in-Lines
 returns-in-Lines c = c.packed.ensures ∙ sym (ap outcome_answer c.in-Lines.is)
 
-pub returns-in-Refused : goal.returns-in-Refused
-returns-in-Refused c = c.packed-in-Refused.ensures
+pub returns-in-Err : goal.returns-in-Err
+returns-in-Err c = c.packed-in-Err.ensures
     ∙ ap₂ (λ n v. answer n v) c.number_of.ensures c.value_of.ensures
-    ∙ sym (ap outcome_answer c.in-Refused.is)
+    ∙ sym (ap outcome_answer c.in-Err.is)

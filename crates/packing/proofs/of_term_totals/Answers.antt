@@ -9,7 +9,7 @@ pub returns-in-Added : goal.returns-in-Added
 returns-in-Added c = let said : unpacked c.packed.result ≡ answer 0 0 = c.packed.ensures in
     said ∙ sym (ap term_outcome c.in-Added.is)
 
-pub returns-in-Refused : goal.returns-in-Refused
-returns-in-Refused c = c.packed-in-Refused.ensures
+pub returns-in-Err : goal.returns-in-Err
+returns-in-Err c = c.packed-in-Err.ensures
     ∙ ap₂ (λ n v. answer n v) c.term_number_of.ensures c.term_value_of.ensures
-    ∙ sym (ap term_outcome c.in-Refused.is)
+    ∙ sym (ap term_outcome c.in-Err.is)

@@ -7,7 +7,7 @@ use Rattle.packing.proofs.of_totals.Goals as goal
 pub returns-in-Added : goal.returns-in-Added
 returns-in-Added c = c.packed.ensures ∙ sym (ap totals_outcome c.in-Added.is)
 
-pub returns-in-Refused : goal.returns-in-Refused
-returns-in-Refused c = c.packed-in-Refused.ensures
+pub returns-in-Err : goal.returns-in-Err
+returns-in-Err c = c.packed-in-Err.ensures
     ∙ ap₂ (λ n v. answer n v) c.number_of.ensures c.value_of.ensures
-    ∙ sym (ap totals_outcome c.in-Refused.is)
+    ∙ sym (ap totals_outcome c.in-Err.is)

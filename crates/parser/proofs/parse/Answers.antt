@@ -6,7 +6,7 @@ use borrow.Author.Rules.{rules}
 use Rattle.parser.proofs.parse.Goals as goal
 
 pub read-requires : goal.read-requires
-read-requires c = is_taken _ _ _ c.check_tape.ensures c.in-Taken.is
+read-requires c = is_taken _ _ _ c.check_tape.ensures c.in-Ok.is
 
-pub returns-in-Refused : goal.returns-in-Refused
-returns-in-Refused c = parse_refused _ _ _ _ _ (first_more _ (c.check_tape.ensures.refuses _ c.in-Refused.is))
+pub returns-in-Err : goal.returns-in-Err
+returns-in-Err c = parse_refused _ _ _ _ _ (first_more _ (c.check_tape.ensures.refuses _ c.in-Err.is))

@@ -4,14 +4,14 @@ use Rattle.desk.proofs.calls.withdraw_page.Goals as goal
 
 pub take_page-requires : goal.take_page-requires
 take_page-requires c = takeable c.args.p c.args.desk c.args.letters.now _ c.check_withdraw-checked.ensures _
-    c.in-Held.is
+    c.in-Ok.is
 
-pub returns-in-Refused : goal.returns-in-Refused
-returns-in-Refused c = rw c.unchanged.ensures
+pub returns-in-Err : goal.returns-in-Err
+returns-in-Err c = rw c.unchanged.ensures
     (withdraw_why c.args.p c.args.desk c.args.letters.now _ c.check_withdraw-checked.ensures
-    _ c.in-Refused.is)
+    _ c.in-Err.is)
 
-pub returns-in-Held : goal.returns-in-Held
-returns-in-Held c = withdraw_done c.args.p c.args.desk c.args.letters.now
+pub returns-in-Ok : goal.returns-in-Ok
+returns-in-Ok c = withdraw_done c.args.p c.args.desk c.args.letters.now
     (withdraw_held c.args.p c.args.desk c.args.letters.now _ c.check_withdraw-checked.ensures
-    _ c.in-Held.is).0 _ c.take_page.ensures
+    _ c.in-Ok.is).0 _ c.take_page.ensures

@@ -7,12 +7,12 @@ use Rattle.packing.specs.Packing.{unpacked}
 use Rattle.packing.specs.DeskBytesLaws.{other_first, other_13}
 use Rattle.packing.proofs.desks.of_other_length.Goals as goal
 
-pub returns-in-Taken : goal.returns-in-Taken
-returns-in-Taken c = let said : unpacked c.packed.result ≡ answer 13 0 = c.packed.ensures in
+pub returns-in-Ok : goal.returns-in-Ok
+returns-in-Ok c = let said : unpacked c.packed.result ≡ answer 13 0 = c.packed.ensures in
     said
-    ∙ other_13 c.args.p c.args.words (when_taken (open_order c.args.p c.args.words) _ c.check_open-checked.ensures c.in-Taken.is)
+    ∙ other_13 c.args.p c.args.words (when_taken (open_order c.args.p c.args.words) _ c.check_open-checked.ensures c.in-Ok.is)
 
-pub returns-in-Refused : goal.returns-in-Refused
-returns-in-Refused c = c.packed-in-Refused.ensures
+pub returns-in-Err : goal.returns-in-Err
+returns-in-Err c = c.packed-in-Err.ensures
     ∙ ap₂ (λ n v. answer n v) c.desk_number_of.ensures c.desk_value_of.ensures
-    ∙ other_first c.args.p c.args.words _ (not_taken _ _ c.check_open-checked.ensures _ c.in-Refused.is)
+    ∙ other_first c.args.p c.args.words _ (not_taken _ _ c.check_open-checked.ensures _ c.in-Err.is)

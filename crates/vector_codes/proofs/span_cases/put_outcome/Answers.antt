@@ -7,5 +7,5 @@ use Rattle.vector_codes.proofs.span_cases.put_outcome.Goals as goal
 pub returns-in-Shown : goal.returns-in-Shown
 returns-in-Shown c = puts_answer _ _ (ap span_outcome (sym c.in-Shown.is)) c.put_pair.ensures
 
-pub returns-in-Refused : goal.returns-in-Refused
-returns-in-Refused c = puts_answer _ _ (ap span_outcome (sym c.in-Refused.is)) c.put_refusal.ensures
+pub returns-in-Err : goal.returns-in-Err
+returns-in-Err c = puts_answer _ _ (ap span_outcome (sym c.in-Err.is)) c.put_refusal.ensures

@@ -7,5 +7,5 @@ use Rattle.vector_codes.proofs.term_cases.put_outcome.Goals as goal
 pub returns-in-Added : goal.returns-in-Added
 returns-in-Added c = puts_answer _ _ (ap term_outcome (sym c.in-Added.is)) c.put_pair.ensures
 
-pub returns-in-Refused : goal.returns-in-Refused
-returns-in-Refused c = puts_answer _ _ (ap term_outcome (sym c.in-Refused.is)) c.put_cause.ensures
+pub returns-in-Err : goal.returns-in-Err
+returns-in-Err c = puts_answer _ _ (ap term_outcome (sym c.in-Err.is)) c.put_cause.ensures
