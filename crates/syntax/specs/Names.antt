@@ -1,10 +1,9 @@
 -- Laws of naming: the flags say what the tree rules say.
-use Rattle.std.specs.Prelude.{◌≡◌, Bool, ◌&&◌, ◌||◌, List, [], ◌∷◌, ◌++◌, ℕ, ◌+◌, ◌-◌, ◌≤◌, ◌<◌, eqb, ltb, length, get_or, set, replicate, Some}
+use Rattle.std.specs.Prelude.{◌≡◌, Bool, ◌&&◌, ◌||◌, List, [], ◌∷◌, ◌++◌, ℕ, ◌+◌, ◌-◌, ◌≤◌, ◌<◌, eqb, ltb, length, get_or, set, replicate, unwrap_or, Option, None, Some}
 use Rattle.std.proofs.Math.Path.{refl, sym, ap}
 use Rattle.std.proofs.Common.{◌∙◌, add-one, arith, lt-ltb, le-ltb, ltb-true, eqb-true, length-set, get_or-set_same, get_or-set_other}
 use Rattle.std.proofs.Math.Bool.{true, false, not, cond}
 use Rattle.std.proofs.lemmas.Bool.{false≢true, eqb-false}
-use Rattle.std.proofs.Math.Option.{Option, none, some}
 use Rattle.std.proofs.Math.Decide.{dec_lt}
 use Rattle.std.proofs.lemmas.List.{get_or-replicate}
 use Rattle.syntax.specs.declared.Pattern.{Pattern}
@@ -13,8 +12,7 @@ use Rattle.syntax.specs.declared.naming.Names.{Names}
 use Rattle.syntax.specs.Table.{node_at, parts, named_below, member, rightly_named, wrongly_names, unnamed, lowest, or_else, tree_fault}
 use Rattle.syntax.specs.Bools.{and_fst}
 use Rattle.syntax.specs.Lowest.{lowest-within, lowest_same, searched_start, searched_end, searched_here, searched_on}
-use Rattle.syntax.specs.Naming.{naming, name_one, name_next, name_all, Flags, index_or, NamedSoFar, NamesWrongly, not_flagged, first_unnamed}
-use Rattle.syntax.specs.Naming.{fault_of}
+use Rattle.syntax.specs.Naming.{naming, name_one, name_next, name_all, Flags, NamedSoFar, NamesWrongly, not_flagged, first_unnamed}
 
 -- ── one part ──
 module _ (i : ℕ) (m : List Bool) (q : ℕ) where
@@ -107,7 +105,7 @@ module _ (p : Pattern) (named : List Bool) (i : ℕ) (s : NamedSoFar p named i) 
   names_end h =
       let e : i ≡ p.count = omega (arith, s.search.within) in
       record {
-        line_is = e ∙ sym (ap (index_or p.count) (searched_end (wrongly_names p) p.count i s.search h));
+        line_is = e ∙ sym (ap (λ o. unwrap_or o p.count) (searched_end (wrongly_names p) p.count i s.search h));
         flags = λ q. rw e at s.flags;
       }
 
@@ -125,7 +123,7 @@ module _ (p : Pattern) (named : List Bool) (i : ℕ) (s : NamedSoFar p named i) 
     names_wrong h =
         let w : wrongly_names p i ≡ true = not_is (wrongly_names p i) (sym verdict ∙ h) in
         record {
-          line_is = sym (ap (index_or p.count) (searched_here (wrongly_names p) p.count i s.search l w));
+          line_is = sym (ap (λ o. unwrap_or o p.count) (searched_here (wrongly_names p) p.count i s.search l w));
           flags = λ q. absurd (omega arith);
         }
       where
@@ -151,22 +149,20 @@ names_start p = record { flags = flags_start; search = searched_start (wrongly_n
 
 -- ── the tree fault ──
 module _ (p : Pattern) (r : Names) (w : NamesWrongly p r) where
-  pub fault_wrong : r.line < p.count → Some r.line ≡ fault_of (tree_fault p)
+  pub fault_wrong : r.line < p.count → Some r.line ≡ tree_fault p
   unfolding tree_fault
   fault_wrong h = go (lowest (wrongly_names p) 0 p.count) w.line_is
     where
-      go : (o : Option ℕ) → r.line ≡ index_or p.count o → Some r.line ≡ fault_of (or_else o (lowest (unnamed p) 0 (p.count - 1)))
-      go none e = absurd (omega arith)
-      go (some j) e = ap Some e
+      go : (o : Option ℕ) → r.line ≡ unwrap_or o p.count → Some r.line ≡ or_else o (lowest (unnamed p) 0 (p.count - 1))
+      go None e = absurd (omega arith)
+      go (Some j) e = ap Some e
 
-  pub fault_unnamed : p.count ≤ 64 → p.count ≤ r.line → fault_of (first_unnamed r.named p.count) ≡ fault_of (tree_fault p)
+  pub fault_unnamed : p.count ≤ 64 → p.count ≤ r.line → first_unnamed r.named p.count ≡ tree_fault p
   unfolding tree_fault unnamed
   fault_unnamed few h = go (lowest (wrongly_names p) 0 p.count) refl w.line_is
     where
       go :
-          (o : Option ℕ) → lowest (wrongly_names p) 0 p.count ≡ o → r.line ≡ index_or p.count o
-          → fault_of (first_unnamed r.named p.count) ≡ fault_of (or_else o (lowest (unnamed p) 0 (p.count - 1)))
-      go none e q =
-          ap fault_of
-          (lowest_same (not_flagged r.named) (unnamed p) (p.count - 1) 0 (λ j a b. ap not ((w.flags q).1 j (omega arith))))
-      go (some j) e q = absurd (omega (arith, lowest-within (wrongly_names p) 0 p.count j e))
+          (o : Option ℕ) → lowest (wrongly_names p) 0 p.count ≡ o → r.line ≡ unwrap_or o p.count
+          → first_unnamed r.named p.count ≡ or_else o (lowest (unnamed p) 0 (p.count - 1))
+      go None e q = lowest_same (not_flagged r.named) (unnamed p) (p.count - 1) 0 (λ j a b. ap not ((w.flags q).1 j (omega arith)))
+      go (Some j) e q = absurd (omega (arith, lowest-within (wrongly_names p) 0 p.count j e))

@@ -1,6 +1,5 @@
 -- Naming parts one by one: the computed form of the tree rules.
-use Rattle.std.specs.Prelude.{◌≡◌, Bool, true, false, ◌&&◌, not, cond, List, [], ◌∷◌, ℕ, ◌-◌, ◌<◌, ltb, length, get_or, set, None, Some}
-use Rattle.std.proofs.Math.Option.{Option, none, some}
+use Rattle.std.specs.Prelude.{◌≡◌, Bool, true, false, ◌&&◌, not, cond, List, [], ◌∷◌, ℕ, ◌-◌, ◌<◌, ltb, length, get_or, set, unwrap_or, Option}
 use Rattle.syntax.specs.declared.Pattern.{Pattern}
 use Rattle.syntax.specs.declared.naming.Naming.{Naming}
 use Rattle.syntax.specs.declared.naming.Names.{Names}
@@ -24,17 +23,13 @@ name_all i m (q ∷ qs) = name_next (λ n. name_all i n qs) (name_one i m q)
 abbrev pub Flags : List Bool → List ℕ → Type 0
 Flags m seen = (length m ≡ 64) × ((l : ℕ) → l < 64 → get_or m l false ≡ member l seen)
 
-abbrev pub index_or : (otherwise : ℕ) → Option ℕ → ℕ
-index_or d none = d
-index_or d (some i) = i
-
 -- what holds before line i is looked at
 pub record NamedSoFar (p : Pattern) (named : List Bool) (i : ℕ) : Type 0 where
   pub flags : Flags named (named_below p i)
   pub search : Searched (wrongly_names p) p.count i
 
 pub record NamesWrongly (p : Pattern) (r : Names) : Type 0 where
-  pub line_is : r.line ≡ index_or p.count (lowest (wrongly_names p) 0 p.count)
+  pub line_is : r.line ≡ unwrap_or (lowest (wrongly_names p) 0 p.count) p.count
   pub flags : r.line ≡ p.count → Flags r.named (named_below p p.count)
 
 abbrev pub not_flagged : List Bool → ℕ → Bool
@@ -42,7 +37,3 @@ not_flagged m l = not (get_or m l false)
 
 abbrev pub first_unnamed : List Bool → (count : ℕ) → Option ℕ
 first_unnamed m n = lowest (not_flagged m) 0 (n - 1)
-
-abbrev pub fault_of : Option ℕ → Option ℕ
-fault_of none = None
-fault_of (some l) = Some l

@@ -1,6 +1,6 @@
 -- Tables: the pattern rules of document 01. Definitions only.
-use Rattle.std.specs.Prelude.{Bool, true, false, ◌&&◌, ◌||◌, not, cond, List, [], ◌∷◌, ◌++◌, ℕ, zero, suc, ◌-◌, ltb, leb, eqb, length, get_or, replicate}
-use Rattle.std.proofs.Math.Option.{Option, none, some}
+use Rattle.std.specs.Prelude.{Bool, true, false, ◌&&◌, ◌||◌, not, cond, List, [], ◌∷◌, ◌++◌, ℕ, zero, suc, ◌-◌, ltb, leb, eqb, length, get_or, replicate, Option, None, Some}
+pub use Rattle.std.specs.Prelude.{is_none}
 use Rattle.syntax.specs.declared.Leaf.{Leaf}
 use Rattle.syntax.specs.declared.Leaf.TheVariants.{Nothing, Letter, Range}
 use Rattle.syntax.specs.declared.Node.{Node}
@@ -86,21 +86,17 @@ unnamed p l = not (member l (named_below p p.count))
 
 -- the lowest of the k numbers from i on of which f holds
 abbrev pub lowest : (ℕ → Bool) → (i k : ℕ) → Option ℕ
-lowest f i zero = none
-lowest f i (suc k) = cond (f i) (some i) (lowest f (suc i) k)
+lowest f i zero = None
+lowest f i (suc k) = cond (f i) (Some i) (lowest f (suc i) k)
 
 abbrev pub or_else : Option ℕ → Option ℕ → Option ℕ
-or_else none y = y
-or_else (some x) y = some x
+or_else None y = y
+or_else (Some x) y = Some x
 
 -- 01: "among tree faults, a wrongly named part comes first, by its naming line, then the lowest place that no line names";
 -- the last place need not be named
 unfoldable pub tree_fault : Pattern → Option ℕ
 tree_fault p = or_else (lowest (wrongly_names p) 0 p.count) (lowest (unnamed p) 0 (p.count - 1))
-
-abbrev pub is_none : Option ℕ → Bool
-is_none none = true
-is_none (some l) = false
 
 -- THE TEST of a table: 01, "any departure from the pattern rules, in its line count (1 to 64) or in a node below that count, is 2"
 unfoldable pub obeys : Pattern → Bool

@@ -1,36 +1,19 @@
 -- Laws of the table test and of the tree fault that it looks for: one for each way of the code.
-use Rattle.std.specs.Prelude.{◌≡◌, refl, true, false, ℕ, ◌-◌, ◌≤◌, ◌<◌, None, Some}
-use Rattle.std.proofs.Common.{sym, ◌∙◌, arith}
-use Rattle.std.proofs.Math.Option.{Option, none, some}
+use Rattle.std.specs.Prelude.{◌≡◌, refl, true, false, ℕ, ◌-◌, ◌≤◌, ◌<◌, Option, None, Some}
+use Rattle.std.proofs.Common.{arith}
 use borrow.Author.Tests.{le-leb, lt-leb}
 use Rattle.syntax.specs.declared.Pattern.{Pattern}
 use Rattle.syntax.specs.Table.{badly_formed, wrongly_names, unnamed, lowest, or_else, tree_fault, is_none, obeys}
 use Rattle.syntax.specs.Lowest.{lowest-within}
-use Rattle.syntax.specs.Naming.{fault_of}
 
 -- ── a tree fault lies below the count ──
-pub fault_within : (p : Pattern) (l : ℕ) → tree_fault p ≡ some l → l < p.count
+pub fault_within : (p : Pattern) (l : ℕ) → tree_fault p ≡ Some l → l < p.count
 unfolding tree_fault
 fault_within p l h = go (lowest (wrongly_names p) 0 p.count) refl h
   where
-    go : (o : Option ℕ) → lowest (wrongly_names p) 0 p.count ≡ o → or_else o (lowest (unnamed p) 0 (p.count - 1)) ≡ some l → l < p.count
-    go none e q = omega (arith, lowest-within (unnamed p) 0 (p.count - 1) l q)
-    go (some j) e q = let s : j ≡ l = (cc) in omega (arith, lowest-within (wrongly_names p) 0 p.count j e)
-
--- what the answer of the program says of the fault
-pub fault_found : (p : Pattern) (r : Option ℕ) (l : ℕ) → r ≡ fault_of (tree_fault p) → r ≡ Some l → tree_fault p ≡ some l
-fault_found p r l e h = go (tree_fault p) (sym e ∙ h)
-  where
-    go : (o : Option ℕ) → fault_of o ≡ Some l → o ≡ some l
-    go none q = absurd (let z : ◌≡◌ {A = ℕ} 0 1 = (cc) in omega arith)
-    go (some j) q = (cc)
-
-pub fault_none : (p : Pattern) (r : Option ℕ) → r ≡ fault_of (tree_fault p) → r ≡ None → tree_fault p ≡ none
-fault_none p r e h = go (tree_fault p) (sym e ∙ h)
-  where
-    go : (o : Option ℕ) → fault_of o ≡ None → o ≡ none
-    go none q = refl
-    go (some j) q = absurd (let z : ◌≡◌ {A = ℕ} 0 1 = (cc) in omega arith)
+    go : (o : Option ℕ) → lowest (wrongly_names p) 0 p.count ≡ o → or_else o (lowest (unnamed p) 0 (p.count - 1)) ≡ Some l → l < p.count
+    go None e q = omega (arith, lowest-within (unnamed p) 0 (p.count - 1) l q)
+    go (Some j) e q = let s : j ≡ l = (cc) in omega (arith, lowest-within (wrongly_names p) 0 p.count j e)
 
 -- ── the ways of the table test ──
 module _ (p : Pattern) where
@@ -49,10 +32,10 @@ module _ (p : Pattern) where
       bad-lines h = rw (le-leb 1 p.count one, le-leb p.count 64 few, h)
 
       module _ (h : is_none (lowest (badly_formed p) 0 p.count) ≡ true) where
-        pub bad-tree : (l : ℕ) → tree_fault p ≡ some l → false ≡ obeys p
+        pub bad-tree : (l : ℕ) → tree_fault p ≡ Some l → false ≡ obeys p
         unfolding obeys
         bad-tree l e = rw (le-leb 1 p.count one, le-leb p.count 64 few, h, e)
 
-        pub good-table : tree_fault p ≡ none → true ≡ obeys p
+        pub good-table : tree_fault p ≡ None → true ≡ obeys p
         unfolding obeys
         good-table e = rw (le-leb 1 p.count one, le-leb p.count 64 few, h, e)

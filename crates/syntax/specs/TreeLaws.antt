@@ -1,11 +1,11 @@
 -- Laws of tables: the table test is the pattern rules, and the tree of a table that obeys them holds every place exactly once.
-use Rattle.std.specs.Prelude.{◌≡◌, Bool, ◌&&◌, ◌||◌, ◌↔◌, eqb, ltb, length}
+use Rattle.std.specs.Prelude.{◌≡◌, Bool, ◌&&◌, ◌||◌, ◌↔◌, eqb, ltb, length, Option, None, Some}
 use Rattle.std.proofs.Math.Path.{refl, ap, ap₂}
 use Rattle.std.proofs.Common.{sym, ◌∙◌, true≢false, zero-add, add-mul, mul-one, length-append}
 use Rattle.std.proofs.Math.Bool.{true, false, not}
 use Rattle.std.proofs.lemmas.Bool.{false≢true}
 use mathlib.Core.List.{List, [], ◌∷◌, ◌++◌}
-use Rattle.std.proofs.Math.Option.{Option, none, some, some-ne-none}
+use Rattle.std.proofs.lemmas.Option.{none-some}
 use Prim.Native.Nat.{ℕ, zero, suc, ◌+◌, ◌*◌, ◌-◌, ◌≤◌, ◌<◌}
 use Rattle.std.proofs.Math.Nat.{one-mul}
 use native.Mathlib.Omega.{arith}
@@ -159,15 +159,15 @@ module _ (p : Pattern) where
     pub lower : (i : ℕ) → i < p.count → Below i (node_at p i)
     pub once : (l : ℕ) → suc l < p.count → times l (named_below p p.count) ≡ 1
 
-  faultless : tree_fault p ≡ none → TreeRules
+  faultless : tree_fault p ≡ None → TreeRules
   unfolding tree_fault unnamed
   faultless h = go (lowest (wrongly_names p) 0 p.count) refl (lowest (unnamed p) 0 (p.count - 1)) refl h
     where
-      go : (x : Option ℕ) → lowest (wrongly_names p) 0 p.count ≡ x → (y : Option ℕ) → lowest (unnamed p) 0 (p.count - 1) ≡ y → or_else x y ≡ none
+      go : (x : Option ℕ) → lowest (wrongly_names p) 0 p.count ≡ x → (y : Option ℕ) → lowest (unnamed p) 0 (p.count - 1) ≡ y → or_else x y ≡ None
           → TreeRules
-      go (some x) ex y ey h = absurd (some-ne-none x h)
-      go none ex (some y) ey h = absurd (some-ne-none y h)
-      go none ex none ey h =
+      go (Some x) ex y ey h = absurd (none-some x (sym h))
+      go None ex (Some y) ey h = absurd (none-some y (sym h))
+      go None ex None ey h =
           let w : (i : ℕ) → i < p.count → wrongly_names p i ≡ false = λ i l. lowest_none (wrongly_names p) p.count 0 ex i (omega arith) (omega arith) in
           record {
             lower = λ i l. below_parts i (node_at p i)
@@ -183,7 +183,7 @@ module _ (p : Pattern) where
           exactly l zero e m k = absurd (true≢false (sym m ∙ times-member l (named_below p p.count) e))
           exactly l (suc n) e m k = omega arith
 
-  fault_free : 1 ≤ p.count → TreeRules → tree_fault p ≡ none
+  fault_free : 1 ≤ p.count → TreeRules → tree_fault p ≡ None
   unfolding tree_fault unnamed
   fault_free one r =
       ap₂ or_else
@@ -210,9 +210,9 @@ module _ (p : Pattern) where
           go false q = absurd (omega (arith, member-times l (named_below p p.count) q))
 
   -- ── the table test is the pattern rules ──
-  is_none_none : (o : Option ℕ) → is_none o ≡ true → o ≡ none
-  is_none_none none h = refl
-  is_none_none (some x) h = absurd (false≢true h)
+  is_none_none : (o : Option ℕ) → is_none o ≡ true → o ≡ None
+  is_none_none None h = refl
+  is_none_none (Some x) h = absurd (false≢true h)
 
   pub obeys_iff : (obeys p ≡ true) ↔ Rules p
   unfolding obeys

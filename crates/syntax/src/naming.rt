@@ -1,7 +1,7 @@
 // Which nodes are named as parts, and the first tree fault of a table.
 ghost use Rattle.std.specs.Prelude.{◌≡◌, [], ◌∷◌, ◌≤◌};
 ghost use Rattle.syntax.specs.Table.{parts, tree_fault};
-ghost use Rattle.syntax.specs.Naming.{name_one, name_all, NamesWrongly, first_unnamed, fault_of};
+ghost use Rattle.syntax.specs.Naming.{name_one, name_all, NamesWrongly, first_unnamed};
 
 use super::{Node, Pattern};
 
@@ -88,7 +88,7 @@ fn names_of(p: Pattern) -> Names
 // The lowest node but the last that is not named.
 fn unnamed_of(named: [bool; 64], count: usize) -> Option<usize>
     requires { count ≤ 64 }
-    ensures { result ≡ fault_of (first_unnamed named count) }
+    ensures { result ≡ first_unnamed named count }
 {
     let mut l = 0;
     loop {
@@ -104,7 +104,7 @@ fn unnamed_of(named: [bool; 64], count: usize) -> Option<usize>
 
 pub fn tree_fault_of(p: Pattern) -> Option<usize>
     requires { p.count ≤ 64 }
-    ensures { result ≡ fault_of (tree_fault p) }
+    ensures { result ≡ tree_fault p }
 {
     let names = names_of(p);
     let line = names.line;

@@ -1,5 +1,5 @@
 -- `syntax::obeys_rules` meets its contract.
-use Rattle.syntax.specs.TableTest.{no_count, bad-lines, bad-tree, good-table, fault_found, fault_none}
+use Rattle.syntax.specs.TableTest.{no_count, bad-lines, bad-tree, good-table}
 use borrow.Author.Tests.{not-true, not-false}
 use native.Mathlib.Omega.{arith}
 use mathlib.Core.Path.{sym, ◌∙◌}
@@ -12,12 +12,12 @@ pub returns-then-not-good_lines : goal.returns-then-not-good_lines
 returns-then-not-good_lines c = bad-lines _ c.if-count-lt1.false (omega arith)
     (sym c.good_lines.ensures ∙ not-true _ c.if-not-good_lines.true-raw)
 
-pub returns-in-Line : goal.returns-in-Line
-returns-in-Line c = bad-tree _ c.if-count-lt1.false (omega arith)
+pub returns-in-Some : goal.returns-in-Some
+returns-in-Some c = bad-tree _ c.if-count-lt1.false (omega arith)
     (sym c.good_lines.ensures ∙ not-false _ c.if-not-good_lines.false-raw) _
-    (fault_found _ _ _ c.tree_fault_of.ensures c.in-Line.is)
+    (sym c.tree_fault_of.ensures ∙ c.in-Some.is)
 
-pub returns-in-Nothing : goal.returns-in-Nothing
-returns-in-Nothing c = good-table _ c.if-count-lt1.false (omega arith)
+pub returns-in-None : goal.returns-in-None
+returns-in-None c = good-table _ c.if-count-lt1.false (omega arith)
     (sym c.good_lines.ensures ∙ not-false _ c.if-not-good_lines.false-raw)
-    (fault_none _ _ c.tree_fault_of.ensures c.in-Nothing.is)
+    (sym c.tree_fault_of.ensures ∙ c.in-None.is)
