@@ -2,7 +2,7 @@
 ghost use Rattle.std.specs.Prelude.{◌≡◌, ◌<◌};
 ghost use Rattle.text.specs.Text.{Puts, decimal, hex_digit, hex_byte, hex};
 
-use crate::put::{least, put_byte};
+use crate::put::put_byte;
 
 // The digits of the number's tenth, then its last digit. Calls go twenty deep for the greatest number.
 pub fn put_decimal(out: &mut [u8], at: usize, n: u64) -> usize
@@ -20,7 +20,10 @@ fn hex_digit(d: u8) -> u8
     requires { d < 16 }
     ensures { result ≡ hex_digit d }
 {
-    if d < 10 { b'0' + d } else { b'a' - 10 + d }
+    match d {
+        0..=9 => b'0' + d,
+        _ => b'a' - 10 + d,
+    }
 }
 
 fn put_hex_byte(out: &mut [u8], at: usize, byte: u8) -> usize
@@ -33,11 +36,9 @@ fn put_hex_byte(out: &mut [u8], at: usize, byte: u8) -> usize
 pub fn put_hex(out: &mut [u8], at: usize, bytes: &[u8]) -> usize
     ensures { Puts out.old at (hex bytes.now) out.new result }
 {
-    let mut end = least(at, out.len());
-    let mut i = 0;
-    while i < bytes.len() {
-        end = put_hex_byte(out, end, bytes[i]);
-        i += 1;
+    let mut end = at.min(out.len());
+    for &byte in bytes {
+        end = put_hex_byte(out, end, byte);
     }
     end
 }

@@ -15,17 +15,15 @@ pub fn put_byte(out: &mut [u8], at: usize, byte: u8) -> usize
 pub fn least(a: usize, b: usize) -> usize
     ensures { result ≡ min a b }
 {
-    if a < b { a } else { b }
+    a.min(b)
 }
 
 pub fn put_bytes(out: &mut [u8], at: usize, bytes: &[u8]) -> usize
     ensures { Puts out.old at bytes.now out.new result }
 {
-    let mut end = least(at, out.len());
-    let mut i = 0;
-    while i < bytes.len() {
-        end = put_byte(out, end, bytes[i]);
-        i += 1;
+    let mut end = at.min(out.len());
+    for &byte in bytes {
+        end = put_byte(out, end, byte);
     }
     end
 }

@@ -1,9 +1,10 @@
 -- `text::digits::hex_digit` meets its contract: a digit below 10 and one from 10 on.
+use Rattle.std.proofs.Common.{arith}
 use Rattle.text.specs.Digits.{hex_low, hex_high}
 use Rattle.text.proofs.digits.hex_digit.Goals as goal
 
-pub returns-then-d-lt10 : goal.returns-then-d-lt10
-returns-then-d-lt10 c = hex_low c.args.d c.if-d-lt10.true
+pub returns-in-0-to-9 : goal.returns-in-0-to-9
+returns-in-0-to-9 c = hex_low c.args.d (omega arith)
 
-pub returns-else-d-lt10 : goal.returns-else-d-lt10
-returns-else-d-lt10 c = hex_high c.args.d c.if-d-lt10.false
+pub returns-in_default : goal.returns-in_default
+returns-in_default c = hex_high c.args.d (omega arith)
