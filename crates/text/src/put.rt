@@ -7,9 +7,10 @@ pub fn put_byte(out: &mut [u8], at: usize, byte: u8) -> usize
 {
     if at < out.len() {
         out[at] = byte;
-        return at + 1;
+        at + 1
+    } else {
+        out.len()
     }
-    out.len()
 }
 
 pub fn least(a: usize, b: usize) -> usize
