@@ -1,6 +1,5 @@
 -- Pattern texts: lines, fields and what a line says. Definitions only.
-use Rattle.std.specs.Prelude.{Bool, true, false, ◌&&◌, cond, List, [], ◌∷◌, ℕ, suc, ◌+◌, ◌*◌, ◌-◌, ltb, leb, eqb}
-use Rattle.std.proofs.Math.Option.{Option, none, some}
+use Rattle.std.specs.Prelude.{Bool, true, false, ◌&&◌, cond, List, [], ◌∷◌, ℕ, suc, ◌+◌, ◌*◌, ◌-◌, ltb, leb, eqb, Option, None, Some}
 use Rattle.syntax.specs.declared.Leaf.TheVariants.{Nothing, Letter, Range}
 use Rattle.syntax.specs.declared.Node.{Node}
 use Rattle.syntax.specs.declared.Node.TheVariants.{Leaf as LeafNode, Sequence, Alternative, Star}
@@ -80,8 +79,8 @@ account (a ∷ []) = cond (eqb a 45) 0 (account_number a [])
 account (a ∷ b ∷ more) = account_number a (b ∷ more)
 
 abbrev pub when : {A : Type 0} → Bool → A → Option A
-when true x = some x
-when false x = none
+when true x = Some x
+when false x = None
 
 -- "Fields: place, kind, account, then what the kind needs." Kinds that need nothing more: `E`.
 unfoldable pub node_of_none : (kind : ℕ) → Option Node
@@ -95,7 +94,7 @@ star_of again p = when (ltb p 64) (Star again p)
 unfoldable pub node_of_one : (kind : ℕ) → (x : List ℕ) → Option Node
 node_of_one k x =
     cond (eqb k 76) (when (is_letter (single x)) (LeafNode (Letter (single x))))
-    (cond (eqb k 75) (star_of false (place x)) (cond (eqb k 90) (star_of true (place x)) none))
+    (cond (eqb k 75) (star_of false (place x)) (cond (eqb k 90) (star_of true (place x)) None))
 
 -- "`R` two letters, the first not above the second"
 unfoldable pub range_of : (low high : ℕ) → Option Node
@@ -108,28 +107,28 @@ parts_of make p q = when (ltb p 64 && ltb q 64) (make p q)
 unfoldable pub node_of_two : (kind : ℕ) → (x y : List ℕ) → Option Node
 node_of_two k x y =
     cond (eqb k 82) (range_of (single x) (single y))
-    (cond (eqb k 83) (parts_of Sequence (place x) (place y)) (cond (eqb k 65) (parts_of Alternative (place x) (place y)) none))
+    (cond (eqb k 83) (parts_of Sequence (place x) (place y)) (cond (eqb k 65) (parts_of Alternative (place x) (place y)) None))
 
 unfoldable pub node_of : (kind : ℕ) → (more : List (List ℕ)) → Option Node
 node_of k [] = node_of_none k
 node_of k (x ∷ []) = node_of_one k x
 node_of k (x ∷ y ∷ []) = node_of_two k x y
-node_of k (x ∷ y ∷ z ∷ more) = none
+node_of k (x ∷ y ∷ z ∷ more) = None
 
 abbrev pub with_account : ℕ → Option Node → Option Line
-with_account a none = none
-with_account a (some n) = when (leb a account_limit) (record { account = a; node = n })
+with_account a None = None
+with_account a (Some n) = when (leb a account_limit) (record { account = a; node = n })
 
 -- what the fields of line i say: "the first field is the line's own [place], counted from 0"
 unfoldable pub line_of : (i : ℕ) → (fields : List (List ℕ)) → Option Line
-line_of i [] = none
-line_of i (p ∷ []) = none
-line_of i (p ∷ k ∷ []) = none
-line_of i (p ∷ k ∷ a ∷ more) = cond (eqb (place p) i) (with_account (account a) (node_of (single k) more)) none
+line_of i [] = None
+line_of i (p ∷ []) = None
+line_of i (p ∷ k ∷ []) = None
+line_of i (p ∷ k ∷ a ∷ more) = cond (eqb (place p) i) (with_account (account a) (node_of (single k) more)) None
 
 -- the line of the table that row i writes, none where its form is at fault
 unfoldable pub row_line : (i : ℕ) → Row → Option Line
-row_line i r = cond r.closed (line_of i r.fields) none
+row_line i r = cond r.closed (line_of i r.fields) None
 
 -- a text's lines, or the first line at fault
 pub data Forms : Type 0 where
@@ -137,9 +136,9 @@ pub data Forms : Type 0 where
   fault : (line : ℕ) → Forms
 
 abbrev pub line_front : (i : ℕ) → Option Line → Forms → Forms
-line_front i none rest = fault i
-line_front i (some x) (good xs) = good (x ∷ xs)
-line_front i (some x) (fault j) = fault j
+line_front i None rest = fault i
+line_front i (Some x) (good xs) = good (x ∷ xs)
+line_front i (Some x) (fault j) = fault j
 
 -- 01: "The line reported is the first line at fault"; "a 65th line 1 with line 64"
 unfoldable pub forms : (i : ℕ) → List Row → Forms

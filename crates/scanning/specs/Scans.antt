@@ -1,10 +1,7 @@
 -- The first line of a text, read field by field: what each scanning function answers.
-use Rattle.std.specs.Prelude.{Bool, true, false, cond, List, [], ◌∷◌, ℕ, suc, ◌+◌, eqb, None, Some}
-use Rattle.std.proofs.Math.Option.{Option, none, some}
+use Rattle.std.specs.Prelude.{Bool, true, false, cond, List, [], ◌∷◌, ℕ, suc, ◌+◌, eqb, None, Some, Option}
 use Rattle.syntax.specs.declared.Node.{Node}
 use Rattle.syntax.specs.declared.Line.{Line}
-use Rattle.scanning.specs.declared.Scanned.{Scanned}
-use Rattle.scanning.specs.declared.Scanned.TheVariants.{Line as ScanLine, Fault as NoLine}
 use Rattle.fields.specs.Text.{byte_front, account, node_of, with_account, line_of}
 
 -- the first line of a text: its fields, whether byte 10 ends it, and its size
@@ -20,34 +17,31 @@ unfoldable pub first_size : List ℕ → ℕ
 first_size [] = 0
 first_size (b ∷ bs) = cond (eqb b 10) 0 (suc (first_size bs))
 
-abbrev pub scanned_node : Option Node → Option Node
-scanned_node none = None
-scanned_node (some n) = Some n
+abbrev pub finished : ℕ → Option Node → ℕ → Option (Line × ℕ)
+finished a None next = None
+finished a (Some n) next = Some (record { account = a; node = n }, next)
 
-abbrev pub finished : ℕ → Option Node → ℕ → Scanned
-finished a None next = NoLine
-finished a (Some n) next = ScanLine (record { account = a; node = n }) next
-
-abbrev pub scan_of : Option Line → ℕ → Scanned
-scan_of none next = NoLine
-scan_of (some x) next = ScanLine x next
+-- the line with the position behind it
+abbrev pub scan_of : Option Line → ℕ → Option (Line × ℕ)
+scan_of None next = None
+scan_of (Some x) next = Some (x, next)
 
 -- the scan of a line that begins at `at`, w being the text from there on, by what its fields say
-unfoldable pub scan_by : (List (List ℕ) → Option Line) → (at : ℕ) → List ℕ → Scanned
-scan_by says at w = cond (first_closed w) (scan_of (says (first_fields w)) (at + suc (first_size w))) NoLine
+unfoldable pub scan_by : (List (List ℕ) → Option Line) → (at : ℕ) → List ℕ → Option (Line × ℕ)
+scan_by says at w = cond (first_closed w) (scan_of (says (first_fields w)) (at + suc (first_size w))) None
 
 unfoldable pub parts_say : (account kind : ℕ) → List (List ℕ) → Option Line
 parts_say a k fs = with_account a (node_of k fs)
 
 unfoldable pub account_says : (kind : ℕ) → List (List ℕ) → Option Line
-account_says k [] = none
+account_says k [] = None
 account_says k (a ∷ more) = parts_say (account a) k more
 
-abbrev pub parts_scanned : (account kind at : ℕ) → List ℕ → Scanned
+abbrev pub parts_scanned : (account kind at : ℕ) → List ℕ → Option (Line × ℕ)
 parts_scanned a k at w = scan_by (parts_say a k) at w
 
-abbrev pub account_scanned : (kind at : ℕ) → List ℕ → Scanned
+abbrev pub account_scanned : (kind at : ℕ) → List ℕ → Option (Line × ℕ)
 account_scanned k at w = scan_by (account_says k) at w
 
-abbrev pub scanned : (i at : ℕ) → List ℕ → Scanned
+abbrev pub scanned : (i at : ℕ) → List ℕ → Option (Line × ℕ)
 scanned i at w = scan_by (line_of i) at w

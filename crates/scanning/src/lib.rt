@@ -6,7 +6,7 @@ ghost use Rattle.syntax.specs.Letter.{is_letter};
 ghost use Rattle.syntax.specs.Table.{account_limit};
 ghost use Rattle.fields.specs.Text.{place, node_of_none, star_of, node_of_one, range_of, node_of_two};
 ghost use Rattle.fields.specs.Fields.{word};
-ghost use Rattle.scanning.specs.Scans.{scanned_node, finished, parts_scanned, account_scanned, scanned};
+ghost use Rattle.scanning.specs.Scans.{finished, parts_scanned, account_scanned, scanned};
 
 use fields::{Field, NEWLINE, NO_PLACE, TAB, account_from, field_from, place_of, single_of};
 use syntax::{Leaf, Line, Node, Pattern, is_letter};
@@ -26,13 +26,6 @@ const STAR: u16 = b'K' as u16;
 
 const LAZY_STAR: u16 = b'Z' as u16;
 
-// A line of the table with the position behind it, or a fault of the line's form.
-#[derive(Clone, Copy)]
-pub enum Scanned {
-    Line(Line, usize),
-    Fault,
-}
-
 // Whether what a field holds is a letter.
 fn is_field_letter(b: u16) -> bool
     ensures { result ≡ is_letter b }
@@ -44,7 +37,7 @@ fn is_field_letter(b: u16) -> bool
 }
 
 fn parse_none(kind: u16) -> Option<Node>
-    ensures { result ≡ scanned_node (node_of_none kind) }
+    ensures { result ≡ node_of_none kind }
 {
     if kind == NOTHING {
         return Some(Node::Leaf(Leaf::Nothing));
@@ -54,7 +47,7 @@ fn parse_none(kind: u16) -> Option<Node>
 
 // A star that takes another round for the bit `again`, and its part.
 fn parse_star(again: bool, x: Field) -> Option<Node>
-    ensures { result ≡ scanned_node (star_of again (place (word x))) }
+    ensures { result ≡ star_of again (place (word x)) }
 {
     let p = place_of(x);
     if p < NO_PLACE {
@@ -64,7 +57,7 @@ fn parse_star(again: bool, x: Field) -> Option<Node>
 }
 
 fn parse_one(kind: u16, x: Field) -> Option<Node>
-    ensures { result ≡ scanned_node (node_of_one kind (word x)) }
+    ensures { result ≡ node_of_one kind (word x) }
 {
     if kind == LETTER {
         let c = single_of(x);
@@ -83,7 +76,7 @@ fn parse_one(kind: u16, x: Field) -> Option<Node>
 }
 
 fn parse_range(a: u16, b: u16) -> Option<Node>
-    ensures { result ≡ scanned_node (range_of a b) }
+    ensures { result ≡ range_of a b }
 {
     if !is_field_letter(a) {
         return None;
@@ -98,7 +91,7 @@ fn parse_range(a: u16, b: u16) -> Option<Node>
 }
 
 fn parse_two(kind: u16, x: Field, y: Field) -> Option<Node>
-    ensures { result ≡ scanned_node (node_of_two kind (word x) (word y)) }
+    ensures { result ≡ node_of_two kind (word x) (word y) }
 {
     if kind == RANGE {
         return parse_range(single_of(x), single_of(y));
@@ -120,17 +113,17 @@ fn parse_two(kind: u16, x: Field, y: Field) -> Option<Node>
     None
 }
 
-fn finish(account: u8, what: Option<Node>, next: usize) -> Scanned
+fn finish(account: u8, what: Option<Node>, next: usize) -> Option<(Line, usize)>
     ensures { result ≡ finished account what next }
 {
     match what {
-        Some(node) => Scanned::Line(Line { account, node }, next),
-        None => Scanned::Fault,
+        Some(node) => Some((Line { account, node }, next)),
+        None => None,
     }
 }
 
 // The fields from position `at` on are those that the kind needs.
-fn scan_parts(text: &[u8], at: usize, kind: u16, account: u8) -> Scanned
+fn scan_parts(text: &[u8], at: usize, kind: u16, account: u8) -> Option<(Line, usize)>
     requires { (at ≤ length text.now) × (account ≤ account_limit) }
     ensures { result ≡ parts_scanned account kind at (drop at text.now) }
 {
@@ -140,51 +133,51 @@ fn scan_parts(text: &[u8], at: usize, kind: u16, account: u8) -> Scanned
         return finish(account, parse_one(kind, x), end + 1);
     }
     if x.stop != TAB {
-        return Scanned::Fault;
+        return None;
     }
     let y = field_from(text, end + 1);
     if y.stop != NEWLINE {
-        return Scanned::Fault;
+        return None;
     }
     finish(account, parse_two(kind, x, y), end + 1 + y.size + 1)
 }
 
 // The field at position `at` is the account's.
-fn scan_account(text: &[u8], at: usize, kind: u16) -> Scanned
+fn scan_account(text: &[u8], at: usize, kind: u16) -> Option<(Line, usize)>
     requires { at ≤ length text.now }
     ensures { result ≡ account_scanned kind at (drop at text.now) }
 {
     let a = account_from(text, at);
     let account = a.account;
     if Pattern::MAX_ACCOUNT < account {
-        return Scanned::Fault;
+        return None;
     }
     let end = at + a.size;
     if a.stop == NEWLINE {
         return finish(account, parse_none(kind), end + 1);
     }
     if a.stop != TAB {
-        return Scanned::Fault;
+        return None;
     }
     scan_parts(text, end + 1, kind, account)
 }
 
-// Line i of the text, which begins at position `at`.
-pub fn scan_line(text: &[u8], at: usize, i: usize) -> Scanned
+// Line i of the text, which begins at position `at`, with the position behind it, none where the line's form is at fault.
+pub fn scan_line(text: &[u8], at: usize, i: usize) -> Option<(Line, usize)>
     requires { (at ≤ length text.now) × (i < 64) }
     ensures { result ≡ scanned i at (drop at text.now) }
 {
     let p = field_from(text, at);
     if p.stop != TAB {
-        return Scanned::Fault;
+        return None;
     }
     if place_of(p) as usize != i {
-        return Scanned::Fault;
+        return None;
     }
     let end = at + p.size;
     let k = field_from(text, end + 1);
     if k.stop != TAB {
-        return Scanned::Fault;
+        return None;
     }
     scan_account(text, end + 1 + k.size + 1, single_of(k))
 }

@@ -1,13 +1,12 @@
 -- `scanning::parse_two` meets its contract.
 use Rattle.fields.specs.Text.{range_of}
-use Rattle.scanning.specs.Scans.{scanned_node}
 use mathlib.Core.Path.{ap₂, ◌∙◌}
 use Rattle.scanning.specs.Parsing.{two_range, two_no_first, two_no_second, two_sequence, two_alternative, two_other}
 use Rattle.scanning.proofs.parse_two.Goals as goal
 
 pub returns-then-kind-eq-RANGE : goal.returns-then-kind-eq-RANGE
 returns-then-kind-eq-RANGE c = c.parse_range.ensures
-    ∙ ap₂ (λ x y. scanned_node (range_of x y)) c.single_of.ensures c.single_of-then-kind-eq-RANGE.ensures
+    ∙ ap₂ range_of c.single_of.ensures c.single_of-then-kind-eq-RANGE.ensures
     ∙ two_range _ _ _ c.if-kind-eq-RANGE.true
 
 pub returns-then-p-ge-NO_PLACE : goal.returns-then-p-ge-NO_PLACE
