@@ -6,6 +6,7 @@ ghost use Rattle.checks.specs.TapeOrder.{ChecksTape};
 use refusals::Refusal;
 use syntax::{Pattern, first_bad, obeys_rules};
 
+// Whether a service may read the tape: the first of these causes that holds, if one does.
 #[tactic(auto, using(crate::specs::TapeLaws::check_3))]
 pub fn check_tape(p: Pattern, tape: &[u8]) -> Result<(), Refusal>
     ensures { ChecksTape p tape.now result }

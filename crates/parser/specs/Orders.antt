@@ -22,7 +22,7 @@ use Rattle.semantics.specs.Sweeps.{readable, greedy}
 use Rattle.semantics.proofs.GreedyLaws.{greedy_canonical, readable_iff}
 use Rattle.steps.specs.StateSets.{words as state_sets}
 use Rattle.parser.specs.Parse.{parsed_answer, early_order, early, ReadsGreedily, Parses}
-use Rattle.parser.specs.ParseLaws.{parse_refused, Tested, tested_zero}
+use Rattle.parser.specs.ParseLaws.{parse_refused, tested, tested_zero}
 use Rattle.parser.specs.Unique.{parsed_same, parses_one}
 
 -- 01: "Reading a tape: 2, 3, 4, 6, 5, 7."
@@ -92,19 +92,16 @@ module _ (p : Pattern) (tape words words_now code code_now : List ℕ) (r : Resu
       abbrev Filled : Refusal → Type 0
       Filled why = (r ≡ Err why) × (words_now ≡ in_front (state_sets p tape) words) × (code_now ≡ code)
 
-      tested : Tested p tape words
-      tested = record { good = t.good; few = t.few; letters = t.letters; room = w }
-
       -- however short the code buffer is: 5 before 7
       pub only_5 : ((v : Value (root p)) → flat (root p) v ≡ tape → ⊥) → Filled Unreadable
       only_5 unspelled =
-          let z = tested_zero tested in
+          let z = tested_zero (tested t w) in
           let e = (h.reads z).0.unreadable unspelled in
           (parsed_same r (Err Unreadable) e.0, h.fills z, e.1)
 
       pub only_7 : (bits : List Bool) → Canonical (root p) tape bits → length code < cell_count 8 (length bits)
           → Filled (CodeTooShort (cell_count 8 (length bits)))
       only_7 bits k l =
-          let z = tested_zero tested in
+          let z = tested_zero (tested t w) in
           let e = (h.reads z).1.short bits k l in
           (parsed_same r (Err (CodeTooShort (cell_count 8 (length bits)))) e.0, h.fills z, e.1)

@@ -1,5 +1,5 @@
 -- Laws of reading a tape: one for each way of the code.
-use Rattle.std.specs.Prelude.{◌≡◌, Bool, false, ◌&&◌, ◌||◌, ◌↔◌, ℕ, zero, suc, ◌+◌, ◌*◌, ◌-◌, ◌/◌, ◌≤◌, ◌<◌, eqb, ltb, length, drop, Err, Ok, Result}
+use Rattle.std.specs.Prelude.{◌≡◌, Bool, false, ◌&&◌, ◌||◌, ◌↔◌, ℕ, zero, suc, ◌+◌, ◌*◌, ◌-◌, ◌/◌, ◌≤◌, ◌<◌, eqb, ltb, length, drop, Err, Ok, Result, Option, Some, None}
 use Rattle.std.proofs.Math.Path.{refl, sym, ap, ap₂}
 use Rattle.std.proofs.Common.{subst, ◌∙◌, true≢false, length-append, length-drop}
 use Rattle.std.proofs.Math.Bool.{true, not, cond}
@@ -9,6 +9,8 @@ use native.Mathlib.Omega.{arith}
 use Rattle.std.proofs.Math.Decide.{dec_le, dec_lt}
 use borrow.Author.Tests.{lt-ltb, le-ltb, eq-eqb, ne_eqb}
 use Rattle.std.proofs.Math.ListN.{get_or, get_or-append}
+use Rattle.std.specs.Bool.{then_some}
+use Rattle.std.proofs.lemmas.Option.{none-some}
 use Rattle.syntax.specs.declared.Pattern.{Pattern}
 use Rattle.refusals.specs.declared.Refusal.{Refusal}
 use Rattle.refusals.specs.declared.Refusal.TheVariants.{Unreadable, WordsTooShort, CodeTooShort}
@@ -108,52 +110,43 @@ module _ {table words tape : List ℕ} {l : ℕ} (s : Writable table words tape 
   abbrev pub needed_bits : ℕ
   needed_bits = length s.ready.it.bits
 
-  pub missing_none : 17 * length tape + 8 ≤ size → 0 ≡ missing needed_bits size
-  unfolding missing
-  missing_none h = let b = s.bound in rw (le-ltb size (cell_count 8 needed_bits) (omega arith))
+  pub missing_none : 17 * length tape + 8 ≤ size → None ≡ missing needed_bits size
+  missing_none h = let b = s.bound in rw (le-ltb size (cell_count 8 needed_bits) (omega arith)) refl
 
-  pub missing-some : (at : ℕ) → at ≡ 0 + needed_bits → (m : ℕ) → m ≡ cell_count 8 at → size < m → m ≡ missing needed_bits size
-  unfolding missing
-  missing-some at e m f h =
-      let q : at ≡ needed_bits = omega arith in
-      f ∙ rw q (rw (lt-ltb size (cell_count 8 needed_bits) (omega arith)))
+  pub missing_counted : (at : ℕ) → at ≡ 0 + needed_bits → (m : ℕ) → m ≡ cell_count 8 at → (r : Option ℕ) → r ≡ then_some (ltb size m) m
+      → r ≡ missing needed_bits size
+  missing_counted at e m f r g = let q : at ≡ needed_bits = omega arith in g ∙ ap (λ n. then_some (ltb size n) n) (f ∙ ap (cell_count 8) q)
 
-  pub missing_enough : (at : ℕ) → at ≡ 0 + needed_bits → (m : ℕ) → m ≡ cell_count 8 at → m ≤ size → 0 ≡ missing needed_bits size
-  unfolding missing
-  missing_enough at e m f h = rw (le-ltb size (cell_count 8 needed_bits) (omega arith))
-
-missing_is : (k size m : ℕ) → m ≡ missing k size → 0 < m → (size < cell_count 8 k) × (m ≡ cell_count 8 k)
-unfolding missing
-missing_is k size m e h = go (dec_lt size (cell_count 8 k))
+-- a number is given exactly where it is more than the other
+given : (a c m : ℕ) → Some m ≡ then_some (ltb a c) c → (a < c) × (m ≡ c)
+given a c m e = go (dec_lt a c)
   where
-    go : Dec (size < cell_count 8 k) → (size < cell_count 8 k) × (m ≡ cell_count 8 k)
-    go (yes l) = (l, rw (lt-ltb size (cell_count 8 k) l) at e)
-    go (no l) = absurd (let q : m ≡ 0 = rw (le-ltb size (cell_count 8 k) (omega arith)) at e in omega arith)
+    go : Dec (a < c) → (a < c) × (m ≡ c)
+    go (yes l) = let q : Some m ≡ Some c = rw (lt-ltb a c l) at e in (l, cc)
+    go (no l) = let q : Some m ≡ None = rw (le-ltb a c (omega arith)) at e in absurd (none-some m (sym q))
 
-missing-not : (k size m : ℕ) → m ≡ missing k size → m ≤ 0 → cell_count 8 k ≤ size
-unfolding missing
-missing-not k size m e h = go (dec_lt size (cell_count 8 k))
+given_none : (a c : ℕ) → None ≡ then_some (ltb a c) c → c ≤ a
+given_none a c e = go (dec_lt a c)
   where
-    go : Dec (size < cell_count 8 k) → cell_count 8 k ≤ size
-    go (yes l) = absurd (let q : m ≡ cell_count 8 k = rw (lt-ltb size (cell_count 8 k) l) at e in omega arith)
+    go : Dec (a < c) → c ≤ a
+    go (yes l) = let q : None ≡ Some c = rw (lt-ltb a c l) at e in absurd (none-some c q)
     go (no l) = omega arith
 
 -- ── the ways of writing ──
-module _ {table words tape : List ℕ} {l : ℕ} (s : Writable table words tape l) (xs : List ℕ)
-    {needed : ℕ} (e : needed ≡ missing (length s.ready.it.bits) (length xs)) where
-  pub needed_small : 0 < needed → needed ≤ byte_limit
-  needed_small h = omega (arith, (missing_is (length s.ready.it.bits) (length xs) needed e h).1, s.ready.it.few)
+module _ {table words tape : List ℕ} {l : ℕ} (s : Writable table words tape l) (xs : List ℕ) where
+  pub write_short : {needed : ℕ} → Some needed ≡ missing (length s.ready.it.bits) (length xs)
+      → Writes s.ready.it.bits xs xs (Err (CodeTooShort needed)) × (needed ≤ byte_limit)
+  write_short e =
+      let q = given (length xs) (cell_count 8 (length s.ready.it.bits)) _ e in (
+        record { fits = λ f. absurd (omega (arith, q.0)); short = λ f. (ap (λ n. Err (CodeTooShort n)) q.1, refl) },
+        omega (arith, q.1, s.ready.it.few),
+      )
 
-  pub write_short : 0 < needed → Writes s.ready.it.bits xs xs (Err (CodeTooShort needed))
-  write_short h =
-      let q = missing_is (length s.ready.it.bits) (length xs) needed e h in
-      record { fits = λ f. absurd (omega (arith, q.0)); short = λ f. (ap (λ n. Err (CodeTooShort n)) q.1, refl) }
-
-  pub write_fits : {ys : List ℕ} {r : Swept} → needed ≤ 0 → Wrote 0 0 s.ready.it.letters s.ready.it.bits xs ys r →
+  pub write_fits : {ys : List ℕ} {r : Swept} → None ≡ missing (length s.ready.it.bits) (length xs) → Wrote 0 0 s.ready.it.letters s.ready.it.bits xs ys r →
       Writes s.ready.it.bits xs ys (Ok r.at)
-  write_fits {r = r} h v =
+  write_fits {r = r} e v =
       let a : r.at ≡ length s.ready.it.bits = omega (arith, v.at_is) in
-      let q = missing-not (length s.ready.it.bits) (length xs) needed e h in
+      let q = given_none (length xs) (cell_count 8 (length s.ready.it.bits)) e in
       record {
         fits = λ f. (ap Ok a, v.written (omega (arith, q)) ∙ write-start 8 (omega arith) xs s.ready.it.bits);
         short = λ f. absurd (omega (arith, q));
@@ -277,6 +270,9 @@ pub record Tested (p : Pattern) (tape ws : List ℕ) : Type 0 where
   pub few : length tape ≤ letter_limit
   pub letters : length tape ≤ first_bad tape
   pub room : 2 * (length tape + 1) ≤ length ws
+
+pub tested : {p : Pattern} {tape ws : List ℕ} → IsTaken p tape → 2 * (length tape + 1) ≤ length ws → Tested p tape ws
+tested t w = record { good = t.good; few = t.few; letters = t.letters; room = w }
 
 module _ {p : Pattern} {tape ws : List ℕ} (d : Tested p tape ws) where
   pub fillable : Fillable p tape ws

@@ -1,5 +1,6 @@
 -- The second half of reading: what is known once the state sets are filled and the tape is known to be readable, and what is written then.
-use Rattle.std.specs.Prelude.{◌≡◌, Bool, true, cond, List, ℕ, ◌+◌, ◌*◌, ◌≤◌, ◌<◌, ltb, length, get_or, drop, Err, Ok, Result}
+use Rattle.std.specs.Prelude.{◌≡◌, Bool, true, List, ℕ, ◌+◌, ◌*◌, ◌≤◌, ◌<◌, ltb, length, get_or, drop, Err, Ok, Result, Option}
+use Rattle.std.specs.Bool.{then_some}
 use Rattle.refusals.specs.declared.Refusal.{Refusal}
 use Rattle.syntax.specs.declared.Pattern.{Pattern}
 use Rattle.refusals.specs.declared.Refusal.TheVariants.{CodeTooShort}
@@ -24,11 +25,11 @@ pub record Writable (table words tape : List ℕ) (l : ℕ) : Type 0 where
   pub ready : Ready table words tape l 0 true 0
   pub bound : length ready.it.bits ≤ 136 * length tape + 64
 
--- how many bytes so many bits need where a buffer has fewer, else 0
-unfoldable pub missing : (bits size : ℕ) → ℕ
-missing n size = cond (ltb size (cell_count 8 n)) (cell_count 8 n) 0
+-- how many bytes so many bits need, where a buffer has fewer
+abbrev pub missing : (bits size : ℕ) → Option ℕ
+missing n size = then_some (ltb size (cell_count 8 n)) (cell_count 8 n)
 
-abbrev pub Misses : (table words tape : List ℕ) → (l size missing : ℕ) → Type 0
+abbrev pub Misses : (table words tape : List ℕ) → (l size : ℕ) → Option ℕ → Type 0
 Misses table words tape l size m = (s : Writable table words tape l) → m ≡ missing (length s.ready.it.bits) size
 
 -- bits in front of the code if they fit, else the bytes needed and the code as it was

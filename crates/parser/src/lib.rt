@@ -16,25 +16,29 @@ use second_sweep::sweep;
 use syntax::Pattern;
 use table::table_of;
 
-// How many bytes the code of node l needs where a buffer has fewer, else 0. Bits are counted only where the buffer might not hold them: with
-// at most 64 choices no code of n letters takes more than 17n + 8 bytes.
-pub fn bytes_missing(table: &[u64; 64], words: &[u64], tape: &[u8], l: usize, size: usize) -> usize
+// How many bytes the code of node l needs, where a buffer has fewer. Bits are counted only where the buffer might not hold them: with at most 64
+// choices no code of n letters takes more than 17n + 8 bytes.
+pub fn bytes_missing(
+    table: &[u64; 64],
+    words: &[u64],
+    tape: &[u8],
+    l: usize,
+    size: usize,
+) -> Option<usize>
     requires { Good table.now × (l < 64) × Writable table.now words.now tape.now l }
     ensures { Misses table.now words.now tape.now l size result }
 {
     if 17 * tape.len() + 8 <= size {
-        return 0;
+        return None;
     }
-    let mut none: [u8; 1] = [0; 1];
+    let mut none = [0; 1];
     let count = sweep(table, words, tape, l, 0, true, &mut none, 0);
     let needed = bytes_for(count.at);
-    if size < needed {
-        return needed;
-    }
-    0
+    (size < needed).then_some(needed)
 }
 
-// The code of a tape whose words are filled. A code buffer that is too short is found before a bit is written, so that it is left as it was.
+// The code of a tape whose words are filled, and its bit count. A code buffer that is too short is found before a bit is written, so that it is left
+// as it was.
 pub fn write_code(
     table: &[u64; 64],
     words: &[u64],
@@ -45,8 +49,7 @@ pub fn write_code(
     requires { Good table.now × (l < 64) × Writable table.now words.now tape.now l }
     ensures { WritesAll table.now words.now tape.now l code.old code.new result }
 {
-    let needed = bytes_missing(table, words, tape, l, code.len());
-    if 0 < needed {
+    if let Some(needed) = bytes_missing(table, words, tape, l, code.len()) {
         return Err(Refusal::CodeTooShort(needed as u32));
     }
     let swept = sweep(table, words, tape, l, 0, true, code, 0);
@@ -71,11 +74,10 @@ fn read(p: Pattern, tape: &[u8], words: &mut [u64], code: &mut [u8]) -> Result<u
     write_code(&table, words, tape, root, code)
 }
 
+// Reads a tape: the bit count of its code, which is written in front of `code`, or the first cause in the service's order. `words` is worked in.
 pub fn parse(p: Pattern, tape: &[u8], words: &mut [u64], code: &mut [u8]) -> Result<u32, Refusal>
     ensures { Parses p tape.now words.old words.new code.old code.new result }
 {
-    match check_tape(p, tape) {
-        Err(why) => Err(why),
-        Ok(()) => read(p, tape, words, code),
-    }
+    check_tape(p, tape)?;
+    read(p, tape, words, code)
 }

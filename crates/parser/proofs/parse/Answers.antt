@@ -1,12 +1,16 @@
 -- `parser::parse` meets its contract.
+use Rattle.std.proofs.Common.{◌≡◌, Err, subst, refl, sym, rules}
 use Rattle.refusals.specs.CheckLaws.{first_more}
 use Rattle.checks.specs.TapeLaws.{is_taken}
+use Rattle.parser.specs.Parse.{Parses}
 use Rattle.parser.specs.ParseLaws.{parse_refused}
-use borrow.Author.Rules.{rules}
 use Rattle.parser.proofs.parse.Goals as goal
 
 pub read-requires : goal.read-requires
-read-requires c = is_taken _ _ _ c.check_tape.ensures c.in-Ok.is
+read-requires c = is_taken _ _ _ c.in_ok-check_tape.ensures refl
 
-pub returns-in-Err : goal.returns-in-Err
-returns-in-Err c = parse_refused _ _ _ _ _ (first_more _ (c.check_tape.ensures.refuses _ c.in-Err.is))
+pub returns-in_err-check_tape : goal.returns-in_err-check_tape
+returns-in_err-check_tape c =
+    let e : c.from_residual.result ≡ Err c.in_err-check_tape.field-0.0 = search rules in
+    subst (λ r. Parses c.args.p c.args.tape.now c.args.words.now c.args.words.now c.args.code.now c.args.code.now r) (sym e)
+    (parse_refused _ _ _ _ _ (first_more _ (c.in_err-check_tape.ensures.refuses _ refl)))
