@@ -8,7 +8,7 @@ ghost use Rattle.listing_lines.specs.LineBytes.{tape_line, account_line, account
 ghost use Rattle.listing_lines.specs.Lines.{account_line_limit};
 
 use bits::open_nodes;
-use text::{least, put_byte, put_entry, put_hex, put_line};
+use text::{put_byte, put_entry, put_hex, put_line};
 
 // Letters, bits, and the code in hexadecimal.
 pub fn put_tape(out: &mut [u8], at: usize, letters: u64, bits: u64, code: &[u8]) -> usize
@@ -25,9 +25,9 @@ fn put_account(out: &mut [u8], at: usize, account: u64, litres: u32) -> usize
     ensures { Puts out.old at (account_line account litres) out.new result }
 {
     if litres == 0 {
-        return least(at, out.len());
+        return at.min(out.len());
     }
-    put_line(out, at, b"account", account, litres as u64)
+    put_line(out, at, b"account", account, u64::from(litres))
 }
 
 // The accounts from 0 on, rising. A bound on their number bounds the digits of an account, and so the bytes of all lines.
@@ -36,11 +36,9 @@ pub fn put_accounts(out: &mut [u8], at: usize, litres: &[u32]) -> usize
     ensures puts { Puts out.old at (account_lines 0 litres.now) out.new result }
     ensures litres_len_bound { length (account_lines 0 litres.now) ≤ account_line_limit * length litres.now }
 {
-    let mut end = least(at, out.len());
-    let mut i = 0;
-    while i < litres.len() {
-        end = put_account(out, end, i as u64, litres[i]);
-        i += 1;
+    let mut end = at.min(out.len());
+    for (i, &litre) in litres.iter().enumerate() {
+        end = put_account(out, end, i as u64, litre);
     }
     end
 }
@@ -50,12 +48,10 @@ pub fn put_open(out: &mut [u8], at: usize, words: &[u64], letters: usize) -> usi
     requires { 2 * (letters + 1) ≤ length words.now }
     ensures { Puts out.old at (open_lines words.now 0 (suc letters)) out.new result }
 {
-    let mut end = least(at, out.len());
-    let mut i = 0;
-    while i <= letters {
+    let mut end = at.min(out.len());
+    for i in 0..=letters {
         let open = open_nodes(words[2 * i + 1]);
-        end = put_line(out, end, b"open", i as u64, open as u64);
-        i += 1;
+        end = put_line(out, end, b"open", i as u64, u64::from(open));
     }
     end
 }

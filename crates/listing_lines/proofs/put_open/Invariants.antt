@@ -1,6 +1,5 @@
--- `listing_lines::put_open` meets its contract. The invariant: what is left to put gives what was to be put. The measure is how many positions are left.
-use Prim.Native.Nat.{suc, ◌-◌}
-use lib.ListN.{length}
+-- `listing_lines::put_open` meets its contract. The invariant: what is left to put gives what was to be put.
+use Rattle.std.proofs.Common.{suc, ◌-◌, length}
 use Rattle.text.specs.Putting.{ToPut}
 use Rattle.listing_lines.specs.LineBytes.{open_lines}
 use Rattle.listing_lines.proofs.put_open.Given as goal
@@ -8,6 +7,3 @@ use Rattle.listing_lines.proofs.put_open.Given as goal
 abbrev pub invariant-loop-i : goal.invariant-loop-i
 invariant-loop-i l =
     ToPut (length l.initial.out) l.initial.out l.at (open_lines l.words 0 (suc l.letters)) l.out l.end (open_lines l.words l.i (suc l.letters - l.i))
-
-abbrev pub decreases-loop-i : goal.decreases-loop-i
-decreases-loop-i l = suc l.letters - l.i
