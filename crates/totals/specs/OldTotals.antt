@@ -1,11 +1,12 @@
 -- Totals by patterns of 01's accounts. 02, Job 7: "An old pattern text loads to the same nodes with the same accounts, and its totals are the old
 -- ten followed by zeros." The old ten are kept as a definition: nothing is computed by it.
-use Rattle.std.specs.Prelude.{◌≡◌, refl, Bool, true, false, cond, List, ◌++◌, ℕ, ◌+◌, ◌-◌, ◌≤◌, ◌<◌, eqb, replicate}
+use Rattle.std.specs.Prelude.{◌≡◌, refl, Bool, true, false, cond, List, ◌++◌, ℕ, ◌+◌, ◌-◌, ◌≤◌, ◌<◌, eqb, replicate, Result}
 use Rattle.std.proofs.Common.{sym, ◌∙◌, arith, eqb-true}
 use Rattle.std.proofs.lemmas.List.{replicate-append-replicate}
 use Rattle.syntax.specs.declared.Pattern.{Pattern}
 use Rattle.syntax.specs.Table.{obeys, line_at, account_limit, one_digit_limit}
 use Rattle.syntax.specs.Trees.{root}
+use Rattle.refusals.specs.declared.Refusal.{Refusal}
 use Rattle.refusals.specs.Refusals.{answer}
 use Rattle.refusals.specs.CheckLaws.{zero_clear}
 use Rattle.semantics.specs.Accounts.{totals_to, totals}
@@ -15,8 +16,7 @@ use Rattle.semantics.specs.Every.{All}
 use Rattle.entries.specs.CodeOrder.{code_order, clear_sound}
 use Rattle.entries.specs.Gather.{entries_of}
 use Rattle.entries.specs.EntryAccounts.{root_below, entries_few}
-use Rattle.totals.specs.declared.Totalled.{Totalled}
-use Rattle.totals.specs.Totals.{totals_answer, totals_litres, no_litres, Totals}
+use Rattle.totals.specs.Totals.{totals_answer, totals_litres, totalled_litres, no_litres, Totals}
 
 -- each line of the table has an account of 01, or none
 abbrev pub OldAccounts : Pattern → Type 0
@@ -52,6 +52,6 @@ litres_old p code count h =
     (λ e. let c = zero_clear (code_order p code count) (answer 0 0) (eqb-true (totals_answer p code count).number 0 e) in
     old_entries p (clear_sound p code count c).good h code count)
 
-pub totals_old_accounts : (p : Pattern) (code : List ℕ) (count : ℕ) → OldAccounts p → (r : Totalled) → Totals p code count r
-    → r.litres ≡ old_litres p code count ++ new_accounts
+pub totals_old_accounts : (p : Pattern) (code : List ℕ) (count : ℕ) → OldAccounts p → (r : Result (List ℕ) Refusal) → Totals p code count r
+    → totalled_litres r ≡ old_litres p code count ++ new_accounts
 totals_old_accounts p code count h r t = t.gives ∙ litres_old p code count h

@@ -82,13 +82,7 @@ pub record EntriesSummed (letters accounts sums : List ℕ) (n i : ℕ) : Type 0
   pub is : sums ≡ charge no_litres (pairs i letters accounts)
 
 module _ (xs ys : List ℕ) (n : ℕ) where
-  pub entries_summed_start : EntriesSummed xs ys no_litres n 0
-  entries_summed_start = record { low = omega arith; is = refl }
-
   module _ (s : List ℕ) (i : ℕ) (k : EntriesSummed xs ys s n i) where
-    pub entries_summed_size : length s ≡ account_limit + 1
-    entries_summed_size = ap length k.is ∙ charge-length (pairs i xs ys) no_litres
-
     -- no sum passes nine litres a letter
     pub entries_summed_room : i < n → n ≤ letter_limit → (a c : ℕ) → a ≤ account_limit → get_or s a 0 + litres c ≤ 9 * letter_limit
     entries_summed_room h few a c o = rw k.is (charge-room (pairs i xs ys) a c (omega (arith, pairs-length i xs ys)) o)

@@ -1,5 +1,5 @@
 -- Totalling litres: the answer and the totals, for every input. Definitions only.
-use Rattle.std.specs.Prelude.{◌≡◌, cond, List, ℕ, ◌+◌, eqb, replicate}
+use Rattle.std.specs.Prelude.{◌≡◌, cond, List, ℕ, ◌+◌, eqb, replicate, Err, Ok, Result}
 use Rattle.syntax.specs.declared.Pattern.{Pattern}
 use Rattle.refusals.specs.declared.Refusal.{Refusal}
 use Rattle.syntax.specs.Trees.{root}
@@ -9,9 +9,6 @@ use Rattle.refusals.specs.Checks.{first_cause}
 use Rattle.semantics.specs.Accounts.{totals}
 use Rattle.entries.specs.CodeOrder.{code_order}
 use Rattle.entries.specs.Gather.{entries_of}
-use Rattle.totals.specs.declared.TotalsOutcome.{TotalsOutcome}
-use Rattle.totals.specs.declared.TotalsOutcome.TheVariants.{Added, Refused}
-use Rattle.totals.specs.declared.Totalled.{Totalled}
 
 -- 01: "Totalling litres: 2, 8, 3."
 unfoldable pub totals_answer : Pattern → (code : List ℕ) → (count : ℕ) → Answer
@@ -24,14 +21,15 @@ no_litres = replicate (account_limit + 1) 0
 unfoldable pub totals_litres : Pattern → (code : List ℕ) → (count : ℕ) → List ℕ
 totals_litres p code count = cond (eqb (totals_answer p code count).number 0) (totals (entries_of (root p) code count)) no_litres
 
-abbrev pub totals_outcome : TotalsOutcome → Answer
-totals_outcome Added = answer 0 0
-totals_outcome (Refused r) = refused r
+abbrev pub totals_outcome : Result (List ℕ) Refusal → Answer
+totals_outcome (Ok sums) = answer 0 0
+totals_outcome (Err why) = refused why
 
-abbrev pub refused_totals : Refusal → Totalled
-refused_totals r = record { outcome = Refused r; litres = no_litres }
+abbrev pub totalled_litres : Result (List ℕ) Refusal → List ℕ
+totalled_litres (Ok sums) = sums
+totalled_litres (Err why) = no_litres
 
 -- THE PROMISE of totalling, for every table, bytes and count
-pub record Totals (p : Pattern) (code : List ℕ) (count : ℕ) (r : Totalled) : Type 0 where
-  pub answers : totals_outcome r.outcome ≡ totals_answer p code count
-  pub gives : r.litres ≡ totals_litres p code count
+pub record Totals (p : Pattern) (code : List ℕ) (count : ℕ) (r : Result (List ℕ) Refusal) : Type 0 where
+  pub answers : totals_outcome r ≡ totals_answer p code count
+  pub gives : totalled_litres r ≡ totals_litres p code count

@@ -1,5 +1,5 @@
 -- Totalling a whole code: what is refused, what is added up, and that the totals add up to the tape's digits.
-use Rattle.std.specs.Prelude.{◌≡◌, refl, Bool, true, false, List, [], ◌∷◌, map, ℕ, zero, suc, ◌+◌, length, replicate}
+use Rattle.std.specs.Prelude.{◌≡◌, refl, Bool, true, false, List, [], ◌∷◌, map, ℕ, zero, suc, ◌+◌, length, replicate, Err, Ok, Result}
 use Rattle.std.proofs.Math.Path.{sym}
 use Rattle.std.proofs.Common.{ap, ◌∙◌, arith}
 use Rattle.std.proofs.Math.Bool.{cond}
@@ -10,17 +10,15 @@ use Rattle.syntax.specs.declared.Pattern.{Pattern}
 use Rattle.refusals.specs.declared.Refusal.{Refusal}
 use Rattle.syntax.specs.Trees.{root}
 use Rattle.syntax.specs.Table.{obeys, account_limit}
-use Rattle.refusals.specs.Refusals.{answer, number}
+use Rattle.refusals.specs.Refusals.{answer, refused, number}
 use Rattle.refusals.specs.RefusalLaws.{number_positive}
 use Rattle.refusals.specs.Checks.{First, Clear}
 use Rattle.refusals.specs.CheckLaws.{first_answered, clear_success}
 use Rattle.semantics.specs.Accounts.{accounts, total, count_from, totals_to, totals, digits}
 use Rattle.semantics.specs.Owned.{sum_below}
 use Rattle.semantics.proofs.AccountLaws.{totals_many, totals-digits}
-use Rattle.totals.specs.declared.TotalsOutcome.TheVariants.{Added}
-use Rattle.totals.specs.declared.Totalled.{Totalled}
 use Rattle.walks.specs.Whole.{whole_code, letters_of}
-use Rattle.totals.specs.Totals.{totals_answer, totals_litres, no_litres, refused_totals, Totals}
+use Rattle.totals.specs.Totals.{totals_answer, totals_litres, totalled_litres, no_litres, Totals}
 use Rattle.walks.specs.WholeLaws.{whole-handed, whole-value, spells}
 use Rattle.entries.specs.CodeOrder.{code_order}
 use Rattle.entries.specs.Gather.{entries_of}
@@ -28,19 +26,20 @@ use Rattle.entries.specs.EntryAccounts.{root-accounts}
 
 module _ (p : Pattern) (code : List ℕ) (count : ℕ) where
   -- the first cause that holds is answered, and all totals are 0
-  pub totals-refused : (why : Refusal) → First why (code_order p code count) → Totals p code count (refused_totals why)
-  unfolding totals_answer totals_litres
-  totals-refused why f =
-      let e = first_answered f (answer 0 0) in
-      let z = ne_eqb (number why) 0 (λ q. omega (arith, q, number_positive why)) in
-      record {
-        answers = sym e;
-        gives = sym (ap (λ b. cond b (totals (entries_of (root p) code count)) no_litres) (ap (λ a. eqb a.number 0) e ∙ z));
-      }
+  module _ (why : Refusal) (f : First why (code_order p code count)) where
+    pub refused-answer : totals_answer p code count ≡ refused why
+    unfolding totals_answer
+    refused-answer = first_answered f (answer 0 0)
+
+    pub refused-litres : totals_litres p code count ≡ no_litres
+    unfolding totals_litres
+    refused-litres =
+        let z = ne_eqb (number why) 0 (λ q. omega (arith, q, number_positive why)) in
+        ap (λ b. cond b (totals (entries_of (root p) code count)) no_litres) (ap (λ a. eqb a.number 0) refused-answer ∙ z)
 
   -- where no cause holds, the litres of the entries are added up
   pub totals-added : Clear (code_order p code count) → (s : List ℕ) → s ≡ totals (entries_of (root p) code count)
-      → Totals p code count (record { outcome = Added; litres = s })
+      → Totals p code count (Ok s)
   unfolding totals_litres totals_answer
   totals-added c s e =
       let a : totals_answer p code count ≡ answer 0 0 = clear_success (code_order p code count) (answer 0 0) c in
@@ -68,7 +67,7 @@ pub litres_many : (p : Pattern) (code : List ℕ) (count : ℕ) → length (tota
 unfolding totals_litres
 litres_many p code count = many_or_none (eqb (totals_answer p code count).number 0) (entries_of (root p) code count)
 
-pub totalled_many : (p : Pattern) (code : List ℕ) (count : ℕ) (r : Totalled) → Totals p code count r → length r.litres ≡ account_limit + 1
+pub totalled_many : (p : Pattern) (code : List ℕ) (count : ℕ) (r : Result (List ℕ) Refusal) → Totals p code count r → length (totalled_litres r) ≡ account_limit + 1
 totalled_many p code count r t = ap length t.gives ∙ litres_many p code count
 
 -- ── 01: the totals "add up to the tape's digits" ──
