@@ -1,7 +1,7 @@
 -- Entering into two slices: what a call asks and what it leaves, as records; and the steps of the walk, each as one law.
-use Rattle.std.specs.Prelude.{◌≡◌, refl, Bool, true, false, cond, List, [], ◌∷◌, ◌++◌, map, ℕ, suc, ◌+◌, ◌*◌, ◌≤◌, ◌<◌, min, length, set}
-use Rattle.std.proofs.Common.{sym, ap, ap₂, subst, ◌∙◌, true≢false, arith, length-append, length-set}
-use Rattle.std.proofs.lemmas.Bool.{false≢true}
+use Rattle.std.specs.Prelude.{◌≡◌, refl, Bool, true, false, cond, List, [], ◌∷◌, ◌++◌, map, ℕ, suc, ◌+◌, ◌*◌, ◌≤◌, ◌<◌, min, length, set, Option, Some, None}
+use Rattle.std.proofs.Common.{sym, ap, ap₂, subst, ◌∙◌, arith, length-append, length-set}
+use Rattle.std.proofs.lemmas.Option.{none-some, same_Some}
 use Rattle.std.proofs.Math.Option.{none, some, none-ne-some}
 use Rattle.std.proofs.Math.Decide.{dec_lt}
 use Rattle.std.proofs.lemmas.List.Edits.{sets}
@@ -39,21 +39,17 @@ ready_at s h = record { within = h; short = s.short; few = s.few; long = s.long;
 abbrev pub cap : ℕ → ℕ
 cap n = min (letter_limit + 1) n
 
--- a walk that fails answers one value, whatever it had read
-abbrev pub failed : Entered
-failed = record { ok = false; at = 0; n = 0 }
-
 abbrev pub went : (at n : ℕ) → Entered
-went at n = record { ok = true; at = at; n = n }
+went at n = record { at = at; n = n }
 
 -- what a walk from cell n on answers
-abbrev pub entered : Seen Entries → (n : ℕ) → Entered
-entered none n = failed
-entered (some p) n = went p.1 (cap (n + length p.0))
+abbrev pub entered : Seen Entries → (n : ℕ) → Option Entered
+entered none n = None
+entered (some p) n = Some (went p.1 (cap (n + length p.0)))
 
 -- the bits from `at` on were tested; where they are entries, those were written from cell n on and nothing else. A cell that a slice does not
 -- have is not written.
-pub record Enters (code : List ℕ) (t : Tree) (above at n : ℕ) (tape owners tape_now owners_now : List ℕ) (r : Entered) : Type 0 where
+pub record Enters (code : List ℕ) (t : Tree) (above at n : ℕ) (tape owners tape_now owners_now : List ℕ) (r : Option Entered) : Type 0 where
   pub long : length tape_now ≡ length tape
   pub wide : length owners_now ≡ length owners
   pub answer : r ≡ entered (entries_at code t above at) n
@@ -93,50 +89,47 @@ sets-both f es fs l k h n m s e i g =
     ∙ ap (λ x. sets x (n + length es) (map f fs)) e ∙ sets_run f es fs l n
 
 -- ── what the answer tells ──
-module _ {code : List ℕ} {t : Tree} {o at n : ℕ} {xs ys xs' ys' : List ℕ} {r : Entered} (w : Enters code t o at n xs ys xs' ys' r) where
-  pub enters_some : r.ok ≡ true → Wrote code t o at n xs ys xs' ys' r.at r.n
-  enters_some f = go (entries_at code t o at) refl
-    where
-      go : (s : Seen Entries) → entries_at code t o at ≡ s → Wrote code t o at n xs ys xs' ys' r.at r.n
-      go none e = absurd (false≢true (sym (ap (λ x. x.ok) (w.answer ∙ ap (λ s. entered s n) e)) ∙ f))
-      go (some p) e =
-          let a = w.answer ∙ ap (λ s. entered s n) e in
-          let (g, h) = w.wrote p.0 p.1 e in
-          record {
-            entries = p.0;
-            is = e ∙ ap (λ j. some (p.0, j)) (sym (ap (λ x. x.at) a));
-            count = ap (λ x. x.n) a;
-            spelled = g;
-            owned = h;
-          }
-
-  pub enters_none : r.ok ≡ false → entries_at code t o at ≡ none
+module _ {code : List ℕ} {t : Tree} {o at n : ℕ} {xs ys xs' ys' : List ℕ} {r : Option Entered} (w : Enters code t o at n xs ys xs' ys' r) where
+  pub enters_none : r ≡ None → entries_at code t o at ≡ none
   enters_none f = go (entries_at code t o at) refl
     where
       go : (s : Seen Entries) → entries_at code t o at ≡ s → entries_at code t o at ≡ none
       go none e = e
-      go (some p) e = absurd (true≢false (sym (ap (λ x. x.ok) (w.answer ∙ ap (λ s. entered s n) e)) ∙ f))
+      go (some p) e = absurd (none-some _ (sym f ∙ w.answer ∙ ap (λ s. entered s n) e))
 
-  pub enters_few : r.n ≤ letter_limit + 1
-  enters_few = go (entries_at code t o at) w.answer
-    where
-      go : (s : Seen Entries) → r ≡ entered s n → r.n ≤ letter_limit + 1
-      go none a = omega (arith, ap (λ x. x.n) a)
-      go (some p) a = omega (arith, ap (λ x. x.n) a)
+  module _ {q : Entered} (f : r ≡ Some q) where
+    pub enters_some : Wrote code t o at n xs ys xs' ys' q.at q.n
+    enters_some = go (entries_at code t o at) refl
+      where
+        go : (s : Seen Entries) → entries_at code t o at ≡ s → Wrote code t o at n xs ys xs' ys' q.at q.n
+        go none e = absurd (none-some q (sym (w.answer ∙ ap (λ s. entered s n) e) ∙ f))
+        go (some p) e =
+            let a = same_Some _ _ (sym f ∙ w.answer ∙ ap (λ s. entered s n) e) in
+            let (g, h) = w.wrote p.0 p.1 e in
+            record {
+              entries = p.0;
+              is = e ∙ ap (λ j. some (p.0, j)) (sym (ap (λ x. x.at) a));
+              count = ap (λ x. x.n) a;
+              spelled = g;
+              owned = h;
+            }
 
-  pub enters_stays : r.ok ≡ true → at ≤ length code * 8 → (at ≤ r.at) × (r.at ≤ length code * 8)
-  enters_stays f le = let k = enters_some f in entries_stays code o at t le k.entries r.at k.is
+    pub enters_few : q.n ≤ letter_limit + 1
+    enters_few = omega (arith, enters_some.count)
 
-  -- the slices are as long as they were
-  pub enters_ready : r.ok ≡ true → Ready code xs ys at n → Ready code xs' ys' r.at r.n
-  enters_ready f s =
-      record {
-        within = (enters_stays f s.within).1;
-        short = s.short;
-        few = enters_few;
-        long = omega (arith, w.long, s.long);
-        wide = omega (arith, w.wide, s.wide);
-      }
+    pub enters_stays : at ≤ length code * 8 → (at ≤ q.at) × (q.at ≤ length code * 8)
+    enters_stays le = entries_stays code o at t le enters_some.entries q.at enters_some.is
+
+    -- the slices are as long as they were
+    pub enters_ready : Ready code xs ys at n → Ready code xs' ys' q.at q.n
+    enters_ready s =
+        record {
+          within = (enters_stays s.within).1;
+          short = s.short;
+          few = enters_few;
+          long = omega (arith, w.long, s.long);
+          wide = omega (arith, w.wide, s.wide);
+        }
 
 -- ── the steps ──
 -- the entries of v from `at` on are those of t from `from` on and then those of u, whatever the trees and accounts
@@ -151,7 +144,7 @@ pub record Same (code : List ℕ) (v : Tree) (ov at : ℕ) (t : Tree) (ot from :
 
 -- where the entries are known: the bits are not all there, or there are none, or one
 module _ {code : List ℕ} {t : Tree} {o at n : ℕ} where
-  pub not_entered : {xs ys xs' ys' : List ℕ} {r : Entered} → length xs' ≡ length xs → length ys' ≡ length ys → r ≡ failed → entries_at code t o at ≡ none
+  pub not_entered : {xs ys xs' ys' : List ℕ} {r : Option Entered} → length xs' ≡ length xs → length ys' ≡ length ys → r ≡ None → entries_at code t o at ≡ none
       → Enters code t o at n xs ys xs' ys' r
   not_entered f g a e =
       record {
@@ -161,67 +154,67 @@ module _ {code : List ℕ} {t : Tree} {o at n : ℕ} where
         wrote = λ es j k. absurd (none-ne-some (es, j) (sym e ∙ k));
       }
 
-  pub none_entered : {j : ℕ} (xs ys : List ℕ) → n ≤ letter_limit + 1 → entries_at code t o at ≡ some ([], j) → Enters code t o at n xs ys xs ys (went j n)
+  pub none_entered : {j : ℕ} (xs ys : List ℕ) → n ≤ letter_limit + 1 → entries_at code t o at ≡ some ([], j) → Enters code t o at n xs ys xs ys (Some (went j n))
   none_entered {j} xs ys h e =
       let c : n ≡ cap (n + 0) = omega arith in
       record {
         long = refl;
         wide = refl;
-        answer = ap (went j) c ∙ ap (λ s. entered s n) (sym e);
+        answer = ap (λ k. Some (went j k)) c ∙ ap (λ s. entered s n) (sym e);
         wrote = λ es i k. let (f, g) = same_seen (sym e ∙ k) in (ap (λ l. sets xs n (letters l)) f, ap (λ l. sets ys n (accounts_in l)) f);
       }
 
-  pub one_entered : {c a j : ℕ} → entries_at code t o at ≡ some ((c, a) ∷ [], j) → {xs ys xs' ys' : List ℕ} {r : Entered}
-      → xs' ≡ set xs n c → ys' ≡ set ys n a → r ≡ went j (cap (n + 1)) → Enters code t o at n xs ys xs' ys' r
-  one_entered {c} {a} {j} e {xs} {ys} {xs'} {ys'} {r} f g h =
+  pub one_entered : {c a j : ℕ} → entries_at code t o at ≡ some ((c, a) ∷ [], j) → {xs ys xs' ys' : List ℕ} {q : Entered}
+      → xs' ≡ set xs n c → ys' ≡ set ys n a → q ≡ went j (cap (n + 1)) → Enters code t o at n xs ys xs' ys' (Some q)
+  one_entered {c} {a} {j} e {xs} {ys} {xs'} {ys'} {q} f g h =
       record {
         long = ap length f ∙ length-set xs n c;
         wide = ap length g ∙ length-set ys n a;
-        answer = h ∙ ap (λ s. entered s n) (sym e);
-        wrote = λ es i k. let (p, q) = same_seen (sym e ∙ k) in (f ∙ ap (λ l. sets xs n (letters l)) p, g ∙ ap (λ l. sets ys n (accounts_in l)) p);
+        answer = ap Some h ∙ ap (λ s. entered s n) (sym e);
+        wrote = λ es i k. let (p, _) = same_seen (sym e ∙ k) in (f ∙ ap (λ l. sets xs n (letters l)) p, g ∙ ap (λ l. sets ys n (accounts_in l)) p);
       }
 
 entered_join : (es : Entries) (s : Seen Entries) (n m : ℕ) → m ≡ cap (n + length es) → entered s m ≡ entered (joined ◌++◌ es s) n
 entered_join es none n m e = refl
 entered_join es (some q) n m e =
-    let c : cap (m + length q.0) ≡ cap (n + length (es ++ q.0)) = omega (arith, e, length-append es q.0) in ap (went q.1) c
+    let c : cap (m + length q.0) ≡ cap (n + length (es ++ q.0)) = omega (arith, e, length-append es q.0) in ap (λ k. Some (went q.1 k)) c
 
 module _ {code : List ℕ} {v : Tree} {ov at : ℕ} {t : Tree} {ot from : ℕ} {u : Tree} {ou : ℕ} (e : Parts code v ov at t ot from u ou) where
-  module _ {n : ℕ} {xs ys xs' ys' : List ℕ} {r : Entered} (w : Enters code t ot from n xs ys xs' ys' r) where
+  module _ {n : ℕ} {xs ys xs' ys' : List ℕ} {r : Option Entered} (w : Enters code t ot from n xs ys xs' ys' r) where
     -- the first part fails: so does the whole
-    pub first_failed : r.ok ≡ false → Enters code v ov at n xs ys xs' ys' r
+    pub first_failed : r ≡ None → Enters code v ov at n xs ys xs' ys' None
     first_failed f =
-        let g = enters_none w f in
-        not_entered w.long w.wide (w.answer ∙ ap (λ s. entered s n) g) (e.is ∙ ap (λ s. entries_then s (entries_at code u ou)) g)
+        not_entered w.long w.wide refl (e.is ∙ ap (λ s. entries_then s (entries_at code u ou)) (enters_none w f))
 
-    pub both-entered : r.ok ≡ true → length xs ≤ letter_limit → length ys ≤ letter_limit → {xs'' ys'' : List ℕ} {z : Entered}
-        → Enters code u ou r.at r.n xs' ys' xs'' ys'' z → Enters code v ov at n xs ys xs'' ys'' z
-    both-entered f sx sy {xs''} {ys''} {z} k =
-        let one = enters_some w f in
-        let is = e.is ∙ ap (λ s. entries_then s (entries_at code u ou)) one.is in
-        record {
-          long = k.long ∙ w.long;
-          wide = k.wide ∙ w.wide;
-          answer = k.answer ∙ entered_join one.entries (entries_at code u ou r.at) n r.n one.count ∙ ap (λ s. entered s n) (sym is);
-          wrote = λ fs j g.
-              let (x, i, y, p, q, h) = then_some ◌++◌ (some (one.entries, r.at)) (entries_at code u ou) fs j (sym is ∙ g) in
-              let (px, pi) = same_seen p in
-              let (l, m) = k.wrote y j (ap (entries_at code u ou) pi ∙ q) in
-              let all = ap (λ a. a ++ y) px ∙ h in (
-                sets-both (λ e. e.0) one.entries y xs xs' xs'' n r.n (omega (arith, w.long, sx)) one.spelled one.count l
-                    ∙ ap (λ a. sets xs n (letters a)) all,
-                sets-both (λ e. e.1) one.entries y ys ys' ys'' n r.n (omega (arith, w.wide, sy)) one.owned one.count m
-                    ∙ ap (λ a. sets ys n (accounts_in a)) all,
-              );
-        }
+    module _ {q : Entered} (f : r ≡ Some q) (sx : length xs ≤ letter_limit) (sy : length ys ≤ letter_limit) where
+      pub both-entered : {xs'' ys'' : List ℕ} {z : Option Entered}
+          → Enters code u ou q.at q.n xs' ys' xs'' ys'' z → Enters code v ov at n xs ys xs'' ys'' z
+      both-entered {xs''} {ys''} {z} k =
+          let one = enters_some w f in
+          let is = e.is ∙ ap (λ s. entries_then s (entries_at code u ou)) one.is in
+          record {
+            long = k.long ∙ w.long;
+            wide = k.wide ∙ w.wide;
+            answer = k.answer ∙ entered_join one.entries (entries_at code u ou q.at) n q.n one.count ∙ ap (λ s. entered s n) (sym is);
+            wrote = λ fs j g.
+                let (x, i, y, p, b, h) = then_some ◌++◌ (some (one.entries, q.at)) (entries_at code u ou) fs j (sym is ∙ g) in
+                let (px, pi) = same_seen p in
+                let (l, m) = k.wrote y j (ap (entries_at code u ou) pi ∙ b) in
+                let all = ap (λ a. a ++ y) px ∙ h in (
+                  sets-both (λ e. e.0) one.entries y xs xs' xs'' n q.n (omega (arith, w.long, sx)) one.spelled one.count l
+                      ∙ ap (λ a. sets xs n (letters a)) all,
+                  sets-both (λ e. e.1) one.entries y ys ys' ys'' n q.n (omega (arith, w.wide, sy)) one.owned one.count m
+                      ∙ ap (λ a. sets ys n (accounts_in a)) all,
+                );
+          }
 
-    -- with the second part's account by an equation, behind the promise that it is in: a wrong one is then named (docs/PROVING.md)
-    pub both-charged : r.ok ≡ true → length xs ≤ letter_limit → length ys ≤ letter_limit → {o : ℕ} {xs'' ys'' : List ℕ} {z : Entered}
-        → Enters code u o r.at r.n xs' ys' xs'' ys'' z → o ≡ ou → Enters code v ov at n xs ys xs'' ys'' z
-    both-charged f sx sy {o} {xs''} {ys''} {z} k q = both-entered f sx sy (subst (λ a. Enters code u a r.at r.n xs' ys' xs'' ys'' z) q k)
+      -- with the second part's account by an equation, behind the promise that it is in: a wrong one is then named (docs/PROVING.md)
+      pub both-charged : {o : ℕ} {xs'' ys'' : List ℕ} {z : Option Entered}
+          → Enters code u o q.at q.n xs' ys' xs'' ys'' z → o ≡ ou → Enters code v ov at n xs ys xs'' ys'' z
+      both-charged {o} {xs''} {ys''} {z} k e = both-entered (subst (λ a. Enters code u a q.at q.n xs' ys' xs'' ys'' z) e k)
 
 module _ {code : List ℕ} {v : Tree} {ov at : ℕ} {t : Tree} {ot from : ℕ} (e : Same code v ov at t ot from) where
-  pub same_entered : {n : ℕ} {xs ys xs' ys' : List ℕ} {r : Entered} → Enters code t ot from n xs ys xs' ys' r → Enters code v ov at n xs ys xs' ys' r
+  pub same_entered : {n : ℕ} {xs ys xs' ys' : List ℕ} {r : Option Entered} → Enters code t ot from n xs ys xs' ys' r → Enters code v ov at n xs ys xs' ys' r
   same_entered {n} w =
       record {
         long = w.long;
@@ -271,12 +264,13 @@ module _ {table : List ℕ} {l o w : ℕ} {n : Node} (k : AtLine table l o w n) 
           is = entries_as (LeafNode x) e ∙ leaf_entries code m T x o at ∙ ap (λ z. entries_at code (leaf_tree x) z at) (sym k.owner);
         }
 
-    pub seq_is : (p q : ℕ) → n ≡ Sequence p q → at ≤ length code * 8 → Parts code (T l) o at (T p) w at (T q) w
-    seq_is p q e le =
+    pub seq_is : (p q : ℕ) → n ≡ Sequence p q → at ≤ length code * 8 → {i j : ℕ} → i ≡ p → j ≡ q → Parts code (T l) o at (T i) w at (T j) w
+    seq_is p q e le {i} {j} ei ej =
         record {
           within = le;
           is = entries_as (Sequence p q) e ∙ entries_seq code o at m (T p) (T q) le
-              ∙ ap (λ z. entries_then (entries_at code (T p) z at) (entries_at code (T q) z)) (sym k.owner);
+              ∙ ap (λ z. entries_then (entries_at code (T p) z at) (entries_at code (T q) z)) (sym k.owner)
+              ∙ ap₂ (λ x y. entries_then (entries_at code (T x) w at) (entries_at code (T y) w)) (sym ei) (sym ej);
         }
 
     pub side_is : (p q r : ℕ) → n ≡ Alternative p q → at < length code * 8 → r ≡ cond (bit_at 8 code at) q p
@@ -297,9 +291,13 @@ module _ {table : List ℕ} {l o w : ℕ} {n : Node} (k : AtLine table l o w n) 
     stop_is again p e h s es z = entries_stop code o at (star_as k.good l k.below n k.node again p e) h s es z
 
     pub round_is : (again : Bool) (p : ℕ) → n ≡ Star again p → at < length code * 8 → (s : Bool) → s ≡ stops again (bit_at 8 code at) → s ≡ false
-        → Parts code (T l) o at (T p) w (at + 1) (T l) o
-    round_is again p e h s es z =
-        record { within = omega arith; is = entries-round code o at (star_as k.good l k.below n k.node again p e) h s es z w k.owner }
+        → {i : ℕ} → i ≡ p → Parts code (T l) o at (T i) w (at + 1) (T l) o
+    round_is again p e h s es z {i} ei =
+        record {
+          within = omega arith;
+          is = entries-round code o at (star_as k.good l k.below n k.node again p e) h s es z w k.owner
+              ∙ ap (λ x. entries_then (entries_at code (T x) w (at + 1)) (entries_at code (T l) o)) (sym ei);
+        }
 
     pub alt_none_is : (p q : ℕ) → n ≡ Alternative p q → length code * 8 ≤ at → entries_at code (T l) o at ≡ none
     alt_none_is p q e h = entries_as (Alternative p q) e ∙ entries_alt_none code o at m (T p) (T q) h
@@ -313,7 +311,7 @@ pub record Turns (code : List ℕ) (t : Tree) (o at n : ℕ) (xs₀ ys₀ : List
   pub long : length xs ≡ length xs₀
   pub wide : length ys ≡ length ys₀
   pub ready : Ready code xs ys here m
-  pub finish : (xs' ys' : List ℕ) (r : Entered) → Enters code t o here m xs ys xs' ys' r → Enters code t o at n xs₀ ys₀ xs' ys' r
+  pub finish : (xs' ys' : List ℕ) (r : Option Entered) → Enters code t o here m xs ys xs' ys' r → Enters code t o at n xs₀ ys₀ xs' ys' r
 
 module _ {code : List ℕ} {t : Tree} {o at n : ℕ} {xs₀ ys₀ : List ℕ} where
   pub turns_start : Ready code xs₀ ys₀ at n → Turns code t o at n xs₀ ys₀ at n xs₀ ys₀
@@ -324,11 +322,11 @@ module _ {code : List ℕ} {t : Tree} {o at n : ℕ} {xs₀ ys₀ : List ℕ} wh
     pub turn_ready : Ready code xs ys (here + 1) m
     turn_ready = ready_at i.ready e.within
 
-    module _ {xs' ys' : List ℕ} {r : Entered} (x : Enters code u w (here + 1) m xs ys xs' ys' r) where
-      pub turns_failed : r.ok ≡ false → Enters code t o at n xs₀ ys₀ xs' ys' r
-      turns_failed f = i.finish xs' ys' r (first_failed e x f)
+    module _ {xs' ys' : List ℕ} {r : Option Entered} (x : Enters code u w (here + 1) m xs ys xs' ys' r) where
+      pub turns_failed : r ≡ None → Enters code t o at n xs₀ ys₀ xs' ys' None
+      turns_failed f = i.finish xs' ys' None (first_failed e x f)
 
-      pub turns_more : r.ok ≡ true → Turns code t o at n xs₀ ys₀ r.at r.n xs' ys'
+      pub turns_more : {q : Entered} → r ≡ Some q → Turns code t o at n xs₀ ys₀ q.at q.n xs' ys'
       turns_more f =
           record {
             low = omega (arith, i.low, enters_stays x f e.within);

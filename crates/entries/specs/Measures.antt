@@ -1,9 +1,9 @@
 -- A walk over all that is handed in: whether it is a whole code, how many letters that spells, and what is then written.
-use Rattle.std.specs.Prelude.{◌≡◌, Bool, cond, List, ◌++◌, ℕ, ◌*◌, ◌-◌, ◌≤◌, length, take, drop}
+use Rattle.std.specs.Prelude.{◌≡◌, Bool, cond, List, ◌++◌, ℕ, ◌*◌, ◌-◌, ◌≤◌, length, take, drop, Option, Some, None, ok_or, Err}
 use Rattle.std.proofs.Math.Path.{refl, ap}
 use Rattle.std.proofs.Common.{sym, ◌∙◌, arith, length-append, take_at}
 use Rattle.std.proofs.Math.Bool.{true, false}
-use Rattle.std.proofs.lemmas.Bool.{false≢true}
+use Rattle.std.proofs.lemmas.Option.{none-some, same_Some, cond_some}
 use Rattle.std.proofs.Math.Option.{none, some, none-ne-some}
 use borrow.Author.Tests.{le-leb}
 use Rattle.syntax.specs.Tree.{Tree}
@@ -21,26 +21,20 @@ use Rattle.walks.specs.Whole.{whole_code, letters_of}
 use Rattle.walks.specs.Looks.{same_seen}
 use Rattle.walks.specs.WholeLaws.{whole-value}
 use Rattle.entries.specs.declared.Entered.{Entered}
-use Rattle.entries.specs.declared.Measured.{Measured}
 use Rattle.entries.specs.Entries.{Entries, entries_at}
 use Rattle.entries.specs.Entering.{cap, Enters, Wrote, enters_some, enters_none}
 use Rattle.entries.specs.WholeLaws.{whole-entries, entered_count}
 
-abbrev pub no_measure : Measured
-no_measure = record { whole = false; letters = 0 }
-
-abbrev pub measure_of : (letters : ℕ) → Measured
-measure_of n = record { whole = true; letters = n }
-
-unfoldable pub measured : Tree → (code : List ℕ) → (count : ℕ) → Measured
-measured t code count = cond (whole_code t code count) (measure_of (cap (length (letters_of t code count)))) no_measure
+-- how many letters a whole code spells, None for what is no whole code
+unfoldable pub measured : Tree → (code : List ℕ) → (count : ℕ) → Option ℕ
+measured t code count = cond (whole_code t code count) (Some (cap (length (letters_of t code count)))) None
 
 -- what is handed in was tested, and the entries of a whole code are written from the first cells on
-pub record Reads (code : List ℕ) (t : Tree) (count : ℕ) (tape owners tape_now owners_now : List ℕ) (m : Measured) : Type 0 where
+pub record Reads (code : List ℕ) (t : Tree) (count : ℕ) (tape owners tape_now owners_now : List ℕ) (m : Option ℕ) : Type 0 where
   pub long : length tape_now ≡ length tape
   pub wide : length owners_now ≡ length owners
   pub is : m ≡ measured t code count
-  pub wrote : m.whole ≡ true → Wrote code t 0 0 0 tape owners tape_now owners_now count m.letters
+  pub wrote : (letters : ℕ) → m ≡ Some letters → Wrote code t 0 0 0 tape owners tape_now owners_now count letters
 
 -- a walk over every bit stops at the last bit held: the bits held are a code
 module _ (t : Tree) (code : List ℕ) (count : ℕ) (fit : count ≤ length code * 8) where
@@ -78,56 +72,61 @@ module _ (t : Tree) (code : List ℕ) (count : ℕ) where
       go true e = let (v, q) = whole-value t code count e in absurd (f _ (whole-entries t code count e v q 0))
       go false e = e
 
-  not-read : {xs ys xs' ys' : List ℕ} {m : Measured} → length xs' ≡ length xs → length ys' ≡ length ys → m ≡ no_measure → whole_code t code count ≡ false
-      → Reads code t count xs ys xs' ys' m
+  not-read : {xs ys xs' ys' : List ℕ} → length xs' ≡ length xs → length ys' ≡ length ys → whole_code t code count ≡ false
+      → Reads code t count xs ys xs' ys' None
   unfolding measured
-  not-read f g a e = record { long = f; wide = g; is = a ∙ rw e; wrote = λ h. absurd (false≢true (sym (ap (λ x. x.whole) a) ∙ h)) }
+  not-read f g e = record { long = f; wide = g; is = rw e; wrote = λ n h. absurd (none-some n h) }
 
   -- ── one law for each way ──
-  pub read-bad : (xs ys : List ℕ) {m : Measured} → m ≡ no_measure → handed_good code count ≡ false → Reads code t count xs ys xs ys m
+  pub read-bad : (xs ys : List ℕ) → handed_good code count ≡ false → Reads code t count xs ys xs ys None
   unfolding whole_code
-  read-bad xs ys a g = not-read refl refl a (rw g)
+  read-bad xs ys g = not-read refl refl (rw g)
 
-  module _ {xs ys xs' ys' : List ℕ} {r : Entered} (w : Enters code t 0 0 0 xs ys xs' ys' r) where
-    pub read-failed : {m : Measured} → m ≡ no_measure → r.ok ≡ false → Reads code t count xs ys xs' ys' m
-    read-failed a f = not-read w.long w.wide a (not-whole (λ es e. none-ne-some (es, count) (sym (enters_none w f) ∙ e)))
+  module _ {xs ys xs' ys' : List ℕ} {r : Option Entered} (w : Enters code t 0 0 0 xs ys xs' ys' r) where
+    pub read-failed : r ≡ None → Reads code t count xs ys xs' ys' None
+    read-failed f = not-read w.long w.wide (not-whole (λ es e. none-ne-some (es, count) (sym (enters_none w f) ∙ e)))
 
-    pub read_elsewhere : {m : Measured} → m ≡ no_measure → r.ok ≡ true → (r.at ≡ count → ⊥) → Reads code t count xs ys xs' ys' m
-    read_elsewhere a f n =
-        not-read w.long w.wide a (not-whole (λ es e. n (same_seen (sym (enters_some w f).is ∙ e)).1))
+    module _ {q : Entered} (f : r ≡ Some q) where
+      pub read_elsewhere : (q.at ≡ count → ⊥) → Reads code t count xs ys xs' ys' None
+      read_elsewhere n =
+          not-read w.long w.wide (not-whole (λ es e. n (same_seen (sym (enters_some w f).is ∙ e)).1))
 
-    pub read_whole : handed_good code count ≡ true → r.ok ≡ true → r.at ≡ count → Reads code t count xs ys xs' ys' (measure_of r.n)
-    unfolding measured
-    read_whole g f h =
-        let k = enters_some w f in
-        let is = k.is ∙ ap (λ j. some (k.entries, j)) h in
-        let whole = stops-whole g k.entries is in
-        let n : r.n ≡ cap (length (letters_of t code count)) = omega (arith, k.count, entered_count t code count whole k) in
-        record {
-          long = w.long;
-          wide = w.wide;
-          is = ap measure_of n ∙ rw whole;
-          wrote = λ e. record { entries = k.entries; is = is; count = k.count; spelled = k.spelled; owned = k.owned };
-        }
+      pub read_whole : handed_good code count ≡ true → q.at ≡ count → Reads code t count xs ys xs' ys' (Some q.n)
+      unfolding measured
+      read_whole g h =
+          let k = enters_some w f in
+          let is = k.is ∙ ap (λ j. some (k.entries, j)) h in
+          let whole = stops-whole g k.entries is in
+          let n : q.n ≡ cap (length (letters_of t code count)) = omega (arith, k.count, entered_count t code count whole k) in
+          record {
+            long = w.long;
+            wide = w.wide;
+            is = ap Some n ∙ rw whole;
+            wrote = λ letters e.
+                let same = same_Some _ _ e in
+                record { entries = k.entries; is = is; count = sym same ∙ k.count; spelled = k.spelled; owned = k.owned };
+          }
 
   -- ── what the measure tells ──
-  module _ (m : Measured) (em : m ≡ measured t code count) where
-    pub measured_no : m.whole ≡ false → whole_code t code count ≡ false
+  module _ (m : Option ℕ) (em : m ≡ measured t code count) where
+    pub measured_no : m ≡ None → whole_code t code count ≡ false
     unfolding measured
     measured_no f = go (whole_code t code count) refl
       where
         go : (b : Bool) → whole_code t code count ≡ b → whole_code t code count ≡ false
-        go true e = absurd (false≢true (sym f ∙ ap (λ x. x.whole) em ∙ rw e))
+        go true e = absurd (none-some _ (sym f ∙ em ∙ ap (λ b. cond b (Some (cap (length (letters_of t code count)))) None) e))
         go false e = e
 
-    pub measured_yes : m.whole ≡ true → whole_code t code count ≡ true
-    unfolding measured
-    measured_yes f = go (whole_code t code count) refl
-      where
-        go : (b : Bool) → whole_code t code count ≡ b → whole_code t code count ≡ true
-        go true e = e
-        go false e = absurd (false≢true (sym (ap (λ x. x.whole) em ∙ rw e) ∙ f))
+    module _ (n : ℕ) (f : m ≡ Some n) where
+      pub measured_yes : whole_code t code count ≡ true
+      unfolding measured
+      measured_yes = (cond_some (whole_code t code count) _ n (sym em ∙ f)).0
 
-    pub measured-letters : m.whole ≡ true → m.letters ≡ cap (length (letters_of t code count))
-    unfolding measured
-    measured-letters f = ap (λ x. x.letters) em ∙ rw (measured_yes f)
+      pub measured-letters : n ≡ cap (length (letters_of t code count))
+      unfolding measured
+      measured-letters = sym (cond_some (whole_code t code count) _ n (sym em ∙ f)).1
+
+-- a walk that gave no measure, refused for a cause
+pub unmeasured : {E : Type 0} (m : Option ℕ) (cause why : E) → Err why ≡ ok_or m cause → (m ≡ None) × (why ≡ cause)
+unmeasured None cause why e = (refl, cc)
+unmeasured (Some n) cause why e = absurd (let z : ◌≡◌ {A = ℕ} 0 1 = (cc) in omega arith)

@@ -14,8 +14,8 @@ ghost use Rattle.semantics.specs.Accounts.{handed_down};
 ghost use Rattle.table.specs.Cells.{Good, tree_in};
 ghost use Rattle.walks.specs.Lines.{range_node};
 ghost use Rattle.entries.specs.Entries.{leaf_tree};
-ghost use Rattle.entries.specs.Entering.{Ready, cap, went, failed, Enters};
-ghost use Rattle.entries.specs.Measures.{no_measure, Reads};
+ghost use Rattle.entries.specs.Entering.{Ready, cap, went, Enters};
+ghost use Rattle.entries.specs.Measures.{Reads};
 ghost use Rattle.entries.specs.Gather.{Gathers};
 
 use bits::{byte_at, handed_good};
@@ -24,29 +24,11 @@ use syntax::{Leaf, Node, Pattern, in_range, obeys_rules};
 use table::{account_at, node_at, table_of};
 use walks::{side_at, stops_at};
 
-// The position behind the bits read and the cell behind the entries, or that the bits are not all there.
+// Where a walk stopped: the position behind the bits read and the cell behind the entries.
 #[derive(Clone, Copy)]
 pub struct Entered {
-    pub ok: bool,
     pub at: u32,
     pub n: usize,
-}
-
-fn went(at: u32, n: usize) -> Entered
-    ensures { result ≡ went at n }
-{
-    Entered { ok: true, at, n }
-}
-
-// A walk that fails answers one value, whatever it had read.
-fn failed() -> Entered
-    ensures { result ≡ failed }
-{
-    Entered {
-        ok: false,
-        at: 0,
-        n: 0,
-    }
 }
 
 // Stands for every number of letters above `Pattern::MAX_LETTERS`: a letter takes no bit, so that a short code may spell very many.
@@ -57,17 +39,18 @@ fn next_cell(n: usize) -> usize
     requires { n ≤ letter_limit + 1 }
     ensures { result ≡ cap (n + 1) }
 {
-    if n < MANY { n + 1 } else { MANY }
+    (n + 1).min(MANY)
 }
 
 // The account that a node hands down: what is handed the stale account hands it down; else its own, or the one from above if it has none.
 fn handed_down(own: u8, above: u8) -> u8
     ensures { result ≡ handed_down own above }
 {
-    if above == Pattern::STALE_ACCOUNT {
-        return Pattern::STALE_ACCOUNT;
+    if above == Pattern::STALE_ACCOUNT || own == 0 {
+        above
+    } else {
+        own
     }
-    if own == 0 { above } else { own }
 }
 
 // How many bits the bytes hold.
@@ -75,14 +58,14 @@ fn bits_in(code: &[u8]) -> u32
     requires { length code.now ≤ byte_limit }
     ensures { result ≡ length code.now * 8 }
 {
-    let bytes = code.len() as u32;
-    bytes * 8
+    code.len() as u32 * 8
 }
 
 // A cell that was not lent is not written.
 fn put_cell(cells: &mut [u8], n: usize, value: u8)
     ensures { cells.new ≡ set cells.old n value }
 {
+    // Kept: an index, since of a slice's `get_mut` a proof knows the length alone, and no cell.
     if n < cells.len() {
         cells[n] = value;
     }
@@ -99,15 +82,13 @@ fn put_entry(
 ) -> Entered
     requires { n ≤ letter_limit + 1 }
     ensures { (letters.new ≡ set letters.old n c) × (accounts.new ≡ set accounts.old n account)
-        × (result ≡ record { ok = true; at = at; n = cap (n + 1) }) }
+        × (result ≡ went at (cap (n + 1))) }
 {
     put_cell(letters, n, c);
     put_cell(accounts, n, account);
-    let next = next_cell(n);
     Entered {
-        ok: true,
         at,
-        n: next,
+        n: next_cell(n),
     }
 }
 
@@ -121,19 +102,19 @@ fn put_range(
     letters: &mut [u8],
     accounts: &mut [u8],
     n: usize,
-) -> Entered
+) -> Option<Entered>
     requires { Ready code.now letters.old accounts.old at n }
     ensures { Enters code.now (leaf_tree (range_node low high)) account at n
         letters.old accounts.old letters.new accounts.new result }
 {
     if bits_in(code) < at + 8 {
-        return failed();
+        return None;
     }
     let c = byte_at(code, at);
     if !in_range(low, high, c) {
-        return failed();
+        return None;
     }
-    put_entry(letters, accounts, n, c, account, at + 8)
+    Some(put_entry(letters, accounts, n, c, account, at + 8))
 }
 
 // A leaf that has been handed its account.
@@ -145,14 +126,14 @@ fn put_leaf(
     letters: &mut [u8],
     accounts: &mut [u8],
     n: usize,
-) -> Entered
+) -> Option<Entered>
     requires { Ready code.now letters.old accounts.old at n }
     ensures { Enters code.now (leaf_tree leaf) account at n
         letters.old accounts.old letters.new accounts.new result }
 {
     match leaf {
-        Leaf::Nothing => Entered { ok: true, at, n },
-        Leaf::Letter(c) => put_entry(letters, accounts, n, c, account, at),
+        Leaf::Nothing => Some(Entered { at, n }),
+        Leaf::Letter(c) => Some(put_entry(letters, accounts, n, c, account, at)),
         Leaf::Range(low, high) => put_range(low, high, account, code, at, letters, accounts, n),
     }
 }
@@ -168,7 +149,7 @@ fn put_entries(
     letters: &mut [u8],
     accounts: &mut [u8],
     n: usize,
-) -> Entered
+) -> Option<Entered>
     requires good { Good table.now × (l < 64) }
     requires ready { Ready code.now letters.old accounts.old at n }
     ensures { Enters code.now (tree_in table.now l) above at n
@@ -179,58 +160,38 @@ fn put_entries(
     match node_at(table, l) {
         Node::Leaf(leaf) => put_leaf(leaf, owner, code, at, letters, accounts, n),
         Node::Sequence(p, q) => {
-            let one = put_entries(table, p as usize, owner, code, at, letters, accounts, n);
-            if !one.ok {
-                return one;
-            }
-            let second = q as usize;
+            let first = usize::from(p);
+            let second = usize::from(q);
+            let one = put_entries(table, first, owner, code, at, letters, accounts, n)?;
             put_entries(table, second, owner, code, one.at, letters, accounts, one.n)
         }
         Node::Alternative(p, q) => {
             if bits_in(code) <= at {
-                return failed();
+                return None;
             }
-            let side = side_at(code, at, p, q) as usize;
+            let side = usize::from(side_at(code, at, p, q));
             put_entries(table, side, owner, code, at + 1, letters, accounts, n)
         }
         Node::Star(again, p) => {
-            let part = p as usize;
+            let part = usize::from(p);
             let end = bits_in(code);
             let mut here = at;
             let mut m = n;
             while here < end {
                 if stops_at(code, here, again) {
-                    return went(here + 1, m);
+                    return Some(Entered { at: here + 1, n: m });
                 }
-                let one = put_entries(table, part, owner, code, here + 1, letters, accounts, m);
-                if !one.ok {
-                    return one;
-                }
+                let one = put_entries(table, part, owner, code, here + 1, letters, accounts, m)?;
                 here = one.at;
                 m = one.n;
             }
-            failed()
+            None
         }
     }
 }
 
-// Whether what is handed in is a whole code, and how many letters it spells.
-#[derive(Clone, Copy)]
-pub struct Measured {
-    pub whole: bool,
-    pub letters: u32,
-}
-
-fn no_measure() -> Measured
-    ensures { result ≡ no_measure }
-{
-    Measured {
-        whole: false,
-        letters: 0,
-    }
-}
-
-// Tests a code of node l and writes its entries in one walk. Where it is no whole code, the slices hold anything.
+// Tests a code of node l and writes its entries in one walk, and answers how many letters it spells; None where it is no whole code, and the
+// slices then hold anything.
 pub fn enter(
     table: &[u64; 64],
     l: usize,
@@ -238,26 +199,20 @@ pub fn enter(
     count: u32,
     letters: &mut [u8],
     accounts: &mut [u8],
-) -> Measured
+) -> Option<u32>
     requires good { Good table.now × (l < 64) }
     requires letters_len_bound { (length letters.old ≤ letter_limit) × (length accounts.old ≤ letter_limit) }
     ensures { Reads code.now (tree_in table.now l) count
         letters.old accounts.old letters.new accounts.new result }
 {
     if !handed_good(code, count) {
-        return no_measure();
+        return None;
     }
-    let entered = put_entries(table, l, 0, code, 0, letters, accounts, 0);
-    if !entered.ok {
-        return no_measure();
-    }
+    let entered = put_entries(table, l, 0, code, 0, letters, accounts, 0)?;
     if entered.at != count {
-        return no_measure();
+        return None;
     }
-    Measured {
-        whole: true,
-        letters: entered.n as u32,
-    }
+    Some(entered.n as u32)
 }
 
 // Tests the table and the code, and lays the code's letters in front of one buffer and their accounts in front of another. Refused, the
@@ -278,10 +233,7 @@ pub fn gather(
     let table = table_of(p);
     let root = p.count - 1;
     let measured = enter(&table, root, code, count, letters, accounts);
-    if !measured.whole {
-        return Err(Refusal::NotACode);
-    }
-    let n = measured.letters as usize;
+    let n = measured.ok_or(Refusal::NotACode)? as usize;
     if Pattern::MAX_LETTERS < n {
         return Err(Refusal::TapeTooLong);
     }

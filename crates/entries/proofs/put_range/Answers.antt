@@ -6,12 +6,12 @@ use Rattle.entries.specs.Entering.{not_entered, one_entered}
 use Rattle.entries.proofs.put_range.Goals as goal
 
 pub returns-then-bits_in-at : goal.returns-then-bits_in-at
-returns-then-bits_in-at c = not_entered refl refl c.failed.ensures (entries_short _ _ _ _ _ (omega (arith, c.if-bits_in-at.true, c.bits_in.ensures)))
+returns-then-bits_in-at c = not_entered refl refl refl (entries_short _ _ _ _ _ (omega (arith, c.if-bits_in-at.true, c.bits_in.ensures)))
 
 pub returns-then-not-in_range : goal.returns-then-not-in_range
 returns-then-not-in_range c =
     let out = sym c.in_range.ensures ∙ c.if-not-in_range.true in
-    not_entered refl refl c.failed-then-not-in_range.ensures
+    not_entered refl refl refl
     (entries_outside _ _ _ _ _ _ (omega (arith, c.if-bits_in-at.false, c.bits_in.ensures)) c.byte_at-c.ensures out)
 
 pub returns : goal.returns
