@@ -13,7 +13,6 @@ use Rattle.refusals.specs.declared.Refusal.TheVariants.{Tree as TreeFault, TapeT
 use Rattle.syntax.specs.Bools.{and_snd}
 use Rattle.syntax.specs.Letter.{is_letter, first_bad, letter_limit}
 use Rattle.refusals.specs.Refusals.{answer, refused}
-use Rattle.refusals.specs.RefusalLaws.{number_positive}
 use Rattle.refusals.specs.Checks.{Check, First, Clear}
 use Rattle.refusals.specs.CheckLaws.{first_answered, first_positive, first_more, clear_success, clear_more}
 use Rattle.refusals.specs.CheckLaws.{clear_both, clear_parts, zero_clear, refused_first}
@@ -35,19 +34,6 @@ use Rattle.walks.specs.WholeLaws.{whole-handed, whole-value, spells}
 use Rattle.parser.specs.Parse.{parsed_answer, early, ReadsGreedily, Parses}
 use Rattle.canonical.specs.Canonicalize.{canonicalized_answer, word_check, settle_order, settle_early, Canonicalizes}
 use Rattle.canonical.specs.Demand.{tape_of}
-
--- ── an answer that is a refusal, and one that is not ──
-pub refusal_flattened : (a : Result ℕ Refusal) (why : Refusal) → a ≡ Err why → 1 ≤ (flattened_answer a).number
-refusal_flattened a why e = subst (λ b. 1 ≤ (flattened_answer b).number) (sym e) (number_positive why)
-
-pub refusal_parsed : (a : Result ℕ Refusal) (why : Refusal) → a ≡ Err why → 1 ≤ (parsed_answer a).number
-refusal_parsed a why e = subst (λ b. 1 ≤ (parsed_answer b).number) (sym e) (number_positive why)
-
-pub letters_no_refusal : (a : Result ℕ Refusal) (n : ℕ) → a ≡ Ok n → 1 ≤ (flattened_answer a).number → ⊥
-letters_no_refusal a n e h = let z : 1 ≤ 0 = subst (λ b. 1 ≤ (flattened_answer b).number) e h in omega arith
-
-pub bits_no_refusal : (a : Result ℕ Refusal) (n : ℕ) → a ≡ Ok n → 1 ≤ (parsed_answer a).number → ⊥
-bits_no_refusal a n e h = let z : 1 ≤ 0 = subst (λ b. 1 ≤ (parsed_answer b).number) e h in omega arith
 
 -- ── a spelling that is not refused ──
 pub record Spelled (p : Pattern) (code : List ℕ) (count size : ℕ) : Type 0 where
@@ -167,12 +153,6 @@ pub laid-room : (p : Pattern) (code : List ℕ) (count : ℕ) (ts us : List ℕ)
 laid-room p code count ts us n l = omega (arith, l.size_is, length-take n us, ap length l.front_is)
 
 -- ── reading it ──
-pub read_bits : (r : Result ℕ Refusal) (n : ℕ) → r ≡ Ok n → canonicalized_answer (Ok n) ≡ parsed_answer r
-read_bits r n e = sym (ap parsed_answer e)
-
-pub read-refused : (r : Result ℕ Refusal) (why : Refusal) → r ≡ Err why → canonicalized_answer (Err why) ≡ parsed_answer r
-read-refused r why e = sym (ap parsed_answer e)
-
 -- reading's checks but the last
 abbrev tape_checks : Pattern → (tape : List ℕ) → List Check
 tape_checks p tape =

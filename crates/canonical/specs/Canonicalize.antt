@@ -1,9 +1,9 @@
 -- Settling a code: the answer and the buffers, for every input. Definitions only.
-use Rattle.std.specs.Prelude.{◌≡◌, List, [], ◌∷◌, ◌++◌, ℕ, ◌+◌, ◌*◌, ◌≤◌, ltb, length, Err, Ok, Result}
+use Rattle.std.specs.Prelude.{◌≡◌, List, [], ◌∷◌, ◌++◌, ℕ, ◌+◌, ◌*◌, ◌≤◌, ltb, length, Result}
 use Rattle.syntax.specs.declared.Pattern.{Pattern}
 use Rattle.refusals.specs.declared.Refusal.{Refusal}
 use Rattle.refusals.specs.declared.Refusal.TheVariants.{WordsTooShort}
-use Rattle.refusals.specs.Refusals.{Answer, answer, refused}
+use Rattle.refusals.specs.Refusals.{Answer, answer, answer_by, refused}
 use Rattle.refusals.specs.Checks.{Check, first_cause}
 use Rattle.syntax.specs.Trees.{root}
 use Rattle.bits.specs.Bits.{in_front}
@@ -13,15 +13,7 @@ use Rattle.codes.specs.Flatten.{flatten_order, flatten_tape}
 use Rattle.parser.specs.Parse.{ReadsGreedily}
 
 abbrev pub canonicalized_answer : Result ℕ Refusal → Answer
-canonicalized_answer (Ok n) = answer 0 n
-canonicalized_answer (Err r) = refused r
-
--- why a stage refused: what settling passes on
-abbrev pub Unspelled : Result ℕ Refusal → Refusal → Type 0
-Unspelled a why = a ≡ Err why
-
-abbrev pub Unread : Result ℕ Refusal → Refusal → Type 0
-Unread a why = a ≡ Err why
+canonicalized_answer = answer_by refused
 
 -- what reading has left to refuse before the sweeps: what a code spells is letters, and at most 3,600 where spelling does not refuse it
 abbrev pub word_check : Pattern → (code : List ℕ) → (count words : ℕ) → List Check

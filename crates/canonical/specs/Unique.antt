@@ -1,11 +1,11 @@
 -- The promise of settling fixes everything: on the same pattern, code and buffers two runs answer the same and leave the same.
-use Rattle.std.specs.Prelude.{◌≡◌, List, ℕ, ◌≤◌, length, Err, Ok, Result}
-use Rattle.std.proofs.Common.{sym, ap, ◌∙◌, arith}
+use Rattle.std.specs.Prelude.{◌≡◌, List, ℕ, ◌≤◌, length, Result}
+use Rattle.std.proofs.Common.{sym, ◌∙◌, arith}
 use Rattle.std.proofs.Math.Decide.{dec_le}
 use Rattle.refusals.specs.declared.Refusal.{Refusal}
 use Rattle.syntax.specs.declared.Pattern.{Pattern}
 use Rattle.refusals.specs.Refusals.{refused}
-use Rattle.refusals.specs.RefusalLaws.{refused_same, number_positive}
+use Rattle.refusals.specs.RefusalLaws.{answer_same, refused_same, number_positive}
 use Rattle.syntax.specs.Trees.{root}
 use Rattle.walks.specs.Whole.{letters_of}
 use Rattle.parser.specs.Unique.{greedily_one}
@@ -13,10 +13,7 @@ use Rattle.canonical.specs.Canonicalize.{canonicalized_answer, settle_early, Can
 
 -- number and value fix the answer
 pub canonicalized_same : (r s : Result ℕ Refusal) → canonicalized_answer r ≡ canonicalized_answer s → r ≡ s
-canonicalized_same (Ok n) (Ok m) e = ap (λ a. Ok a.value) e
-canonicalized_same (Ok n) (Err s) e = let z : 0 ≡ (refused s).number = ap (λ a. a.number) e in absurd (omega (arith, number_positive s))
-canonicalized_same (Err r) (Ok m) e = let z : (refused r).number ≡ 0 = ap (λ a. a.number) e in absurd (omega (arith, number_positive r))
-canonicalized_same (Err r) (Err s) e = ap Err (refused_same r s e)
+canonicalized_same = answer_same refused refused_same number_positive
 
 module _ (p : Pattern) (code : List ℕ) (count : ℕ)
     (tape tape_now tape_too words words_now words_too canonical canonical_now canonical_too : List ℕ) (r s : Result ℕ Refusal) where

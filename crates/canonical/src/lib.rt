@@ -2,38 +2,15 @@
 // The third demand (specs/Demand) rests on the contracts of the two stages and on the theory, never on this text.
 #![tactic(auto)]
 
-ghost use Rattle.std.specs.Prelude.{◌≤◌};
-ghost use Rattle.codes.specs.Flatten.{flattened_answer};
-ghost use Rattle.parser.specs.Parse.{parsed_answer};
-ghost use Rattle.canonical.specs.Canonicalize.{Canonicalizes, Unspelled, Unread};
+ghost use Rattle.canonical.specs.Canonicalize.{Canonicalizes};
 
 use codes::flatten;
 use parser::parse;
 use refusals::Refusal;
 use syntax::Pattern;
 
-// Why a code was not spelled. Nothing but a refusal is handed in, so the `else` is never run.
-fn why_unspelled(answer: Result<u32, Refusal>) -> Refusal
-    requires { 1 ≤ (flattened_answer answer).number }
-    ensures { Unspelled answer result }
-{
-    let Err(why) = answer else {
-        return Refusal::NotACode;
-    };
-    why
-}
-
-// Why a tape was not read. Nothing but a refusal is handed in, so the `else` is never run.
-fn why_unread(answer: Result<u32, Refusal>) -> Refusal
-    requires { 1 ≤ (parsed_answer answer).number }
-    ensures { Unread answer result }
-{
-    let Err(why) = answer else {
-        return Refusal::Unreadable;
-    };
-    why
-}
-
+// Settles a code: the bit count of the settled code, which is written in front of `canonical`, or the first cause in the service's order. The letters
+// come to stand in front of `tape`, and `words` is worked in.
 pub fn canonicalize(
     p: Pattern,
     code: &[u8],
@@ -45,14 +22,6 @@ pub fn canonicalize(
     ensures { Canonicalizes p code.now count tape.old tape.new
         words.old words.new canonical.old canonical.new result }
 {
-    let flattened = flatten(p, code, count, tape);
-    let Ok(n) = flattened else {
-        return Err(why_unspelled(flattened));
-    };
-    let k = n as usize;
-    let read = parse(p, &tape[..k], words, canonical);
-    let Ok(bits) = read else {
-        return Err(why_unread(read));
-    };
-    Ok(bits)
+    let n = flatten(p, code, count, tape)? as usize;
+    parse(p, &tape[..n], words, canonical)
 }

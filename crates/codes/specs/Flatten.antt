@@ -1,10 +1,10 @@
 -- Spelling a code: the answer and the tape, for every input. Definitions only.
-use Rattle.std.specs.Prelude.{◌≡◌, cond, List, [], ◌∷◌, ◌++◌, ℕ, eqb, ltb, length, Err, Ok, Result}
+use Rattle.std.specs.Prelude.{◌≡◌, cond, List, [], ◌∷◌, ◌++◌, ℕ, eqb, ltb, length, Result}
 use Rattle.refusals.specs.declared.Refusal.{Refusal}
 use Rattle.syntax.specs.declared.Pattern.{Pattern}
 use Rattle.refusals.specs.declared.Refusal.TheVariants.{TapeTooShort}
 use Rattle.syntax.specs.Trees.{root}
-use Rattle.refusals.specs.Refusals.{Answer, answer, refused}
+use Rattle.refusals.specs.Refusals.{Answer, answer, answer_by, refused}
 use Rattle.refusals.specs.Checks.{Check, first_cause}
 use Rattle.bits.specs.Bits.{in_front}
 use Rattle.walks.specs.Whole.{letters_of}
@@ -27,8 +27,7 @@ unfoldable pub flatten_tape : Pattern → (code : List ℕ) → (count : ℕ) �
 flatten_tape p code count tape = cond (eqb (flatten_answer p code count (length tape)).number 0) (in_front (letters_of (root p) code count) tape) tape
 
 abbrev pub flattened_answer : Result ℕ Refusal → Answer
-flattened_answer (Ok n) = answer 0 n
-flattened_answer (Err r) = refused r
+flattened_answer = answer_by refused
 
 -- THE PROMISE of spelling, for every table, bytes, count and buffer
 pub record Flattens (p : Pattern) (code : List ℕ) (count : ℕ) (tape tape_now : List ℕ) (r : Result ℕ Refusal) : Type 0 where

@@ -1,18 +1,15 @@
 -- The promise of spelling fixes everything: two outcomes that it allows on one input are the same.
-use Rattle.std.specs.Prelude.{◌≡◌, List, ℕ, Err, Ok, Result}
-use Rattle.std.proofs.Common.{sym, ap, ◌∙◌, arith}
+use Rattle.std.specs.Prelude.{◌≡◌, List, ℕ, Result}
+use Rattle.std.proofs.Common.{sym, ◌∙◌}
 use Rattle.refusals.specs.declared.Refusal.{Refusal}
 use Rattle.syntax.specs.declared.Pattern.{Pattern}
 use Rattle.refusals.specs.Refusals.{refused}
-use Rattle.refusals.specs.RefusalLaws.{refused_same, number_positive}
+use Rattle.refusals.specs.RefusalLaws.{answer_same, refused_same, number_positive}
 use Rattle.codes.specs.Flatten.{flattened_answer, Flattens}
 
 -- number and value fix the answer
 pub flattened_same : (r s : Result ℕ Refusal) → flattened_answer r ≡ flattened_answer s → r ≡ s
-flattened_same (Ok n) (Ok m) e = ap (λ a. Ok a.value) e
-flattened_same (Ok n) (Err s) e = let z : 0 ≡ (refused s).number = ap (λ a. a.number) e in absurd (omega (arith, number_positive s))
-flattened_same (Err r) (Ok m) e = let z : (refused r).number ≡ 0 = ap (λ a. a.number) e in absurd (omega (arith, number_positive r))
-flattened_same (Err r) (Err s) e = ap Err (refused_same r s e)
+flattened_same = answer_same refused refused_same number_positive
 
 module _ (p : Pattern) (code : List ℕ) (count : ℕ) where
   pub flattens_one : (tape tape_now tape_too : List ℕ) (r s : Result ℕ Refusal) → Flattens p code count tape tape_now r

@@ -1,9 +1,9 @@
 -- Reading a tape: the answer and the buffers, for every input. Definitions only.
-use Rattle.std.specs.Prelude.{◌≡◌, Bool, List, [], ◌∷◌, ◌++◌, ℕ, ◌+◌, ◌*◌, ◌≤◌, ◌<◌, ltb, length, Err, Ok, Result}
+use Rattle.std.specs.Prelude.{◌≡◌, Bool, List, [], ◌∷◌, ◌++◌, ℕ, ◌+◌, ◌*◌, ◌≤◌, ◌<◌, ltb, length, Result}
 use Rattle.refusals.specs.declared.Refusal.{Refusal}
 use Rattle.syntax.specs.declared.Pattern.{Pattern}
 use Rattle.refusals.specs.declared.Refusal.TheVariants.{Unreadable, WordsTooShort, CodeTooShort}
-use Rattle.refusals.specs.Refusals.{Answer, answer, refused}
+use Rattle.refusals.specs.Refusals.{Answer, answer, answer_by, refused}
 use Rattle.refusals.specs.Checks.{Check, first_cause}
 use Rattle.checks.specs.TapeOrder.{tape_order}
 use Rattle.syntax.specs.Tree.{Tree}
@@ -14,8 +14,7 @@ use Rattle.semantics.specs.Code.{Canonical}
 use Rattle.steps.specs.StateSets.{words as state_sets}
 
 abbrev pub parsed_answer : Result ℕ Refusal → Answer
-parsed_answer (Ok n) = answer 0 n
-parsed_answer (Err r) = refused r
+parsed_answer = answer_by refused
 
 -- 01: "Reading a tape: 2, 3, 4, 6, 5, 7." The causes before the first sweep, in this order; 5 and 7 are the second sweep's.
 abbrev pub early_order : Pattern → (tape : List ℕ) → (words : ℕ) → List Check

@@ -1,11 +1,11 @@
 -- The promise of reading fixes everything: on the same pattern, tape and buffers two runs answer the same and leave the same.
-use Rattle.std.specs.Prelude.{◌≡◌, refl, Bool, true, false, List, ℕ, ◌≤◌, length, Err, Ok, Result}
-use Rattle.std.proofs.Common.{sym, ap, ◌∙◌, true≢false, arith}
+use Rattle.std.specs.Prelude.{◌≡◌, refl, Bool, true, false, List, ℕ, ◌≤◌, length, Result}
+use Rattle.std.proofs.Common.{sym, ◌∙◌, true≢false, arith}
 use Rattle.std.proofs.Math.Decide.{dec_le}
 use Rattle.refusals.specs.declared.Refusal.{Refusal}
 use Rattle.syntax.specs.declared.Pattern.{Pattern}
 use Rattle.refusals.specs.Refusals.{Answer, refused}
-use Rattle.refusals.specs.RefusalLaws.{refused_same, number_positive}
+use Rattle.refusals.specs.RefusalLaws.{answer_same, refused_same, number_positive}
 use Rattle.syntax.specs.Tree.{Tree}
 use Rattle.syntax.specs.Trees.{root}
 use Rattle.bits.specs.Bits.{cell_count}
@@ -33,10 +33,7 @@ greedily_one t tape xs ys zs a b f g = go (readable t tape) refl
 
 -- number and value fix the answer
 pub parsed_same : (r s : Result ℕ Refusal) → parsed_answer r ≡ parsed_answer s → r ≡ s
-parsed_same (Ok n) (Ok m) e = ap (λ a. Ok a.value) e
-parsed_same (Ok n) (Err s) e = let z : 0 ≡ (refused s).number = ap (λ a. a.number) e in absurd (omega (arith, number_positive s))
-parsed_same (Err r) (Ok m) e = let z : (refused r).number ≡ 0 = ap (λ a. a.number) e in absurd (omega (arith, number_positive r))
-parsed_same (Err r) (Err s) e = ap Err (refused_same r s e)
+parsed_same = answer_same refused refused_same number_positive
 
 pub parses_one : (p : Pattern) (tape words words_now words_too code code_now code_too : List ℕ) (r s : Result ℕ Refusal)
     → Parses p tape words words_now code code_now r → Parses p tape words words_too code code_too s

@@ -1,15 +1,23 @@
 -- A cause is known by its number and value: a refusal, and a cause of an enum that wraps it.
-use Rattle.std.specs.Prelude.{◌≡◌, refl, cond, List, [], ◌∷◌, ℕ, zero, suc, ◌≤◌, eqb}
+use Rattle.std.specs.Prelude.{◌≡◌, refl, cond, List, [], ◌∷◌, ℕ, zero, suc, ◌≤◌, eqb, Result, Ok, Err}
 use Rattle.std.proofs.Common.{sym, ap, ◌∙◌, arith, ne_eqb}
 use Rattle.refusals.specs.declared.Refusal.{Refusal}
 use Rattle.refusals.specs.declared.Refusal.TheVariants.{LineForm, Tree, TapeTooLong, TapeByte, Unreadable, WordsTooShort, CodeTooShort}
 use Rattle.refusals.specs.declared.Refusal.TheVariants.{NotACode, TapeTooShort, NoSuchVisit}
-use Rattle.refusals.specs.Refusals.{number, Answer, refused}
+use Rattle.refusals.specs.Refusals.{number, Answer, answer_by, refused}
 
 -- ── of any causes: number and value tell them apart, where a function takes each cause's number and value back to the cause ──
 pub said_same : {Cause : Type 0} (says : Cause → Answer) (back : Answer → Cause) → ((c : Cause) → back (says c) ≡ c) → (c d : Cause) → says c ≡ says d
     → c ≡ d
 said_same says back known c d e = sym (known c) ∙ ap back e ∙ known d
+
+-- and they fix what a service answers, where 0 is no cause's number
+pub answer_same : {Cause : Type 0} (says : Cause → Answer) → ((c d : Cause) → says c ≡ says d → c ≡ d) → ((c : Cause) → 1 ≤ (says c).number)
+    → (r s : Result ℕ Cause) → answer_by says r ≡ answer_by says s → r ≡ s
+answer_same says same positive (Ok n) (Ok m) e = ap (λ a. Ok a.value) e
+answer_same says same positive (Ok n) (Err d) e = let z : 0 ≡ (says d).number = ap (λ a. a.number) e in absurd (omega (arith, positive d))
+answer_same says same positive (Err c) (Ok m) e = let z : (says c).number ≡ 0 = ap (λ a. a.number) e in absurd (omega (arith, positive c))
+answer_same says same positive (Err c) (Err d) e = ap Err (same c d e)
 
 -- ── of 01's causes ──
 abbrev refusal_of : (number value : ℕ) → Refusal

@@ -1,5 +1,5 @@
 -- Refusals: the number and the value that document 01 gives each cause.
-use Rattle.std.specs.Prelude.{ℕ}
+use Rattle.std.specs.Prelude.{ℕ, Result, Ok, Err}
 use Rattle.refusals.specs.declared.Refusal.{Refusal}
 use Rattle.refusals.specs.declared.Refusal.TheVariants.{LineForm, Tree, TapeTooLong, TapeByte, Unreadable, WordsTooShort, CodeTooShort}
 use Rattle.refusals.specs.declared.Refusal.TheVariants.{NotACode, TapeTooShort, NoSuchVisit}
@@ -40,3 +40,8 @@ answer n v = record { number = n; value = v }
 
 abbrev pub refused : Refusal → Answer
 refused r = answer (number r) (value r)
+
+-- what a service that finds a number or a cause answers; `says` is the number and value of each cause
+abbrev pub answer_by : {Cause : Type 0} → (says : Cause → Answer) → Result ℕ Cause → Answer
+answer_by says (Ok n) = answer 0 n
+answer_by says (Err why) = says why

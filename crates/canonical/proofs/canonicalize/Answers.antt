@@ -1,26 +1,23 @@
 -- `canonical::canonicalize` meets its contract.
-use Rattle.canonical.specs.CanonicalLaws.{laid, laid-room, settle_refused, read_bits, read-refused, settle_read}
-use lib.Seq.{length-take-le}
-use mathlib.Core.Path.{sym}
+use Rattle.std.proofs.Common.{◌≡◌, Err, refl, sym, length-take-le, rules}
+use Rattle.canonical.specs.CanonicalLaws.{Laid, laid, laid-room, settle_refused, settle_read}
 use Rattle.canonical.proofs.canonicalize.Goals as goal
+use Rattle.canonical.proofs.canonicalize.Goals.{In_ok-n}
 
-pub returns-in_default : goal.returns-in_default
-returns-in_default c = settle_refused _ c.args.code.now _ c.args.tape.now _ _ c.flatten-flattened.ensures _ _ _ c.why_unspelled.ensures
+-- the letters are laid
+spelled : (c : In_ok-n) → Laid c.args.p c.args.code.now c.args.count c.args.tape.now c.flatten.new.tape c.in_ok-n.field-0
+spelled c = laid _ _ _ _ _ _ c.in_ok-n.ensures _ refl
+
+pub returns-in_err-n : goal.returns-in_err-n
+returns-in_err-n c =
+    let e : c.from_residual.result ≡ Err c.in_err-n.field-0.0 = search rules in
+    rw e (settle_refused _ _ _ _ _ _ c.in_err-n.ensures _ _ _ refl)
 
 pub slice_bounds-parse-end : goal.slice_bounds-parse-end
-slice_bounds-parse-end c = laid-room _ c.args.code.now _ c.args.tape.now _ _
-    (laid _ c.args.code.now _ c.args.tape.now _ _ c.flatten-flattened.ensures _ c.in-Ok.is)
+slice_bounds-parse-end c = laid-room _ _ _ _ _ _ (spelled c)
 
 pub slice_bounds-parse-end-2 : goal.slice_bounds-parse-end-2
-slice_bounds-parse-end-2 c = sym (length-take-le _ _ (laid-room _ c.args.code.now _ c.args.tape.now _ _
-    (laid _ c.args.code.now _ c.args.tape.now _ _ c.flatten-flattened.ensures _ c.in-Ok.is)))
-
-pub returns-in_default-read : goal.returns-in_default-read
-returns-in_default-read c = settle_read _ c.args.code.now _ c.args.tape.now _ _
-    (laid _ c.args.code.now _ c.args.tape.now _ _ c.flatten-flattened.ensures _ c.in-Ok.is)
-    _ _ _ _ _ c.parse-read.ensures _ (read-refused _ _ c.why_unread.ensures)
+slice_bounds-parse-end-2 c = sym (length-take-le _ _ (laid-room _ _ _ _ _ _ (spelled c)))
 
 pub returns : goal.returns
-returns c = settle_read _ c.args.code.now _ c.args.tape.now _ _
-    (laid _ c.args.code.now _ c.args.tape.now _ _ c.flatten-flattened.ensures _ c.in-Ok.is)
-    _ _ _ _ _ c.parse-read.ensures _ (read_bits _ _ c.in-Ok.is)
+returns c = settle_read _ _ _ _ _ _ (spelled (goal.at.returns c).In_ok-n) _ _ _ _ _ c.parse.ensures _ refl

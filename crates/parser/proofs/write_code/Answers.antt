@@ -1,6 +1,5 @@
 -- `parser::write_code` meets its contract.
-use native.Mathlib.Omega.{arith}
-use Rattle.parser.specs.ParseLaws.{write_short, write_fits}
+use Rattle.parser.specs.ParseLaws.{write_fits}
 use Rattle.parser.proofs.write_code.Goals as goal
 
 pub returns : goal.returns
