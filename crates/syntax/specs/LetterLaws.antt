@@ -1,10 +1,12 @@
 -- Laws of letters, and of the first byte that is none.
-use Rattle.std.specs.Prelude.{◌≡◌, Bool, ◌&&◌, ◌||◌, cond, ◌⊎◌, leb, List, [], ◌∷◌, map, ℕ, zero, suc, ◌+◌, ◌≤◌, ◌<◌, length, get_or, drop}
-use Rattle.std.proofs.Math.Path.{refl, sym, ap}
-use Rattle.std.proofs.Common.{◌∙◌, inl, inr, arith, drop_of_length-le, drop-cons}
+use Rattle.std.specs.Prelude.{◌≡◌, Bool, ◌&&◌, ◌||◌, cond, ◌⊎◌, leb, List, [], ◌∷◌, map, ℕ, zero, suc, ◌+◌, ◌≤◌, ◌<◌, length, get_or, unwrap_or, position, not, ltb, Some, None}
+use Rattle.std.proofs.Math.Path.{refl, sym}
+use Rattle.std.proofs.Common.{◌∙◌, inl, inr, arith, ltb-false}
 use Rattle.std.proofs.Math.Bool.{true, false, and-true}
 use borrow.Author.Tests.{leb-true, le-leb, lt-leb}
-use Rattle.std.proofs.Math.Nat.{add-zero}
+use Rattle.std.specs.List.{position_or_len}
+use Rattle.std.proofs.lemmas.List.Recursion.{is_position_or_len}
+use Rattle.std.proofs.lemmas.List.Sums.{prefix_len-le-length}
 use Rattle.syntax.specs.Letter.{is_letter, in_range, first_bad}
 use Rattle.syntax.specs.Bools.{and_fst, and_snd}
 
@@ -96,36 +98,24 @@ pub across_gap_both : (in_range 126 161 126 ≡ true) × (in_range 126 161 161 �
 unfolding in_range is_letter
 across_gap_both = (refl, refl)
 
--- what is found from position i on is what was to be found
-pub record BadFrom (tape : List ℕ) (i : ℕ) : Type 0 where
-  pub within : i ≤ length tape
-  pub rest : first_bad tape ≡ i + first_bad (drop i tape)
+-- ── the first byte that is no letter ──
+pub first_bad_is : (tape : List ℕ) → first_bad tape ≡ unwrap_or (position (λ c. not (is_letter c)) tape) (length tape)
+unfolding first_bad
+first_bad_is tape =
+    is_position_or_len first_bad bad refl (λ c w. by (is_letter c) w) tape
+    ∙ within (prefix_len-le-length (λ c. not (not (is_letter c))) tape) (ltb (position_or_len bad tape) (length tape)) refl
+  where
+    bad : ℕ → Bool
+    bad c = not (is_letter c)
 
-pub bad-start : (tape : List ℕ) → BadFrom tape 0
-bad-start tape = record { within = omega arith; rest = omega arith }
+    within : position_or_len bad tape ≤ length tape → (b : Bool) → ltb (position_or_len bad tape) (length tape) ≡ b
+        → position_or_len bad tape ≡ unwrap_or (cond b (Some (position_or_len bad tape)) None) (length tape)
+    within l true e = refl
+    within l false e = omega (arith, ltb-false (position_or_len bad tape) (length tape) e)
 
-module _ (tape : List ℕ) (i : ℕ) (s : BadFrom tape i) where
-  pub bad_end : length tape ≤ i → i ≡ first_bad tape
-  unfolding first_bad
-  bad_end h = sym (s.rest ∙ ap (λ w. i + first_bad w) (drop_of_length-le tape h) ∙ add-zero i)
-
-  module _ (l : i < length tape) where
-    next : first_bad tape ≡ i + cond (is_letter (get_or tape i 0)) (suc (first_bad (drop (suc i) tape))) 0
-    unfolding first_bad
-    next = s.rest ∙ ap (λ w. i + first_bad w) (drop-cons tape i 0 l)
-
-    pub bad-here : is_letter (get_or tape i 0) ≡ false → i ≡ first_bad tape
-    bad-here e = sym (next ∙ ap (λ b. i + cond b (suc (first_bad (drop (suc i) tape))) 0) e ∙ add-zero i)
-
-    pub bad_next : is_letter (get_or tape i 0) ≡ true → BadFrom tape (i + 1)
-    bad_next e =
-        let f : first_bad tape ≡ i + suc (first_bad (drop (suc i) tape)) = next ∙ ap (λ b. i + cond b (suc (first_bad (drop (suc i) tape))) 0) e in
-        let g : suc i ≡ i + 1 = omega arith in
-        record {
-          within = omega arith;
-          rest = f ∙ (let k : i + suc (first_bad (drop (suc i) tape)) ≡ i + 1 + first_bad (drop (suc i) tape) = omega arith in k)
-              ∙ ap (λ j. i + 1 + first_bad (drop j tape)) g;
-        }
+    by : (b : Bool) (w : List ℕ) → cond b (suc (first_bad w)) 0 ≡ cond (not b) 0 (1 + first_bad w)
+    by true w = omega arith
+    by false w = refl
 
 -- a tape without such a byte is letters
 pub all_letters : (tape : List ℕ) → length tape ≤ first_bad tape → (i : ℕ) → i < length tape → is_letter (get_or tape i 0) ≡ true

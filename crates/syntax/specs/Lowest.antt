@@ -1,6 +1,9 @@
 -- Laws of the lowest number of which a test holds.
-use Rattle.std.specs.Prelude.{◌≡◌, refl, Bool, true, false, cond, ℕ, zero, suc, ◌+◌, ◌-◌, ◌≤◌, ◌<◌, None, Some}
-use Rattle.std.proofs.Common.{sym, ap, ◌∙◌, arith}
+use Rattle.std.specs.Prelude.{not, ◌&&◌, is_none, take, List, [], ◌∷◌, length, get_or, position, ◌≡◌, refl, Bool, true, false, cond, ℕ, zero, suc, ◌+◌, ◌-◌, ◌≤◌, ◌<◌, None, Some}
+use Rattle.std.specs.List.{position_from, list_all}
+use Rattle.std.proofs.lemmas.Iterator.Adapters.{position_from-zero}
+use Rattle.std.proofs.lemmas.List.{get_or-take}
+use Rattle.std.proofs.Common.{sym, ap, ◌∙◌, arith, length-take-le}
 use Rattle.std.proofs.lemmas.Option.{none-some}
 use Rattle.std.proofs.Math.Decide.{dec_le}
 use Rattle.syntax.specs.Table.{lowest}
@@ -65,3 +68,37 @@ module _ (f : ℕ → Bool) (n i : ℕ) (s : Searched f n i) where
 
   pub searched_on : i < n → f i ≡ false → Searched f n (i + 1)
   searched_on h e = record { within = omega arith; rest = s.rest ∙ lowest_next f i n h e }
+
+-- ── a search of a list: the test of number i + j is that of element j ──
+module _ {X : Type 0} (t : X → Bool) (d : X) where
+  lowest-from : (f : ℕ → Bool) (xs : List X) (i : ℕ) → ((j : ℕ) → j < length xs → f (i + j) ≡ t (get_or xs j d)) → lowest f i (length xs) ≡ position_from t i xs
+  lowest-from f [] i h = refl
+  lowest-from f (x ∷ xs) i h =
+      let e : i + 0 ≡ i = omega arith in
+      let s : suc i ≡ i + 1 = omega arith in
+      let q : f i ≡ t x = ap f (sym e) ∙ h 0 (omega arith) in
+      let r : lowest f (suc i) (length xs) ≡ position_from t (suc i) xs =
+      lowest-from f xs (suc i) (λ j l. (let k : suc i + j ≡ i + suc j = omega arith in ap f k) ∙ h (suc j) (omega arith)) in
+      rw q (ap (cond (t x) (Some i)) (r ∙ ap (λ k. position_from t k xs) s))
+
+  -- in the first n elements
+  pub lowest_position : (f : ℕ → Bool) (xs : List X) (n : ℕ) → n ≤ length xs → ((j : ℕ) → j < n → f j ≡ t (get_or xs j d))
+      → lowest f 0 n ≡ position t (take n xs)
+  lowest_position f xs n l h =
+      let e : length (take n xs) ≡ n = length-take-le n xs l in
+      ap (lowest f 0) (sym e)
+      ∙ lowest-from f (take n xs) 0 (λ j k. let b : j < n = omega arith in (let z : 0 + j ≡ j = omega arith in ap f z) ∙ h j b ∙ ap t (sym (get_or-take n xs j d b)))
+      ∙ sym (position_from-zero t (take n xs))
+
+none_all : {X : Type 0} (t : X → Bool) (xs : List X) (i : ℕ) → is_none (position_from (λ x. not (t x)) i xs) ≡ list_all t xs
+none_all t [] i = refl
+none_all t (x ∷ xs) i = go (t x) (none_all t xs (i + 1))
+  where
+    go : (b : Bool) → is_none (position_from (λ x. not (t x)) (i + 1) xs) ≡ list_all t xs
+        → is_none (cond (not b) (Some i) (position_from (λ x. not (t x)) (i + 1) xs)) ≡ (b && list_all t xs)
+    go true e = e
+    go false e = refl
+
+-- none fails where all pass
+pub none_position : {X : Type 0} (t : X → Bool) (xs : List X) → is_none (position (λ x. not (t x)) xs) ≡ list_all t xs
+none_position t xs = ap is_none (position_from-zero (λ x. not (t x)) xs) ∙ none_all t xs 0

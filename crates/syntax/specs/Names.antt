@@ -1,48 +1,16 @@
 -- Laws of naming: the flags say what the tree rules say.
-use Rattle.std.specs.Prelude.{◌≡◌, Bool, ◌&&◌, ◌||◌, List, [], ◌∷◌, ◌++◌, ℕ, ◌+◌, ◌-◌, ◌≤◌, ◌<◌, eqb, ltb, length, get_or, set, replicate, unwrap_or, Option, None, Some}
+use Rattle.std.specs.Prelude.{◌≡◌, Bool, ◌&&◌, ◌||◌, List, [], ◌∷◌, ◌++◌, ℕ, ◌+◌, ◌-◌, ◌≤◌, ◌<◌, eqb, ltb, length, get_or, set, replicate, Option, None, Some, option_and_then, Ok, Err, position, take}
 use Rattle.std.proofs.Math.Path.{refl, sym, ap}
-use Rattle.std.proofs.Common.{◌∙◌, add-one, arith, lt-ltb, le-ltb, ltb-true, eqb-true, length-set, get_or-set_same, get_or-set_other}
+use Rattle.std.proofs.Common.{◌∙◌, add-one, arith, le-ltb, ltb-true, eqb-true, length-set, get_or-set_same, get_or-set_other}
 use Rattle.std.proofs.Math.Bool.{true, false, not, cond}
-use Rattle.std.proofs.lemmas.Bool.{false≢true, eqb-false}
+use Rattle.std.proofs.lemmas.Bool.{eqb-false}
 use Rattle.std.proofs.Math.Decide.{dec_lt}
-use Rattle.std.proofs.lemmas.List.{get_or-replicate}
+use Rattle.std.proofs.lemmas.List.{get_or-replicate, get_or-take}
 use Rattle.syntax.specs.declared.Pattern.{Pattern}
-use Rattle.syntax.specs.declared.naming.Naming.{Naming}
-use Rattle.syntax.specs.declared.naming.Names.{Names}
-use Rattle.syntax.specs.Table.{node_at, parts, named_below, member, rightly_named, wrongly_names, unnamed, lowest, or_else, tree_fault}
+use Rattle.syntax.specs.Table.{blank, line_at, node_at, parts, named_below, member, rightly_named, wrongly_names, unnamed, tree_fault}
 use Rattle.syntax.specs.Bools.{and_fst}
-use Rattle.syntax.specs.Lowest.{lowest-within, lowest_same, searched_start, searched_end, searched_here, searched_on}
-use Rattle.syntax.specs.Naming.{naming, name_one, name_next, name_all, Flags, NamedSoFar, NamesWrongly, not_flagged, first_unnamed}
-
--- ── one part ──
-module _ (i : ℕ) (m : List Bool) (q : ℕ) where
-  pub one_high : i ≤ q → naming false m ≡ name_one i m q
-  unfolding name_one
-  one_high h = rw (le-ltb q i h)
-
-  pub one_again : q < i → get_or m q false ≡ true → naming false m ≡ name_one i m q
-  unfolding name_one
-  one_again h e = rw (lt-ltb q i h, e)
-
-  pub one_new : q < i → get_or m q false ≡ false → naming true (set m q true) ≡ name_one i m q
-  unfolding name_one
-  one_new h e = rw (lt-ltb q i h, e)
-
-  -- naming one part is naming all of one
-  pub one_all : name_one i m q ≡ name_all i m (q ∷ [])
-  unfolding name_one
-  one_all = go (ltb q i && not (get_or m q false))
-    where
-      go : (b : Bool) → cond b (naming true (set m q true)) (naming false m) ≡ name_next (λ n. naming true n)
-          (cond b (naming true (set m q true)) (naming false m))
-      go true = refl
-      go false = refl
-
-pub next_stop : (f : List Bool → Naming) (r : Naming) → r.ok ≡ false → r ≡ name_next f r
-next_stop f r h = rw h
-
-pub next_on : (f : List Bool → Naming) (r : Naming) → r.ok ≡ true → f r.named ≡ name_next f r
-next_on f r h = rw h
+use Rattle.syntax.specs.Lowest.{lowest_same, searched_start, searched_end, searched_here, searched_on, lowest_position}
+use Rattle.syntax.specs.Naming.{name_one, name_all, Flags, NamedSoFar, NamesWrongly, not_flagged, first_unnamed}
 
 -- ── flags and the places named ──
 flag_set : (m : List Bool) (seen : List ℕ) (q : ℕ) → q < 64 → Flags m seen → Flags (set m q true) (q ∷ seen)
@@ -64,9 +32,10 @@ member_mid j q (x ∷ xs) ys = rw (member_mid j q xs ys) (swap (eqb x j) (eqb q 
     swap true false c = refl
     swap false b c = refl
 
-pub record Told (i : ℕ) (m : List Bool) (seen qs : List ℕ) : Type 0 where
-  pub ok_is : (name_all i m qs).ok ≡ rightly_named i seen qs
-  pub flags : (name_all i m qs).ok ≡ true → Flags (name_all i m qs).named (qs ++ seen)
+-- naming parts one by one finds a wrongly named one where the tree rules do, or else sets the flags of all
+abbrev pub Told : (i : ℕ) → (seen qs : List ℕ) → Option (List Bool) → Type 0
+Told i seen qs None = rightly_named i seen qs ≡ false
+Told i seen qs (Some n) = (rightly_named i seen qs ≡ true) × Flags n (qs ++ seen)
 
 same_test : (i q : ℕ) (m : List Bool) (seen : List ℕ) → i ≤ 64 → Flags m seen → (ltb q i && not (get_or m q false)) ≡ (ltb q i && not (member q seen))
 same_test i q m seen l f = go (dec_lt q i)
@@ -75,94 +44,61 @@ same_test i q m seen l f = go (dec_lt q i)
     go (yes h) = ap (λ b. ltb q i && not b) (f.1 q (omega arith))
     go (no h) = rw (le-ltb q i (omega arith))
 
-pub told : (qs : List ℕ) (i : ℕ) (m : List Bool) (seen : List ℕ) → i ≤ 64 → Flags m seen → Told i m seen qs
+pub told : (qs : List ℕ) (i : ℕ) (m : List Bool) (seen : List ℕ) → i ≤ 64 → Flags m seen → Told i seen qs (name_all i m qs)
 unfolding name_one
-told [] i m seen l f = record { ok_is = refl; flags = λ e. f }
+told [] i m seen l f = (refl, f)
 told (q ∷ qs) i m seen l f = go (ltb q i && not (get_or m q false)) refl (λ n g. told qs i n (q ∷ seen) l g)
   where
-    go : (b : Bool) → (ltb q i && not (get_or m q false)) ≡ b → ((n : List Bool) → Flags n (q ∷ seen) → Told i n (q ∷ seen) qs) → Told i m seen (q ∷ qs)
-    go false e ih =
-        let t : (ltb q i && not (member q seen)) ≡ false = sym (same_test i q m seen l f) ∙ e in
-        record { ok_is = rw (e, t); flags = λ h. absurd (false≢true (rw e at h)) }
+    go : (b : Bool) → (ltb q i && not (get_or m q false)) ≡ b → ((n : List Bool) → Flags n (q ∷ seen) → Told i (q ∷ seen) qs (name_all i n qs))
+        → Told i seen (q ∷ qs) (option_and_then (λ n. name_all i n qs) (cond b (Some (set m q true)) None))
+    go false e ih = let t : (ltb q i && not (member q seen)) ≡ false = sym (same_test i q m seen l f) ∙ e in rw t
     go true e ih =
         let t : (ltb q i && not (member q seen)) ≡ true = sym (same_test i q m seen l f) ∙ e in
         let below : q < i = ltb-true q i (and_fst (ltb q i) (not (get_or m q false)) e) in
-        let g = ih (set m q true) (flag_set m seen q (omega arith) f) in
-        record {
-          ok_is = rw (e, t) g.ok_is;
-          flags = λ h. rw e (moved (name_all i (set m q true) qs).named (g.flags (rw e at h)));
-        }
+        moved t (name_all i (set m q true) qs) (ih (set m q true) (flag_set m seen q (omega arith) f))
       where
-        moved : (n : List Bool) → Flags n (qs ++ (q ∷ seen)) → Flags n (q ∷ (qs ++ seen))
-        moved n s = (s.0, λ j k. s.1 j k ∙ member_mid j q qs seen)
+        moved : (ltb q i && not (member q seen)) ≡ true → (o : Option (List Bool)) → Told i (q ∷ seen) qs o → Told i seen (q ∷ qs) o
+        moved t None s = rw t s
+        moved t (Some n) s = (rw t s.0, (s.1.0, λ j k. s.1.1 j k ∙ member_mid j q qs seen))
 
 -- ── line by line ──
-pub flags_start : Flags (replicate 64 false) []
-flags_start = (refl, λ j h. get_or-replicate 64 j false false h)
+pub names_start : (p : Pattern) → NamedSoFar p (replicate 64 false) 0
+names_start p = record { flags = (refl, λ j h. get_or-replicate 64 j false false h); search = searched_start (wrongly_names p) p.count }
 
 module _ (p : Pattern) (named : List Bool) (i : ℕ) (s : NamedSoFar p named i) where
-  pub names_end : p.count ≤ i → NamesWrongly p (record { line = i; named = named })
+  pub names_end : p.count ≤ i → NamesWrongly p (Ok named)
   names_end h =
       let e : i ≡ p.count = omega (arith, s.search.within) in
-      record {
-        line_is = e ∙ sym (ap (λ o. unwrap_or o p.count) (searched_end (wrongly_names p) p.count i s.search h));
-        flags = λ q. rw e at s.flags;
-      }
+      (searched_end (wrongly_names p) p.count i s.search h, rw e at s.flags)
 
-  module _ (l : i < p.count) (few : p.count ≤ 64) (r : Naming) (e : r ≡ name_all i named (parts (node_at p i))) where
-    verdict : r.ok ≡ not (wrongly_names p i)
+  module _ (l : i < p.count) (few : p.count ≤ 64) where
+    abbrev named_next : Option (List Bool)
+    named_next = name_all i named (parts (get_or (take p.count p.lines) i blank).node)
+
+    tells : Told i (named_below p i) (parts (node_at p i)) named_next
+    tells = let e : get_or (take p.count p.lines) i blank ≡ line_at p i = get_or-take p.count p.lines i blank l in
+        rw e (told (parts (node_at p i)) i named (named_below p i) (omega arith) s.flags)
+
+    pub names_wrong : named_next ≡ None → NamesWrongly p (Err i)
     unfolding wrongly_names
-    verdict = ap (λ x. x.ok) e ∙ (told (parts (node_at p i)) i named (named_below p i) (omega arith) s.flags).ok_is
-        ∙ sym (twice (rightly_named i (named_below p i) (parts (node_at p i))))
-      where
-        twice : (b : Bool) → not (not b) ≡ b
-        twice true = refl
-        twice false = refl
+    names_wrong h = searched_here (wrongly_names p) p.count i s.search l (ap not (rw h at tells))
 
-    pub names_wrong : r.ok ≡ false → NamesWrongly p (record { line = i; named = named })
-    names_wrong h =
-        let w : wrongly_names p i ≡ true = not_is (wrongly_names p i) (sym verdict ∙ h) in
-        record {
-          line_is = sym (ap (λ o. unwrap_or o p.count) (searched_here (wrongly_names p) p.count i s.search l w));
-          flags = λ q. absurd (omega arith);
-        }
-      where
-        not_is : (b : Bool) → not b ≡ false → b ≡ true
-        not_is true h = refl
-        not_is false h = sym h
-
-    pub names_on : r.ok ≡ true → NamedSoFar p r.named (i + 1)
-    names_on h =
-        let w : wrongly_names p i ≡ false = not_is (wrongly_names p i) (sym verdict ∙ h) in
-        let t = told (parts (node_at p i)) i named (named_below p i) (omega arith) s.flags in
-        record {
-          flags = rw (add-one, e) (t.flags (rw e at h));
-          search = searched_on (wrongly_names p) p.count i s.search l w;
-        }
-      where
-        not_is : (b : Bool) → not b ≡ true → b ≡ false
-        not_is true h = sym h
-        not_is false h = refl
-
-pub names_start : (p : Pattern) → NamedSoFar p (replicate 64 false) 0
-names_start p = record { flags = flags_start; search = searched_start (wrongly_names p) p.count }
+    pub names_on : (n : List Bool) → named_next ≡ Some n → NamedSoFar p n (i + 1)
+    unfolding wrongly_names
+    names_on n h =
+        let t : (rightly_named i (named_below p i) (parts (node_at p i)) ≡ true) × Flags n (parts (node_at p i) ++ named_below p i) = rw h at tells in
+        record { flags = rw add-one t.1; search = searched_on (wrongly_names p) p.count i s.search l (ap not t.0) }
 
 -- ── the tree fault ──
-module _ (p : Pattern) (r : Names) (w : NamesWrongly p r) where
-  pub fault_wrong : r.line < p.count → Some r.line ≡ tree_fault p
-  unfolding tree_fault
-  fault_wrong h = go (lowest (wrongly_names p) 0 p.count) w.line_is
-    where
-      go : (o : Option ℕ) → r.line ≡ unwrap_or o p.count → Some r.line ≡ or_else o (lowest (unnamed p) 0 (p.count - 1))
-      go None e = absurd (omega arith)
-      go (Some j) e = ap Some e
+pub first_unnamed_is : (named : List Bool) (count : ℕ) → length named ≡ 64 → count ≤ 64 → first_unnamed named count ≡ position not (take (count - 1) named)
+first_unnamed_is named count l few = lowest_position not false (not_flagged named) named (count - 1) (omega (arith, l)) (λ j h. refl)
 
-  pub fault_unnamed : p.count ≤ 64 → p.count ≤ r.line → first_unnamed r.named p.count ≡ tree_fault p
+module _ (p : Pattern) where
+  pub fault_wrong : (line : ℕ) → NamesWrongly p (Err line) → Some line ≡ tree_fault p
+  unfolding tree_fault
+  fault_wrong line e = rw e
+
+  pub fault_unnamed : (named : List Bool) → NamesWrongly p (Ok named) → p.count ≤ 64 → first_unnamed named p.count ≡ tree_fault p
   unfolding tree_fault unnamed
-  fault_unnamed few h = go (lowest (wrongly_names p) 0 p.count) refl w.line_is
-    where
-      go :
-          (o : Option ℕ) → lowest (wrongly_names p) 0 p.count ≡ o → r.line ≡ unwrap_or o p.count
-          → first_unnamed r.named p.count ≡ or_else o (lowest (unnamed p) 0 (p.count - 1))
-      go None e q = lowest_same (not_flagged r.named) (unnamed p) (p.count - 1) 0 (λ j a b. ap not ((w.flags q).1 j (omega arith)))
-      go (Some j) e q = absurd (omega (arith, lowest-within (wrongly_names p) 0 p.count j e))
+  fault_unnamed named w few =
+      rw w.0 (lowest_same (not_flagged named) (unnamed p) (p.count - 1) 0 (λ j a b. ap not (w.1.1 j (omega arith))))

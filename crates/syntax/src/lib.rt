@@ -73,6 +73,7 @@ impl Pattern {
     pub const LAST_HOT_LETTER: u8 = 254;
 
     // A table of no lines, which obeys no pattern rules: what a refused load gives.
+    #[tactic(auto, unfolding(crate::specs::Table::no_lines))]
     pub fn new() -> Pattern
         ensures { result ≡ no_lines }
     {
@@ -86,64 +87,34 @@ impl Pattern {
 }
 
 // Whether a byte is a letter.
+#[tactic(auto, unfolding(crate::specs::Letter::is_letter))]
 pub fn is_letter(c: u8) -> bool
     ensures { result ≡ is_letter c }
 {
-    if c <= Pattern::LAST_LETTER {
-        return Pattern::FIRST_LETTER <= c;
-    }
-    if c < Pattern::FIRST_HOT_LETTER {
-        return false;
-    }
-    c <= Pattern::LAST_HOT_LETTER
+    matches!(c, Pattern::FIRST_LETTER..=Pattern::LAST_LETTER | Pattern::FIRST_HOT_LETTER..=Pattern::LAST_HOT_LETTER)
 }
 
 // Whether a byte is a letter of a range. A range may run across the gap, so that what lies between its ends is not always a letter.
+#[tactic(auto, unfolding(crate::specs::Letter::in_range))]
 pub fn in_range(low: u8, high: u8, c: u8) -> bool
     ensures { result ≡ in_range low high c }
 {
-    if c < low {
-        return false;
-    }
-    if high < c {
-        return false;
-    }
-    is_letter(c)
+    is_letter(c) && (low..=high).contains(&c)
 }
 
 // The position of the first byte that is no letter, the tape's length where there is none.
 pub fn first_bad(tape: &[u8]) -> usize
     ensures { result ≡ first_bad tape.now }
 {
-    let mut i = 0;
-    loop {
-        if tape.len() <= i {
-            break i;
-        }
-        if !is_letter(tape[i]) {
-            break i;
-        }
-        i += 1;
-    }
+    tape.iter()
+        .position(|c| !is_letter(*c))
+        .unwrap_or(tape.len())
 }
 
 // Whether a table obeys the pattern rules. Nothing at or past its count is looked at.
-#[tactic(auto, using(crate::specs::TableTest::big_count))]
+#[tactic(auto, unfolding(crate::specs::Table::obeys))]
 pub fn obeys_rules(p: Pattern) -> bool
     ensures { result ≡ obeys p }
 {
-    let count = p.count;
-    if count < 1 {
-        return false;
-    }
-    if Pattern::MAX_LINES < count {
-        return false;
-    }
-    if !good_lines(p) {
-        return false;
-    }
-    match tree_fault_of(p) {
-        Some(_) => false,
-        None => true,
-    }
+    (1..=Pattern::MAX_LINES).contains(&p.count) && good_lines(p) && tree_fault_of(p).is_none()
 }

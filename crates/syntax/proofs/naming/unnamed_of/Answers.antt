@@ -1,17 +1,10 @@
 -- `syntax::naming::unnamed_of` meets its contract.
-use native.Mathlib.Omega.{arith}
-use mathlib.Core.Path.{sym}
-use Rattle.syntax.specs.Lowest.{searched_start, searched_end, searched_here, searched_on}
+use Rattle.std.proofs.Common.{rules, tests, sym, ◌∙◌, ◌-◌, arith, take, not}
+use Rattle.std.proofs.lemmas.Iterator.{YieldsList-from_slice}
+use Rattle.std.proofs.lemmas.Iterator.Search.{position_from_yields_List}
+use Rattle.syntax.specs.Names.{first_unnamed_is}
 use Rattle.syntax.proofs.naming.unnamed_of.Goals as goal
 
-pub loop-l-init : goal.loop-l-init
-loop-l-init c = (omega arith, searched_start _ _)
-
-pub loop-l-preserved : goal.loop-l-preserved
-loop-l-preserved c = (omega arith, searched_on _ _ _ c.loop-l.invariant.1 (omega arith) c.if-not-named-l.false-raw)
-
-pub returns-then-count-l : goal.returns-then-count-l
-returns-then-count-l c = sym (searched_end _ _ _ c.loop-l.invariant.1 (omega arith))
-
-pub returns-then-not-named-l : goal.returns-then-not-named-l
-returns-then-not-named-l c = sym (searched_here _ _ _ c.loop-l.invariant.1 (omega arith) c.if-not-named-l.true-raw)
+pub returns : goal.returns
+returns c = position_from_yields_List not _ _ _ c.position.ensures.ran (YieldsList-from_slice (take (c.args.count - 1) c.args.named) cc) (λ x b q k. search (rules, tests))
+    ∙ sym (first_unnamed_is c.args.named c.args.count (omega arith) c.requires)
