@@ -23,9 +23,9 @@ use Rattle.masks.specs.declared.firsts.First.{First}
 use Rattle.masks.specs.Closure.{reach, nowhere, reach-or, reach_none}
 use Rattle.bits.specs.Unions.{pick, pick-bit}
 
--- those of a line, from two arrays
-abbrev pub first_at : List ℕ → List Bool → ℕ → First
-first_at xs ns l = record { leaves = get_or xs l 0; nullable = get_or ns l false }
+-- those of a line, from an array
+abbrev pub first_at : List First → ℕ → First
+first_at fs l = get_or fs l (record { leaves = 0; nullable = false })
 
 abbrev pub leaf_first : (index : ℕ) → Leaf → First
 leaf_first i Nothing = record { leaves = 0; nullable = true }
@@ -55,9 +55,6 @@ pub record FirstOf (t : Tree) (f : First) : Type 0 where
   pub nullable : f.nullable ≡ reach nowhere t true
 
 -- ---- laws
-pub first_same : {x y : ℕ} {u v : Bool} → x ≡ y → u ≡ v → ◌≡◌ {A = First} (record { leaves = x; nullable = u }) (record { leaves = y; nullable = v })
-first_same e f = ap₂ (λ a b. record { leaves = a; nullable = b }) e f
-
 -- what follows counts where the node is nullable
 pub nowhere_through : (t : Tree) (v : Bool) → reach nowhere t v ≡ (reach nowhere t true && v)
 nowhere_through t true = sym (and-true (reach nowhere t true))
@@ -117,60 +114,36 @@ rounds-first_of m again t a f = record {
 }
 
 -- ---- line by line
--- the lines below i, in two arrays
-pub record Firsts (f : ℕ → Line) (i : ℕ) (xs : List ℕ) (ns : List Bool) : Type 0 where
-  pub leaves_long : length xs ≡ 64
-  pub nullable_long : length ns ≡ 64
-  pub right : (l : ℕ) → l < i → FirstOf (tree_of f l) (first_at xs ns l)
-
-pub firsts_start : (f : ℕ → Line) (xs : List ℕ) (ns : List Bool) → length xs ≡ 64 → length ns ≡ 64 → Firsts f 0 xs ns
-firsts_start f xs ns a b = record { leaves_long = a; nullable_long = b; right = λ l h. absurd (omega arith) }
+-- the lines below i, in an array
+pub record Firsts (f : ℕ → Line) (i : ℕ) (fs : List First) : Type 0 where
+  pub long : length fs ≡ 64
+  pub right : (l : ℕ) → l < i → FirstOf (tree_of f l) (first_at fs l)
 
 -- what line i comes to, from the lines below it
-abbrev pub first_here : (f : ℕ → Line) → (i : ℕ) → List ℕ → List Bool → First
-first_here f i xs ns = first_line i (f i).node (first_at xs ns (first_part i (f i).node)) (first_at xs ns (second_part i (f i).node))
+abbrev pub first_here : (f : ℕ → Line) → (i : ℕ) → List First → First
+first_here f i fs = first_line i (f i).node (first_at fs (first_part i (f i).node)) (first_at fs (second_part i (f i).node))
 
 -- as code finds it
-pub first-line-same :
-    {k : Node} {x y : ℕ} {a b r : First} (f : ℕ → Line) (i : ℕ) (xs : List ℕ) (ns : List Bool) → k ≡ (f i).node → x ≡ first_part i k → y ≡ second_part i k
-    → a ≡ first_at xs ns x → b ≡ first_at xs ns y → r ≡ first_line i k a b → r ≡ first_here f i xs ns
-first-line-same {k} f i xs ns e ex ey ea eb er =
-    er ∙ ap₂ (first_line i k) (ea ∙ ap (first_at xs ns) ex) (eb ∙ ap (first_at xs ns) ey)
-    ∙ ap (λ n. first_line i n (first_at xs ns (first_part i n)) (first_at xs ns (second_part i n))) e
-
-pub firsts_end : (f : ℕ → Line) {xs : List ℕ} {ns : List Bool} (i n : ℕ) → i ≡ n → Firsts f i xs ns → Firsts f n xs ns
-firsts_end f {xs} {ns} i n e d = subst (λ k. Firsts f k xs ns) e d
-
-module _ (f : ℕ → Line) (i : ℕ) (below : Below i (f i).node) (xs : List ℕ) (ns : List Bool) (d : Firsts f i xs ns) where
-  first_here_of : FirstOf (tree_of f i) (first_here f i xs ns)
-  first_here_of = subst (λ t. FirstOf t (first_here f i xs ns)) (sym (tree-line f i below)) (go (f i).node below)
+module _ (f : ℕ → Line) (i : ℕ) (below : Below i (f i).node) (fs : List First) (d : Firsts f i fs) where
+  first_here_of : FirstOf (tree_of f i) (first_here f i fs)
+  first_here_of = subst (λ t. FirstOf t (first_here f i fs)) (sym (tree-line f i below)) (go (f i).node below)
     where
-      go :
-          (k : Node) → Below i k → FirstOf (made (label_of f i) (tree_of f) k)
-          (first_line i k (first_at xs ns (first_part i k)) (first_at xs ns (second_part i k)))
+      go : (k : Node) → Below i k → FirstOf (made (label_of f i) (tree_of f) k) (first_line i k (first_at fs (first_part i k)) (first_at fs (second_part i k)))
       go (LeafNode x) b = leaf_first_of (label_of f i) (tree_of f) x
-      go (Sequence x y) b = in_turn_of (label_of f i) (tree_of f x) (tree_of f y) (first_at xs ns x) (first_at xs ns y) (d.right x b.0) (d.right y b.1)
+      go (Sequence x y) b = in_turn_of (label_of f i) (tree_of f x) (tree_of f y) (first_at fs x) (first_at fs y) (d.right x b.0) (d.right y b.1)
       go (Alternative x y) b =
-          either-first_of (label_of f i) (tree_of f x) (tree_of f y) (first_at xs ns x) (first_at xs ns y) (d.right x b.0) (d.right y b.1)
-      go (Star again x) b = rounds-first_of (label_of f i) again (tree_of f x) (first_at xs ns x) (d.right x b)
+          either-first_of (label_of f i) (tree_of f x) (tree_of f y) (first_at fs x) (first_at fs y) (d.right x b.0) (d.right y b.1)
+      go (Star again x) b = rounds-first_of (label_of f i) again (tree_of f x) (first_at fs x) (d.right x b)
 
-  pub firsts_next : (v : First) → i < 64 → v ≡ first_here f i xs ns → Firsts f (i + 1) (set xs i v.leaves) (set ns i v.nullable)
+  pub firsts_next : (v : First) → i < 64 → v ≡ first_here f i fs → Firsts f (i + 1) (set fs i v)
   firsts_next v h e = record {
-    leaves_long = simp length-set d.leaves_long;
-    nullable_long = simp length-set d.nullable_long;
+    long = simp length-set d.long;
     right = λ l k. go l k (dec_lt l i);
   }
     where
-      go : (l : ℕ) → l < i + 1 → Dec (l < i) → FirstOf (tree_of f l) (first_at (set xs i v.leaves) (set ns i v.nullable) l)
-      go l k (yes y) =
-          subst (FirstOf (tree_of f l))
-          (sym (first_same (get_or-set_other xs i l v.leaves 0 (λ x. omega arith)) (get_or-set_other ns i l v.nullable false (λ x. omega arith))))
-          (d.right l y)
+      go : (l : ℕ) → l < i + 1 → Dec (l < i) → FirstOf (tree_of f l) (first_at (set fs i v) l)
+      go l k (yes y) = subst (FirstOf (tree_of f l)) (sym (get_or-set_other fs i l v _ (λ x. omega arith))) (d.right l y)
       go l k (no y) =
           let q : i ≡ l = omega arith in
-          subst (λ x. FirstOf (tree_of f x) (first_at (set xs i v.leaves) (set ns i v.nullable) x)) q
-          (subst (FirstOf (tree_of f i))
-          (sym e
-          ∙ sym (first_same (get_or-set_same xs i v.leaves 0 (omega (arith, d.leaves_long)))
-          (get_or-set_same ns i v.nullable false (omega (arith, d.nullable_long)))))
-          first_here_of)
+          subst (λ x. FirstOf (tree_of f x) (first_at (set fs i v) x)) q
+          (subst (FirstOf (tree_of f i)) (sym e ∙ sym (get_or-set_same fs i v _ (omega (arith, d.long)))) first_here_of)

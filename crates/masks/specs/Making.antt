@@ -1,5 +1,5 @@
 -- The masks that are made of first, nullable and follow are those of the tree.
-use Rattle.std.specs.Prelude.{◌≡◌, Bool, true, false, List, ℕ, ◌-◌, replicate}
+use Rattle.std.specs.Prelude.{◌≡◌, true, false, List, ℕ, ◌-◌, replicate}
 use Rattle.std.proofs.Common.{sym, ap, subst, ◌∙◌}
 use Rattle.std.proofs.lemmas.List.{length-replicate, get_or-replicate}
 use Rattle.syntax.specs.declared.Pattern.{Pattern}
@@ -12,6 +12,8 @@ use Rattle.table.specs.HandDown.{Rooted, rules_rooted}
 use Rattle.masks.specs.Nodes.{Planted}
 use Rattle.masks.specs.Planting.{root_planted}
 use Rattle.masks.specs.Leaves.{takers, letter_cells, letter_cell}
+use Rattle.masks.specs.declared.firsts.First.{First}
+use Rattle.masks.specs.declared.follows.Follow.{Follow}
 use Rattle.masks.specs.Firsts.{Firsts}
 use Rattle.masks.specs.Follows.{Down}
 use Rattle.masks.specs.Masks.{Filled, row, comes_to_end, column, column-says, row_ends, line_takers, line_takers_are, LeafMasks, MasksOf}
@@ -32,15 +34,15 @@ none_marked n = record { long = length-replicate n 0; cells = λ x h. get_or-rep
 
 -- the masks that are made of first, nullable and follow
 pub masks-made :
-    (table : List ℕ) (n : ℕ) → Maskable table n → (xs : List ℕ) (ns : List Bool) (bs : List ℕ) (es : List Bool) (cs ds : List ℕ) (e : ℕ)
-    → Firsts (line_in table) n xs ns → Down (line_in table) n 0 bs es
-    → Filled 0 (column n (row xs ns bs 0)) 64 n cs → Filled 0 (column n (row xs ns bs 1)) 64 n ds
-    → e ≡ word_of n (comes_to_end ns es)
+    (table : List ℕ) (n : ℕ) → Maskable table n → (xs : List First) (ks : List Follow) (cs ds : List ℕ) (e : ℕ)
+    → Firsts (line_in table) n xs → Down (line_in table) n 0 ks
+    → Filled 0 (column n (row xs ks false)) 64 n cs → Filled 0 (column n (row xs ks true)) 64 n ds
+    → e ≡ word_of n (comes_to_end xs ks)
     → LeafMasks (tree_of (line_in table) (n - 1)) n cs ds e
-masks-made table n m xs ns bs es cs ds e u d z o w = record {
-  zeros = λ x h. z.cells x h ∙ column-says m.whole m.once xs ns bs es u d false x;
-  ones = λ x h. o.cells x h ∙ column-says m.whole m.once xs ns bs es u d true x;
-  ends = w ∙ row_ends m.whole m.once xs ns bs es u d;
+masks-made table n m xs ks cs ds e u d z o w = record {
+  zeros = λ x h. z.cells x h ∙ column-says m.whole m.once xs ks u d false x;
+  ones = λ x h. o.cells x h ∙ column-says m.whole m.once xs ks u d true x;
+  ends = w ∙ row_ends m.whole m.once xs ks u d;
 }
 
 -- a table that holds a pattern is such a table, and its masks are the pattern's

@@ -1,9 +1,9 @@
 -- THE MASKS as they are stored.
 use Rattle.std.specs.Prelude.{◌≡◌, Bool, false, ◌&&◌, List, eqb, length, get_or}
 use Rattle.std.proofs.Math.Path.{refl, sym, ap₂}
-use Rattle.std.proofs.Common.{ap, ◌∙◌, arith}
+use Rattle.std.proofs.Common.{ap, ◌∙◌}
 use Rattle.std.proofs.Math.Bool.{true}
-use Prim.Native.Nat.{ℕ, ◌+◌, ◌-◌, ◌*◌, ◌<◌}
+use Prim.Native.Nat.{ℕ, ◌-◌, ◌<◌}
 use Rattle.std.specs.Int.Bits.{bit_or}
 use Rattle.syntax.specs.declared.Leaf.{Leaf}
 use Rattle.syntax.specs.declared.Leaf.TheVariants.{Nothing, Letter, Range}
@@ -13,7 +13,7 @@ use Rattle.syntax.specs.declared.Line.{Line}
 use Rattle.syntax.specs.Letter.{is_letter, in_range}
 use Rattle.syntax.specs.Tree.{Label, Tree, index}
 use Rattle.syntax.specs.Trees.{made, tree_of}
-use Rattle.bits.specs.Bits.{bit, test_bit, word_of}
+use Rattle.bits.specs.Bits.{test_bit, word_of}
 use Rattle.bits.specs.Words.{word_lt, word-bit}
 use Rattle.semantics.specs.Automaton.{Location}
 use Rattle.table.specs.HandDown.{Rooted, label_of, line_made, made_has_index, Given}
@@ -23,7 +23,9 @@ use Rattle.bits.specs.Unions.{pick}
 use Rattle.masks.specs.Planting.{same_node, line-place}
 use Rattle.masks.specs.Leaves.{takes, takers, entry}
 use Rattle.masks.specs.Firsts.{first_at, Firsts, follow-bit, nowhere_through}
-use Rattle.masks.specs.Follows.{follow_at, FollowOf, Down, follow-given}
+use Rattle.masks.specs.declared.firsts.First.{First}
+use Rattle.masks.specs.declared.follows.Follow.{Follow}
+use Rattle.masks.specs.Follows.{follow_at, leaves_of, FollowOf, Down, follow-given}
 
 -- ---- arrays whose cells below i are told by a function
 pub record Filled {A : Type 0} (d : A) (f : ℕ → A) (size i : ℕ) (xs : List A) : Type 0 where
@@ -31,12 +33,12 @@ pub record Filled {A : Type 0} (d : A) (f : ℕ → A) (size i : ℕ) (xs : List
   pub cells : (l : ℕ) → l < i → get_or xs l d ≡ f l
 
 -- ---- rows: for each node the leaves that it reaches with a flag, those of its first and, where it is nullable, those of its follow
-abbrev pub row : (firsts : List ℕ) → (nulls : List Bool) → (follows : List ℕ) → (flag : ℕ) → ℕ → ℕ
-row xs ns ks b l = bit_or (entry xs l) (pick (get_or ns l false) (entry ks (2 * l + b)))
+abbrev pub row : (firsts : List First) → (follows : List Follow) → (flag : Bool) → ℕ → ℕ
+row xs ks b l = bit_or (first_at xs l).leaves (pick (first_at xs l).nullable (leaves_of (follow_at ks l) b))
 
 -- whether a node comes to the end
-abbrev pub comes_to_end : (nulls ends : List Bool) → ℕ → Bool
-comes_to_end ns es l = get_or ns l false && get_or es l false
+abbrev pub comes_to_end : (firsts : List First) → (follows : List Follow) → ℕ → Bool
+comes_to_end xs ks l = (first_at xs l).nullable && (follow_at ks l).end
 
 -- ---- columns: for each leaf the nodes that come to it
 abbrev pub column : (count : ℕ) → (rows : ℕ → ℕ) → (leaf : ℕ) → ℕ
@@ -86,34 +88,35 @@ module _ {f : ℕ → Line} {n : ℕ} (whole : Rooted f n) (good : Planted (tree
       go m u (Star again a) = refl
 
 -- what the masks of leaves are made of
-module _ {f : ℕ → Line} {n : ℕ} (whole : Rooted f n) (good : Planted (tree_of f (n - 1)) n) (xs : List ℕ) (ns : List Bool) (ks : List ℕ) (es : List Bool)
-    (firsts : Firsts f n xs ns) (down : Down f n 0 ks es) where
+module _ {f : ℕ → Line} {n : ℕ} (whole : Rooted f n) (good : Planted (tree_of f (n - 1)) n) (xs : List First) (ks : List Follow)
+    (firsts : Firsts f n xs) (down : Down f n 0 ks) where
   -- what follows a line
-  after : (l : ℕ) → l < n → Given f n (FollowOf (tree_of f (n - 1))) (tree_of f l) (follow_at ks es l)
+  after : (l : ℕ) → l < n → Given f n (FollowOf (tree_of f (n - 1))) (tree_of f l) (follow_at ks l)
   after = follow-given whole down
 
   -- what a node comes to, at the place where what follows it was found; so wherever it stands, since it stands once
   row-reaches :
       (b : Bool) (l y k : ℕ) (h : l < n) → test_bit k y ≡ passes b (eqb y) false (after l h).place
-      → (s : Location (tree_of f (n - 1)) (tree_of f l)) → test_bit (bit_or (entry xs l) (pick (get_or ns l false) k)) y ≡ reaches b (eqb y) false (tree_of f l) s
+      → (s : Location (tree_of f (n - 1)) (tree_of f l))
+      → test_bit (bit_or (first_at xs l).leaves (pick (first_at xs l).nullable k)) y ≡ reaches b (eqb y) false (tree_of f l) s
   row-reaches b l y k h e s =
-      follow-bit (eqb y) (tree_of f l) (first_at xs ns l) k y (passes b (eqb y) false (after l h).place) ((firsts.right l h).leaves y)
+      follow-bit (eqb y) (tree_of f l) (first_at xs l) k y (passes b (eqb y) false (after l h).place) ((firsts.right l h).leaves y)
       (firsts.right l h).nullable e
       ∙ same_node good (reaches b (eqb y) false) (tree_of f l) (tree_of f l) (after l h).place s refl
 
-  follow_says : (b : Bool) (l y : ℕ) (h : l < n) → test_bit (entry ks (2 * l + bit b)) y ≡ passes b (eqb y) false (after l h).place
-  follow_says false l y h = let e : 2 * l + 0 ≡ 2 * l = omega arith in ap (λ x. test_bit (entry ks x) y) e ∙ (after l h).right.zeros y
+  follow_says : (b : Bool) (l y : ℕ) (h : l < n) → test_bit (leaves_of (follow_at ks l) b) y ≡ passes b (eqb y) false (after l h).place
+  follow_says false l y h = (after l h).right.zeros y
   follow_says true l y h = (after l h).right.ones y
 
-  pub column-says : (b : Bool) (x : ℕ) → column n (row xs ns ks (bit b)) x ≡ leaf_mask (tree_of f (n - 1)) n b x
+  pub column-says : (b : Bool) (x : ℕ) → column n (row xs ks b) x ≡ leaf_mask (tree_of f (n - 1)) n b x
   unfolding leaf_mask
   column-says b x =
-      word-by-lines whole good (reaches b (eqb x) false) (λ l. test_bit (row xs ns ks (bit b) l) x)
-      (λ l h s. row-reaches b l x (entry ks (2 * l + bit b)) h (follow_says b l x h) s)
+      word-by-lines whole good (reaches b (eqb x) false) (λ l. test_bit (row xs ks b l) x)
+      (λ l h s. row-reaches b l x (leaves_of (follow_at ks l) b) h (follow_says b l x h) s)
 
-  pub row_ends : word_of n (comes_to_end ns es) ≡ end_mask (tree_of f (n - 1)) n true
+  pub row_ends : word_of n (comes_to_end xs ks) ≡ end_mask (tree_of f (n - 1)) n true
   unfolding end_mask
-  row_ends = word-by-lines whole good (reaches true nowhere true) (comes_to_end ns es) (λ l h s.
+  row_ends = word-by-lines whole good (reaches true nowhere true) (comes_to_end xs ks) (λ l h s.
       ap₂ (λ x z. x && z) (firsts.right l h).nullable (after l h).right.ends
       ∙ sym (nowhere_through (tree_of f l) (passes true nowhere true (after l h).place))
       ∙ same_node good (reaches true nowhere true) (tree_of f l) (tree_of f l) (after l h).place s refl)

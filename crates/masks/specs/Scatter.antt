@@ -1,25 +1,25 @@
 -- Cells to which a line's bit is joined: a set says in which. Masks are made so, line by line.
-use Rattle.std.specs.Prelude.{◌≡◌, refl, Bool, true, false, ◌&&◌, ◌||◌, not, List, ℕ, ◌+◌, ◌-◌, ◌*◌, ◌^◌, ◌≤◌, ◌<◌, min, max, eqb, leb, ltb, length, get_or, set}
-use Rattle.std.proofs.Common.{sym, ap, ap₂, ◌∙◌, arith, pow_pos, length-set, get_or-set_same, get_or-set_other, lt-ltb, le-ltb, le-leb, ne_eqb}
+use Rattle.std.specs.Prelude.{◌≡◌, refl, Bool, true, false, ◌&&◌, ◌||◌, not, List, ℕ, ◌+◌, ◌-◌, ◌*◌, ◌%◌, ◌^◌, ◌≤◌, ◌<◌, min, max, eqb, leb, ltb, length, get_or, set}
+use Rattle.std.proofs.Common.{sym, ap, ap₂, ◌∙◌, arith, length-set, get_or-set_same, get_or-set_other, lt-ltb, le-ltb, le-leb, ne_eqb}
 use Rattle.std.proofs.Math.Bool.{or-false, and-true}
 use Rattle.std.proofs.Math.Decide.{dec_lt}
+use Rattle.std.proofs.Math.Nat.{mod-eq_of_lt}
+use Rattle.std.proofs.Math.Pow.{pow-lt}
+use Rattle.std.specs.Int.{from_bool}
 use Rattle.std.specs.Int.Bits.{bit_or, bit_and}
 use Rattle.std.specs.Int.Count.{count_trailing_zeros}
 use Rattle.std.proofs.lemmas.Bool.{lt-leb}
 use Rattle.syntax.specs.declared.Leaf.{Leaf}
-use Rattle.syntax.specs.declared.Leaf.TheVariants.{Nothing, Letter, Range}
-use Rattle.syntax.specs.declared.Node.{Node}
-use Rattle.syntax.specs.declared.Node.TheVariants.{Leaf as LeafNode}
+use Rattle.syntax.specs.declared.Leaf.TheVariants.{Letter, Range}
 use Rattle.syntax.specs.declared.Line.{Line}
 use Rattle.syntax.specs.LetterLaws.{letter_above, letter_below, from_first, in_gap, upto_last, range_low, range_high, range_between}
 use Rattle.syntax.specs.Letter.{is_letter, in_range}
-use Rattle.syntax.specs.Table.{leaf_good, node_good}
+use Rattle.syntax.specs.Table.{leaf_good}
 use Rattle.bits.specs.Bits.{bit, test_bit, word_of}
-use Rattle.bits.specs.Numbers.{test_small}
 use Rattle.bits.specs.Words.{word-bit, word_past, test_or, test_single}
 use Rattle.semantics.proofs.Basics.{eqb_self, and_fst, and_snd}
 use Rattle.table.specs.HandDown.{equal}
-use Rattle.masks.specs.Leaves.{letter_cells, letter_cell, entry}
+use Rattle.masks.specs.Leaves.{letter_cells, entry}
 use Rattle.bits.specs.Lowest.{same_bits, lowest_lt, lowest_on, lowest_cleared, lowest_out}
 use Rattle.masks.specs.Masks.{Filled, column, leaf_takes, node_takes, line_takers}
 
@@ -36,9 +36,6 @@ pub record Marking (chosen : ℕ → Bool) (i : ℕ) (before : List ℕ) (rest :
       → (test_bit (entry now x) l || (rest x && eqb i l)) ≡ (test_bit (entry before x) l || (chosen x && eqb i l))
 
 module _ (chosen : ℕ → Bool) (i : ℕ) (before : List ℕ) where
-  pub marking_start : Marking chosen i before chosen before
-  marking_start = record { long = refl; together = λ x h l. refl }
-
   pub marking-next :
       (rest next : ℕ → Bool) (now : List ℕ) (x v : ℕ) → x < length before → rest x ≡ true
       → ((y : ℕ) → y < length before → next y ≡ (rest y && not (eqb x y)))
@@ -79,11 +76,13 @@ module _ (chosen : ℕ → Bool) (i : ℕ) (before : List ℕ) where
     bits = λ x h l. sym (or-false (test_bit (entry now x) l)) ∙ ap (λ z. test_bit (entry now x) l || (z && eqb i l)) (sym (n x h)) ∙ m.together x h l;
   }
 
-pub marked_none : (i : ℕ) (cells : List ℕ) → Marked (λ x. false) i cells cells
-marked_none i cells = record { long = refl; bits = λ x h l. sym (or-false (test_bit (entry cells x) l)) }
-
 pub marked_same : (f g : ℕ → Bool) (i : ℕ) (before now : List ℕ) → ((x : ℕ) → f x ≡ g x) → Marked f i before now → Marked g i before now
 marked_same f g i before now e m = record { long = m.long; bits = λ x h l. m.bits x h l ∙ ap (λ z. test_bit (entry before x) l || (z && eqb i l)) (e x) }
+
+-- a line's bit as code makes it: a truth value, shifted
+pub shifted : (i : ℕ) (b : Bool) → i < 64 → (from_bool b * 2 ^ i) % 2 ^ 64 ≡ bit b * 2 ^ i
+shifted i true h = mod-eq_of_lt (omega (arith, pow-lt h))
+shifted i false h = mod-eq_of_lt (omega (arith, pow-lt h))
 
 -- ---- the cells of a row: its bits, the lowest first
 pub record RowLeft (row i : ℕ) (before : List ℕ) (rest : ℕ) (now : List ℕ) : Type 0 where
@@ -91,9 +90,6 @@ pub record RowLeft (row i : ℕ) (before : List ℕ) (rest : ℕ) (now : List �
   pub it : Marking (test_bit row) i before (test_bit rest) now
 
 module _ (row i mark : ℕ) (before : List ℕ) (m : mark ≡ bit true * 2 ^ i) where
-  pub row-start : row < 2 ^ 64 → RowLeft row i before row before
-  row-start h = record { few = h; it = marking_start (test_bit row) i before }
-
   pub row_next :
       (rest : ℕ) (now : List ℕ) (x v : ℕ) → length before ≡ 64 → RowLeft row i before rest now → 1 ≤ rest → x ≡ count_trailing_zeros 64 rest
       → v ≡ bit_or (entry now x) mark
@@ -106,23 +102,12 @@ module _ (row i mark : ℕ) (before : List ℕ) (m : mark ≡ bit true * 2 ^ i) 
         (λ y h. lowest_out 64 rest x one r.few e y (omega arith)) (f ∙ ap (bit_or (entry now x)) m) r.it;
   })
 
-  pub row_end : (rest : ℕ) (now : List ℕ) → rest ≡ 0 → RowLeft row i before rest now → Marked (test_bit row) i before now
-  row_end rest now e r = marking-end (test_bit row) i before (test_bit rest) now (λ x h. ap (λ z. test_bit z x) e ∙ test_small 0 x (pow_pos x)) r.it
-
 -- ---- line by line: each cell has the bits of the lines before i that choose it
 pub record Scattered (f : ℕ → ℕ → Bool) (size i : ℕ) (cells : List ℕ) : Type 0 where
   pub long : length cells ≡ size
   pub bits : (x : ℕ) → x < size → (l : ℕ) → test_bit (entry cells x) l ≡ (ltb l i && f l x)
 
 module _ (f : ℕ → ℕ → Bool) (size : ℕ) where
-  pub scattered_start : (cells : List ℕ) → Filled 0 (λ x. 0) size size cells → Scattered f size 0 cells
-  scattered_start cells z =
-      record {
-        long = z.long;
-        bits = λ x h l. ap (λ k. test_bit k l) (z.cells x h) ∙ test_small 0 l (pow_pos l)
-            ∙ sym (ap (λ k. k && f l x) (le-ltb l 0 (omega arith)));
-      }
-
   pub scattered_next : (i : ℕ) (cells now : List ℕ) → Scattered f size i cells → Marked (f i) i cells now → Scattered f size (i + 1) now
   scattered_next i cells now s m = record {
     long = m.long ∙ s.long;
@@ -267,9 +252,6 @@ range-marked low high cold hot end i before mid now gl gh ec eh m n e =
     marked_same (λ c. between low cold c || between hot high c) (in_range low high) i before now (split-range low high cold hot gl gh ec eh)
     (marked-both (between low cold) (between hot high) i before mid now m (rw e at n))
 
-pub leaf_nothing : (leaf : Leaf) (i : ℕ) (cells : List ℕ) → leaf ≡ Nothing → Marked (leaf_takes leaf) i cells cells
-leaf_nothing leaf i cells e = rw e (marked_none i cells)
-
 pub leaf_letter :
     (leaf : Leaf) (i : ℕ) (before now : List ℕ) (a : ℕ) → leaf ≡ Letter a → Marked (between a a) i before now → Marked (leaf_takes leaf) i before now
 leaf_letter leaf i before now a e m = rw e (marked_same (between a a) (leaf_takes (Letter a)) i before now (letter_between a) m)
@@ -279,40 +261,20 @@ pub leaf_range :
 leaf_range leaf i before now a b e m = rw e (marked_same (in_range a b) (leaf_takes (Range a b)) i before now (λ c. refl) m)
 
 -- the letters of a good leaf have their cells
-pub leaf_cell : (leaf : Leaf) (a : ℕ) → leaf_good leaf ≡ true → leaf ≡ Letter a → a < letter_cells
-leaf_cell leaf a g e = letter_cell a (rw e at g)
-
 -- and a range's ends are letters
 pub range_ends : (leaf : Leaf) (a b : ℕ) → leaf_good leaf ≡ true → leaf ≡ Range a b → (is_letter a ≡ true) × (is_letter b ≡ true)
 range_ends leaf a b g e =
     let h = and_fst (is_letter a && is_letter b) (leb a b) (rw e at g) in
     (and_fst (is_letter a) (is_letter b) h, and_snd (is_letter a) (is_letter b) h)
 
-pub node-leaf :
-    (node : Node) (i : ℕ) (before now : List ℕ) (x : Leaf) → node ≡ LeafNode x → Marked (leaf_takes x) i before now
-    → Marked (node_takes node) i before now
-node-leaf node i before now x e m = rw e m
-
-pub node-leaf_good : (node : Node) (x : Leaf) → node_good node ≡ true → node ≡ LeafNode x → leaf_good x ≡ true
-node-leaf_good node x g e = rw e at g
-
 module _ (f : ℕ → Line) where
   -- the lines that take a letter
   abbrev pub line_takes : (l c : ℕ) → Bool
   line_takes l = node_takes (f l).node
 
-  pub takers-next :
-      (k : Node) (i : ℕ) (cells now : List ℕ) → k ≡ (f i).node → Scattered line_takes letter_cells i cells → Marked (node_takes k) i cells now
-      → Scattered line_takes letter_cells (i + 1) now
-  takers-next k i cells now e s m = scattered_next line_takes letter_cells i cells now s (rw e at m)
-
   pub takers-end :
       (n i : ℕ) (cells : List ℕ) → i ≡ n → Scattered line_takes letter_cells i cells → Filled 0 (λ c. line_takers f c n) letter_cells letter_cells cells
   takers-end n i cells e s = scattered_end line_takes letter_cells n letter_cells cells (omega arith) (rw e at s)
-
-pub columns_next : (rows : ℕ → ℕ) (i w : ℕ) (cells now : List ℕ) → Scattered (λ l. test_bit (rows l)) 64 i cells → w ≡ rows i → Marked (test_bit w) i cells now
-    → Scattered (λ l. test_bit (rows l)) 64 (i + 1) now
-columns_next rows i w cells now s e m = scattered_next (λ l. test_bit (rows l)) 64 i cells now s (rw e at m)
 
 pub columns-end :
     (rows : ℕ → ℕ) (count i : ℕ) (cells : List ℕ) → count ≤ 64 → i ≡ count → Scattered (λ l. test_bit (rows l)) 64 i cells

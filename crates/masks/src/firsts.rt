@@ -3,13 +3,13 @@
 ghost use Rattle.std.specs.Prelude.{◌≡◌, ◌≤◌, ◌<◌, length};
 ghost use Rattle.syntax.specs.TreeLaws.{Below};
 ghost use Rattle.table.specs.Cells.{line_in, node_in, Good};
-ghost use Rattle.masks.specs.Firsts.{first_at, leaf_first, in_turn, either_of, first_line, first_here, Firsts};
+ghost use Rattle.masks.specs.Firsts.{leaf_first, in_turn, either_of, first_line, first_here, Firsts};
 
-use super::word::{both, either, join, single};
+use super::join;
 use syntax::{Leaf, Node};
 use table::{first_part, node_at, second_part};
 
-#[derive(Clone, Copy)]
+#[derive(Clone, Copy, Default)]
 pub struct First {
     pub leaves: u64,
     pub nullable: bool,
@@ -24,12 +24,8 @@ fn leaf_first(leaf: Leaf, i: usize) -> First
             leaves: 0,
             nullable: true,
         },
-        Leaf::Letter(_) => First {
-            leaves: single(i, true),
-            nullable: false,
-        },
-        Leaf::Range(_, _) => First {
-            leaves: single(i, true),
+        Leaf::Letter(_) | Leaf::Range(_, _) => First {
+            leaves: 1 << i,
             nullable: false,
         },
     }
@@ -41,7 +37,7 @@ fn in_turn(a: First, b: First) -> First
 {
     First {
         leaves: join(a.leaves, b.leaves, a.nullable),
-        nullable: both(a.nullable, b.nullable),
+        nullable: a.nullable && b.nullable,
     }
 }
 
@@ -50,7 +46,7 @@ fn either_of(a: First, b: First) -> First
 {
     First {
         leaves: a.leaves | b.leaves,
-        nullable: either(a.nullable, b.nullable),
+        nullable: a.nullable || b.nullable,
     }
 }
 
@@ -70,43 +66,23 @@ fn first_of(node: Node, i: usize, a: First, b: First) -> First
     }
 }
 
-// The first of a line, from the two arrays.
-pub(crate) fn first_at(firsts: &[u64; 64], nullable: &[bool; 64], l: usize) -> First
-    requires { l < 64 }
-    ensures { result ≡ first_at firsts.now nullable.now l }
-{
-    First {
-        leaves: firsts[l],
-        nullable: nullable[l],
-    }
-}
-
 // The first of line i, from those of the lines below it.
-fn line_first(table: &[u64; 64], i: usize, firsts: &[u64; 64], nullable: &[bool; 64]) -> First
+fn line_first(table: &[u64; 64], i: usize, firsts: &[First; 64]) -> First
     requires { (i < 64) × Below i (node_in table.now i) }
-    ensures { result ≡ first_here (line_in table.now) i firsts.now nullable.now }
+    ensures { result ≡ first_here (line_in table.now) i firsts.now }
 {
     let node = node_at(table, i);
-    let a = first_at(firsts, nullable, first_part(node, i));
-    let b = first_at(firsts, nullable, second_part(node, i));
+    let a = firsts[first_part(node, i)];
+    let b = firsts[second_part(node, i)];
     first_of(node, i, a, b)
 }
 
-// The firsts of all lines, into two lent arrays: arrays of structs would be copied at each call.
-pub(crate) fn put_firsts(
-    table: &[u64; 64],
-    count: usize,
-    firsts: &mut [u64; 64],
-    nullable: &mut [bool; 64],
-)
-    requires { (count ≤ 64) × Good table.now × (length firsts.old ≡ 64) × (length nullable.old ≡ 64) }
-    ensures { Firsts (line_in table.now) count firsts.new nullable.new }
+// The firsts of all lines, into a lent array.
+pub(crate) fn put_firsts(table: &[u64; 64], count: usize, firsts: &mut [First; 64])
+    requires { (count ≤ 64) × Good table.now × (length firsts.old ≡ 64) }
+    ensures { Firsts (line_in table.now) count firsts.new }
 {
-    let mut i = 0;
-    while i < count {
-        let first = line_first(table, i, firsts, nullable);
-        firsts[i] = first.leaves;
-        nullable[i] = first.nullable;
-        i += 1;
+    for i in 0..count {
+        firsts[i] = line_first(table, i, firsts);
     }
 }

@@ -8,8 +8,9 @@ ghost use Rattle.masks.specs.Leaves.{letter_cells};
 ghost use Rattle.masks.specs.Masks.{Filled, row, comes_to_end, column, leaf_takes, node_takes, line_takers};
 ghost use Rattle.masks.specs.Scatter.{Marked, between};
 
-use super::LETTER_CELLS;
-use super::word::{both, join, least, most, single};
+use super::firsts::First;
+use super::follows::Follow;
+use super::{LETTER_CELLS, join};
 use syntax::{Leaf, Node, Pattern};
 use table::node_at;
 
@@ -18,12 +19,12 @@ fn put_row(cells: &mut [u64; 64], row: u64, i: usize)
     requires { (i < 64) × (length cells.old ≡ 64) }
     ensures { Marked (test_bit row) i cells.old cells.new }
 {
-    let mark = single(i, true);
+    let mark = 1 << i;
     let mut rest = row;
     while rest != 0 {
-        let x = u64::trailing_zeros(rest) as usize;
-        rest = rest & (rest - 1);
-        cells[x] = cells[x] | mark;
+        let x = rest.trailing_zeros() as usize;
+        rest &= rest - 1;
+        cells[x] |= mark;
     }
 }
 
@@ -31,34 +32,32 @@ fn put_row(cells: &mut [u64; 64], row: u64, i: usize)
 // where it is nullable, to those of its follow with that flag.
 pub(crate) fn put_columns(
     count: usize,
-    firsts: &[u64; 64],
-    nullable: &[bool; 64],
-    follows: &[u64; 128],
-    flag: usize,
+    firsts: &[First; 64],
+    follows: &[Follow; 64],
+    flag: bool,
     cells: &mut [u64; 64],
 )
-    requires { (count ≤ 64) × (flag ≤ 1) × Filled 0 (λ x. 0) 64 64 cells.old }
-    ensures { Filled 0 (column count (row firsts.now nullable.now follows.now flag)) 64 count cells.new }
+    requires { (count ≤ 64) × Filled 0 (λ x. 0) 64 64 cells.old }
+    ensures { Filled 0 (column count (row firsts.now follows.now flag)) 64 count cells.new }
 {
-    let mut i = 0;
-    while i < count {
-        let line = join(firsts[i], follows[2 * i + flag], nullable[i]);
-        put_row(cells, line, i);
-        i += 1;
+    for i in 0..count {
+        let first = firsts[i];
+        put_row(
+            cells,
+            join(first.leaves, follows[i].leaves(flag), first.nullable),
+            i,
+        );
     }
 }
 
 // The nodes that come to the end with flag 1.
-pub(crate) fn ends_of(count: usize, nullable: &[bool; 64], ends: &[bool; 64]) -> u64
+pub(crate) fn ends_of(count: usize, firsts: &[First; 64], follows: &[Follow; 64]) -> u64
     requires { count ≤ 64 }
-    ensures { result ≡ word_of count (comes_to_end nullable.now ends.now) }
+    ensures { result ≡ word_of count (comes_to_end firsts.now follows.now) }
 {
-    let mut word: u64 = 0;
-    let mut i = 0;
-    while i < count {
-        let e = single(i, both(nullable[i], ends[i]));
-        word = e + word;
-        i += 1;
+    let mut word = 0;
+    for i in 0..count {
+        word += u64::from(firsts[i].nullable && follows[i].end) << i;
     }
     word
 }
@@ -68,12 +67,9 @@ fn put_between(cells: &mut [u64; LETTER_CELLS], low: u8, high: u8, i: usize)
     requires { (i < 64) × (high < letter_cells) × (length cells.old ≡ letter_cells) }
     ensures { Marked (between low high) i cells.old cells.new }
 {
-    let mark = single(i, true);
-    let end = high as usize;
-    let mut c = low as usize;
-    while c <= end {
-        cells[c] = cells[c] | mark;
-        c += 1;
+    let mark = 1 << i;
+    for c in usize::from(low)..=usize::from(high) {
+        cells[c] |= mark;
     }
 }
 
@@ -82,8 +78,8 @@ fn put_range(cells: &mut [u64; LETTER_CELLS], low: u8, high: u8, i: usize)
     requires { (i < 64) × (length cells.old ≡ letter_cells) × (is_letter low ≡ true) × (is_letter high ≡ true) }
     ensures { Marked (in_range low high) i cells.old cells.new }
 {
-    let cold = least(high, Pattern::LAST_LETTER);
-    let hot = most(low, Pattern::FIRST_HOT_LETTER);
+    let cold = high.min(Pattern::LAST_LETTER);
+    let hot = low.max(Pattern::FIRST_HOT_LETTER);
     put_between(cells, low, cold, i);
     put_between(cells, hot, high, i);
 }
@@ -106,9 +102,7 @@ fn put_node(cells: &mut [u64; LETTER_CELLS], node: Node, i: usize)
 {
     match node {
         Node::Leaf(leaf) => put_leaf(cells, leaf, i),
-        Node::Sequence(_, _) => {}
-        Node::Alternative(_, _) => {}
-        Node::Star(_, _) => {}
+        Node::Sequence(_, _) | Node::Alternative(_, _) | Node::Star(_, _) => {}
     }
 }
 
@@ -118,10 +112,7 @@ pub fn put_takers(table: &[u64; 64], count: usize, takers: &mut [u64; LETTER_CEL
     requires { (count ≤ 64) × Good table.now × Filled 0 (λ x. 0) letter_cells letter_cells takers.old }
     ensures { Filled 0 (λ c. line_takers (line_in table.now) c count) letter_cells letter_cells takers.new }
 {
-    let mut i = 0;
-    while i < count {
-        let node = node_at(table, i);
-        put_node(takers, node, i);
-        i += 1;
+    for i in 0..count {
+        put_node(takers, node_at(table, i), i);
     }
 }

@@ -6,7 +6,4 @@ use Rattle.masks.specs.Follows.{Down}
 use Rattle.masks.proofs.follows.put_follows.Given as goal
 
 abbrev pub invariant-loop-i : goal.invariant-loop-i
-invariant-loop-i l = Rooted (line_in l.table) l.count × Firsts (line_in l.table) l.count l.firsts l.nullable × Down (line_in l.table) l.count l.i l.follows l.ends
-
-abbrev pub decreases-loop-i : goal.decreases-loop-i
-decreases-loop-i l = l.i
+invariant-loop-i l = Rooted (line_in l.table) l.count × Firsts (line_in l.table) l.count l.firsts × Down (line_in l.table) l.count l.i l.follows

@@ -1,12 +1,8 @@
 -- `masks::scatter::put_columns` meets its contract.
-use Prim.Native.Nat.{◌≤◌, ◌-◌}
 use Rattle.bits.specs.Bits.{test_bit}
 use Rattle.masks.specs.Masks.{row}
 use Rattle.masks.specs.Scatter.{Scattered}
 use Rattle.masks.proofs.scatter.put_columns.Given as goal
 
 abbrev pub invariant-loop-i : goal.invariant-loop-i
-invariant-loop-i l = (l.i ≤ l.count) × Scattered (λ k. test_bit (row l.firsts l.nullable l.follows l.flag k)) 64 l.i l.cells
-
-abbrev pub decreases-loop-i : goal.decreases-loop-i
-decreases-loop-i l = l.count - l.i
+invariant-loop-i l = Scattered (λ k. test_bit (row l.firsts l.follows l.flag k)) 64 l.i l.cells
