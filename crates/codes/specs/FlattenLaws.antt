@@ -1,11 +1,10 @@
 -- Spelling a whole code: one law for each way of the service.
-use Rattle.std.specs.Prelude.{◌≡◌, refl, true, false, List, ◌++◌, ℕ, suc, ◌+◌, ◌≤◌, ◌<◌, length, drop, get_or, set, Err, Ok}
+use Rattle.std.specs.Prelude.{◌≡◌, true, false, List, ◌++◌, ℕ, ◌+◌, ◌-◌, ◌≤◌, ◌<◌, length, take, drop, Option, Some, None, Err, Ok}
 use Rattle.std.proofs.Math.Path.{sym, ap}
-use Rattle.std.proofs.Common.{ap₂, subst, ◌∙◌, arith, length-set, take_at}
+use Rattle.std.proofs.Common.{ap₂, subst, ◌∙◌, arith, take_at}
 use Rattle.std.proofs.Math.Bool.{cond}
 use Rattle.std.proofs.Math.Dec.{eqb}
 use borrow.Author.Tests.{lt-ltb, le-ltb, ne_eqb}
-use Rattle.std.proofs.Math.Seq.{paste, paste-zero, paste-suc}
 use Rattle.syntax.specs.declared.Pattern.{Pattern}
 use Rattle.refusals.specs.declared.Refusal.{Refusal}
 use Rattle.refusals.specs.declared.Refusal.TheVariants.{Tree as TreeFault, TapeTooLong, NotACode, TapeTooShort}
@@ -17,42 +16,13 @@ use Rattle.refusals.specs.RefusalLaws.{number_positive}
 use Rattle.refusals.specs.Checks.{First, here, Clear}
 use Rattle.refusals.specs.CheckLaws.{first_more, first_behind, clear_both, first_answered, clear_success}
 use Rattle.bits.specs.Bits.{in_front}
+use Rattle.table.specs.Cells.{tree_in, Holds}
 use Rattle.walks.specs.Whole.{whole_code, letters_of}
 use Rattle.codes.specs.Flatten.{room_check, flatten_order, flatten_answer, flatten_tape, Flattens}
-use Rattle.entries.specs.declared.Measured.{Measured}
 use Rattle.entries.specs.Measures.{Reads, measured_no, measured_yes, measured-letters}
 use Rattle.entries.specs.WholeLaws.{letters-front}
+use Rattle.entries.specs.GatherLaws.{reads-root}
 use Rattle.entries.specs.CodeOrder.{code_order, Sound, first_2, first_8, first_3, sound_clear}
-
--- ── the loop that copies: i letters are in front of what the tape held ──
-pub record Copied (own old now : List ℕ) (n i : ℕ) : Type 0 where
-  pub low : i ≤ n
-  pub size : length now ≡ length old
-  pub holds : now ≡ paste old 0 own i
-
-pub copied_none : (own old : List ℕ) (n : ℕ) → Copied own old old n 0
-copied_none own old n = record { low = omega arith; size = refl; holds = paste-zero old 0 own }
-
-module _ {own old now : List ℕ} {n i : ℕ} (k : Copied own old now n i) where
-  pub copied_one : n ≤ length own → n ≤ length old → i < n → Copied own old (set now i (get_or own i 0)) n (i + 1)
-  copied_one a b h =
-      let j : suc i ≡ i + 1 = omega arith in
-      let z : i ≡ 0 + i = omega arith in
-      record {
-        low = omega arith;
-        size = length-set now i (get_or own i 0) ∙ k.size;
-        holds = ap₂ (λ xs at. set xs at (get_or own i 0)) k.holds z ∙ paste-suc old 0 own i 0 (omega arith) (omega arith) ∙ ap (paste old 0 own) j;
-      }
-
-  pub copied_all : n ≤ i → now ≡ paste old 0 own n
-  copied_all h = let e : i ≡ n = omega (arith, k.low) in k.holds ∙ ap (paste old 0 own) e
-
--- the letters in front of the one buffer come to stand in front of the other
-paste_front : (new rest old : List ℕ) (n : ℕ) → length new ≡ n → paste old 0 (in_front new rest) n ≡ in_front new old
-unfolding in_front
-paste_front new rest old n e =
-    let z : 0 + n ≡ length new = omega arith in
-    ap₂ (λ xs k. xs ++ drop k old) (take_at new (drop (length new) rest) n e) z
 
 -- ── 9, behind the causes of a code ──
 module _ (p : Pattern) (code : List ℕ) (count : ℕ) (s : Sound p code count) (size : ℕ) where
@@ -91,40 +61,45 @@ module _ (p : Pattern) (code : List ℕ) (count : ℕ) (tape : List ℕ) where
   pub flatten_bad : obeys p ≡ false → Flattens p code count tape tape (Err (TreeFault 0))
   flatten_bad o = flatten_no_code (TreeFault 0) (first_2 p code count o)
 
-  module _ (o : obeys p ≡ true) {own ys own' ys' : List ℕ} {m : Measured} (k : Reads code (root p) count own ys own' ys' m) where
-    pub flatten_not : m.whole ≡ false → Flattens p code count tape tape (Err NotACode)
+  module _ (o : obeys p ≡ true) {table : List ℕ} (held : Holds p table) {own ys own' ys' : List ℕ} {m : Option ℕ}
+      (w : Reads code (tree_in table (p.count - 1)) count own ys own' ys' m) where
+    k : Reads code (root p) count own ys own' ys' m
+    k = reads-root p table o held w
+
+    pub flatten_not : m ≡ None → Flattens p code count tape tape (Err NotACode)
     flatten_not f = flatten_no_code NotACode (first_8 p code count o (measured_no (root p) code count m k.is f))
 
-    module _ (f : m.whole ≡ true) where
+    module _ {n : ℕ} (f : m ≡ Some n) where
       whole : whole_code (root p) code count ≡ true
-      whole = measured_yes (root p) code count m k.is f
+      whole = measured_yes (root p) code count m k.is n f
 
-      pub flatten_long : letter_limit < m.letters → Flattens p code count tape tape (Err TapeTooLong)
+      pub flatten_long : letter_limit < n → Flattens p code count tape tape (Err TapeTooLong)
       flatten_long h =
-          let n = measured-letters (root p) code count m k.is f in
+          let e = measured-letters (root p) code count m k.is n f in
           flatten_no_code TapeTooLong (first_3 p code count o whole (omega arith))
 
-      module _ (h : m.letters ≤ letter_limit) where
-        exactly : length (letters_of (root p) code count) ≡ m.letters
-        exactly = let n = measured-letters (root p) code count m k.is f in omega arith
+      module _ (h : n ≤ letter_limit) where
+        exactly : length (letters_of (root p) code count) ≡ n
+        exactly = let e = measured-letters (root p) code count m k.is n f in omega arith
 
         sound : Sound p code count
         sound = record { good = o; whole = whole; few = omega (arith, exactly) }
 
-        pub flatten_short : length tape < m.letters → Flattens p code count tape tape (Err (TapeTooShort m.letters))
+        pub flatten_short : length tape < n → Flattens p code count tape tape (Err (TapeTooShort n))
         flatten_short g =
             subst (λ l. Flattens p code count tape tape (Err (TapeTooShort l))) exactly
             (flatten_refused (TapeTooShort (length (letters_of (root p) code count))) (first_9 p code count sound (length tape) (omega (arith, exactly))))
 
-        pub flatten_done : m.letters ≤ length tape → length own ≡ letter_limit → {tape' : List ℕ} → tape' ≡ paste tape 0 own' m.letters
-            → Flattens p code count tape tape' (Ok m.letters)
-        unfolding flatten_answer
-        flatten_done g long e =
+        pub flatten_done : n ≤ length tape → length own ≡ letter_limit → (front : List ℕ) → front ≡ take n own'
+            → Flattens p code count tape (front ++ drop n tape) (Ok n)
+        unfolding flatten_answer in_front
+        flatten_done g long front e =
             let clear = flatten_clear p code count sound (length tape) (omega (arith, exactly)) in
-            let new = letters-front (root p) code count whole (k.wrote f) (omega (arith, exactly)) in
+            let new = letters-front (root p) code count whole (k.wrote n f) (omega (arith, exactly)) in
             record {
               answers = ap (answer 0) (sym exactly)
                   ∙ sym (clear_success (flatten_order p code count (length tape)) (answer 0 (length (letters_of (root p) code count))) clear);
-              leaves = e ∙ ap (λ l. paste tape 0 l m.letters) new ∙ paste_front (letters_of (root p) code count) own tape m.letters exactly
+              leaves = ap₂ (λ l i. l ++ drop i tape) (e ∙ ap (take n) new
+                  ∙ take_at (letters_of (root p) code count) (drop (length (letters_of (root p) code count)) own) n exactly) (sym exactly)
                   ∙ sym (flatten_fills clear);
             }

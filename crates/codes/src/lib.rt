@@ -8,12 +8,7 @@ ghost use Rattle.table.specs.Cells.{Good, tree_in};
 ghost use Rattle.codes.specs.Spells.{code_of_tape};
 ghost use Rattle.codes.specs.Flatten.{Flattens};
 
-mod compare; // compare.rt: whether a buffer begins with a tape
-mod front; // front.rt: copying a buffer's first letters
-
-use compare::begins;
 use entries::enter;
-use front::put_front;
 use refusals::Refusal;
 use syntax::{Pattern, obeys_rules};
 use table::table_of;
@@ -24,20 +19,16 @@ pub fn spells(table: &[u64; 64], l: usize, code: &[u8], count: u32, tape: &[u8])
     requires l_bound { (l < 64) × (length tape.now ≤ letter_limit) }
     ensures { result ≡ code_of_tape (tree_in table.now l) tape.now code.now count }
 {
-    let mut own = [0u8; Pattern::MAX_LETTERS];
-    let mut accounts = [0u8; 0];
-    let measured = enter(table, l, code, count, &mut own, &mut accounts);
-    if !measured.whole {
+    let mut own = [0; Pattern::MAX_LETTERS];
+    let Some(letters) = enter(table, l, code, count, &mut own, &mut []) else {
         return false;
-    }
-    if measured.letters as usize != tape.len() {
-        return false;
-    }
-    begins(&own, tape)
+    };
+    letters as usize == tape.len() && own.starts_with(tape)
 }
 
-// Spells a code: its letters in front of the tape, copied there once they are known to fit. It does not begin with `gather` of entries, whose
-// tests it makes: as so short a function it was compiled into settling, which then held its array while it parsed, for 3,632 bytes of stack more.
+// Spells a code, and answers how many letters: they come to stand in front of the tape, copied there once they are known to fit. It does not begin
+// with `gather` of entries, whose tests it makes: as so short a function it was compiled into settling, which then held its array while it parsed,
+// for 3,632 bytes of stack more.
 pub fn flatten(p: Pattern, code: &[u8], count: u32, tape: &mut [u8]) -> Result<u32, Refusal>
     ensures { Flattens p code.now count tape.old tape.new result }
 {
@@ -46,19 +37,16 @@ pub fn flatten(p: Pattern, code: &[u8], count: u32, tape: &mut [u8]) -> Result<u
     }
     let table = table_of(p);
     let root = p.count - 1;
-    let mut own = [0u8; Pattern::MAX_LETTERS];
-    let mut accounts = [0u8; 0];
-    let measured = enter(&table, root, code, count, &mut own, &mut accounts);
-    if !measured.whole {
-        return Err(Refusal::NotACode);
-    }
-    let letters = measured.letters as usize;
-    if Pattern::MAX_LETTERS < letters {
+    let mut own = [0; Pattern::MAX_LETTERS];
+    let measured = enter(&table, root, code, count, &mut own, &mut []);
+    let letters = measured.ok_or(Refusal::NotACode)?;
+    let n = letters as usize;
+    if Pattern::MAX_LETTERS < n {
         return Err(Refusal::TapeTooLong);
     }
-    if tape.len() < letters {
-        return Err(Refusal::TapeTooShort(measured.letters));
+    if tape.len() < n {
+        return Err(Refusal::TapeTooShort(letters));
     }
-    put_front(&own, letters, tape);
-    Ok(measured.letters)
+    tape[..n].copy_from_slice(&own[..n]);
+    Ok(letters)
 }
