@@ -11,19 +11,13 @@ ghost use Rattle.binary.specs.Bits.{bit, test_bit, bits_of, bit_at, number_at, c
 
 use syntax::Pattern;
 
-fn wide(x: u8) -> u32
-    ensures { (result ≡ x) × (result < 256) }
-{
-    x as u32
-}
-
 // The r highest bits of a byte, the others 0.
 fn high_bits(x: u8, r: u32) -> u8
     requires { r ≤ 8 }
     ensures { result ≡ high_bits 8 r x }
 {
     let s = 8 - r;
-    ((wide(x) >> s) << s) as u8
+    ((u32::from(x) >> s) << s) as u8
 }
 
 // Bit i of a code.
@@ -45,7 +39,7 @@ pub fn byte_at(code: &[u8], i: u32) -> u8
     if r == 0 {
         return code[q];
     }
-    let both = wide(code[q]) * 256 + wide(code[q + 1]);
+    let both = u32::from(code[q]) * 256 + u32::from(code[q + 1]);
     ((both >> (8 - r)) % 256) as u8
 }
 
@@ -57,7 +51,7 @@ pub fn set_bit(code: &mut [u8], i: u32, value: bool)
     let q = (i / 8) as usize;
     let r = i % 8;
     let kept = high_bits(code[q], r);
-    code[q] = kept | (bit_value(value) << (7 - r));
+    code[q] = kept | (u8::from(value) << (7 - r));
 }
 
 // The eight bits from bit i on set to a number, and the bits after them in their byte 0.
@@ -76,45 +70,29 @@ pub fn set_byte(code: &mut [u8], i: u32, value: u8)
     code[q + 1] = value << (8 - r);
 }
 
-fn bit_value(b: bool) -> u8
-    ensures { result ≡ bit b }
-{
-    if b { 1 } else { 0 }
-}
-
 // How many bytes so many bits need.
 pub fn bytes_for(count: u32) -> usize
     ensures { result ≡ cell_count 8 count }
 {
-    (count as usize + 7) / 8
+    (count as usize).div_ceil(8)
 }
 
 // Whether bytes and a bit count can be a code at all: exactly enough bytes, at most 65,536, and the unused bits 0.
-#[tactic(auto, using(binary::specs::Handed::handed_over))]
 pub fn handed_good(code: &[u8], count: u32) -> bool
     ensures { result ≡ handed_good code.now count }
 {
-    let n = code.len();
-    if n > Pattern::MAX_CODE_BYTES {
-        return false;
-    }
-    if n != bytes_for(count) {
-        return false;
-    }
-    let r = count % 8;
-    if r == 0 {
-        return true;
-    }
     let q = (count / 8) as usize;
-    let x = code[q];
-    high_bits(x, r) == x
+    let r = count % 8;
+    code.len() <= Pattern::MAX_CODE_BYTES
+        && code.len() == bytes_for(count)
+        && (r == 0 || high_bits(code[q], r) == code[q])
 }
 
 // How many nodes are open in a state set: the language's count of ones.
 pub fn open_nodes(word: u64) -> u32
     ensures { result ≡ count_below 64 (test_bit word) }
 {
-    u64::count_ones(word)
+    word.count_ones()
 }
 
 // Whether node l is open at position i with the flag: bit l of the flag's word of the position. A buffer of state sets holds two words a
@@ -123,8 +101,5 @@ pub fn is_open(words: &[u64], i: usize, taken: bool, l: usize) -> bool
     requires { (2 * i + 1 < length words.now) × (l < 64) }
     ensures { result ≡ test_bit (get_or words.now (2 * i + bit taken) 0) l }
 {
-    if taken {
-        return (words[2 * i + 1] >> l) % 2 == 1;
-    }
-    (words[2 * i] >> l) % 2 == 1
+    (words[2 * i + usize::from(taken)] >> l) % 2 == 1
 }

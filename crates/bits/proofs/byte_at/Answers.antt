@@ -12,7 +12,7 @@ returns-then-r-eq0 c = sym (number_at-whole 8 c.args.code.now (λ k. (c.type_inv
 pub returns : goal.returns
 returns c = let xs = c.args.code.now in
     let i = c.args.i in
-    let first : c.wide.result ≡ get_or xs (i / 8) 0 = c.wide.ensures.0 in
-    let second : c.wide-2.result ≡ get_or xs (i / 8 + 1) 0 = c.wide-2.ensures.0 in
+    let first : c.from.result ≡ get_or xs (i / 8) 0 = c.from.ensures in
+    let second : c.from-2.result ≡ get_or xs (i / 8 + 1) 0 = c.from-2.ensures in
     ap₂ (λ x y. (x * 256 + y) / 2 ^ (8 - i % 8) % 256) first second
     ∙ sym (number_at-parts 8 xs (λ k. (c.type_inv.code k).fits) i (omega arith) (omega arith))

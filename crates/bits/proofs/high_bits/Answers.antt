@@ -5,9 +5,5 @@ use Rattle.binary.specs.Bits.{high_bits}
 use Rattle.binary.specs.Writing.{high_shift, high_le}
 use Rattle.bits.proofs.high_bits.Goals as goal
 
-pub overflow_cast-result : goal.overflow_cast-result
-overflow_cast-result c = let h = high_shift 8 32 c.args.r c.wide.result (omega arith) (omega arith) in
-    omega (arith, high_le 8 c.args.r c.wide.result)
-
 pub returns : goal.returns
-returns c = high_shift 8 32 c.args.r c.wide.result (omega arith) (omega arith) ∙ ap (high_bits 8 c.args.r) c.wide.ensures.0
+returns c = high_shift 8 32 c.args.r c.from.result (omega arith) (omega arith) ∙ ap (high_bits 8 c.args.r) c.from.ensures

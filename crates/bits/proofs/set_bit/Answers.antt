@@ -13,5 +13,5 @@ pub returns : goal.returns
 returns c = let xs = c.args.code.now in
     let i = c.args.i in
     let kept : c.high_bits-kept.result ≡ high_bits 8 (i % 8) (get_or xs (i / 8) 0) = c.high_bits-kept.ensures in
-    ap₂ (λ h v. set xs (i / 8) (bit_or h ((v * 2 ^ (7 - i % 8)) % 256))) kept c.bit_value.ensures
+    ap₂ (λ h v. set xs (i / 8) (bit_or h ((v * 2 ^ (7 - i % 8)) % 256))) kept c.from.ensures
     ∙ sym (write-bit 8 xs (λ k. search rules) i (omega arith) (omega arith) c.args.value)

@@ -12,9 +12,6 @@ pub returns-then-r-eq0 : goal.returns-then-r-eq0
 returns-then-r-eq0 c = sym (write-whole 8 c.args.code.now (λ k. search rules) c.args.i (omega arith) (omega arith) (omega arith)
     c.args.value c.ranges.value.fits)
 
-pub bounds-code-q-4 : goal.bounds-code-q-4
-bounds-code-q-4 c = simp length-set (omega arith)
-
 pub returns : goal.returns
 returns c = let i = c.args.i in
     let v = c.args.value in
