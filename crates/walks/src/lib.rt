@@ -21,6 +21,5 @@ pub fn stops_at(code: &[u8], at: u32, again: bool) -> bool
     requires { at < 8 * length code.now }
     ensures { result ≡ stops again (bit_at 8 code.now at) }
 {
-    let bit = bit_at(code, at);
-    if again { !bit } else { bit }
+    bit_at(code, at) != again
 }

@@ -19,7 +19,7 @@ returns-then-r-eq0 c =
     elim c.if-code-le-MAX_CODE_BYTES.branch [
       | then-code-le-MAX_CODE_BYTES w ↦
           let exact = eqb-true _ _ (sym w.value-is ∙ c.if-code-bytes_for.true) ∙ w.bytes_for.ensures in
-          eq-eqb _ _ c.if-r-eq0.true ∙ sym (handed-within xs n w.if-code-le-MAX_CODE_BYTES.true ∙ exact-whole 8 xs n (omega arith) exact c.if-r-eq0.true)
+          eq-eqb _ _ c.if-r-eq0.true ∙ sym (handed-within xs n (omega (arith, w.if-code-le-MAX_CODE_BYTES.true)) ∙ exact-whole 8 xs n (omega arith) exact c.if-r-eq0.true)
       | else-code-le-MAX_CODE_BYTES w ↦ absurd (omega (arith, w.if-code-le-MAX_CODE_BYTES.false, leb-true _ _ (sym w.value-is ∙ c.if-code-bytes_for.true)))
     ]
 
@@ -32,7 +32,7 @@ returns-else-r-eq0 c =
       | then-code-le-MAX_CODE_BYTES w ↦
           let exact = eqb-true _ _ (sym w.value-is ∙ c.if-code-bytes_for.true) ∙ w.bytes_for.ensures in
           ap (λ h. eqb h (get_or xs (n / 8) 0)) kept
-          ∙ sym (handed-within xs n w.if-code-le-MAX_CODE_BYTES.true ∙ exact_begun 8 xs n (omega arith) exact c.if-r-eq0.false)
+          ∙ sym (handed-within xs n (omega (arith, w.if-code-le-MAX_CODE_BYTES.true)) ∙ exact_begun 8 xs n (omega arith) exact c.if-r-eq0.false)
       | else-code-le-MAX_CODE_BYTES w ↦ absurd (omega (arith, w.if-code-le-MAX_CODE_BYTES.false, leb-true _ _ (sym w.value-is ∙ c.if-code-bytes_for.true)))
     ]
 
@@ -43,6 +43,6 @@ returns-else-code-bytes_for c =
     elim c.if-code-le-MAX_CODE_BYTES.branch [
       | then-code-le-MAX_CODE_BYTES w ↦
           let wrong = exact_wrong 8 xs n (λ e. eqb-false _ _ (sym w.value-is ∙ c.if-code-bytes_for.false) (e ∙ sym w.bytes_for.ensures)) in
-          c.if-code-bytes_for.false ∙ sym (handed-within xs n w.if-code-le-MAX_CODE_BYTES.true ∙ wrong)
-      | else-code-le-MAX_CODE_BYTES w ↦ c.if-code-bytes_for.false ∙ sym (handed_over xs n w.if-code-le-MAX_CODE_BYTES.false)
+          c.if-code-bytes_for.false ∙ sym (handed-within xs n (omega (arith, w.if-code-le-MAX_CODE_BYTES.true)) ∙ wrong)
+      | else-code-le-MAX_CODE_BYTES w ↦ c.if-code-bytes_for.false ∙ sym (handed_over xs n (omega (arith, w.if-code-le-MAX_CODE_BYTES.false)))
     ]
