@@ -2,7 +2,7 @@
 use Rattle.std.specs.Prelude.{◌≡◌, refl, Bool, true, false, ◌&&◌, ◌||◌, cond, List, [], ◌∷◌, ◌++◌, ℕ, ◌+◌, ◌*◌, ◌≤◌, ◌<◌, eqb, get_or, drop}
 use Rattle.std.proofs.Common.{sym, subst, ◌∙◌, true≢false, add-zero, arith, length-append, length-drop, drop-drop, get_or-drop}
 use Rattle.std.proofs.Math.Path.{ap, ap₂}
-use Rattle.std.proofs.Math.Bool.{not, or-true, or-false}
+use Rattle.std.proofs.Math.Bool.{not}
 use Rattle.std.proofs.Math.Decide.{dec_le}
 use borrow.Author.Tests.{le-leb, lt-leb, le-ltb, lt-ltb}
 use Rattle.std.proofs.Math.ListN.{length}
@@ -49,23 +49,6 @@ chose o left v p q at xs ys e f w = record {
 }
 
 -- ── whether a star goes on ──
-module _ (above b : Bool) where
-  pub passes_taken : b ≡ true → true ≡ (not above || b)
-  passes_taken h = rw h (sym (or-true (not above)))
-
-  pub passes_else : b ≡ false → {r : Bool} → r ≡ above → not r ≡ (not above || b)
-  passes_else h e = rw h (ap not e ∙ sym (or-false (not above)))
-
--- the flag behind a part, where it was not set before
-pub flag_else : (b x : Bool) → b ≡ false → {r : Bool} → r ≡ x → r ≡ (b || x)
-flag_else b x h e = rw h e
-
-pub not-ended : (b x : Bool) → b ≡ false → false ≡ (b && x)
-not-ended b x h = rw h
-
-pub ended : (b x : Bool) → b ≡ true → x ≡ (b && x)
-ended b x h = rw h
-
 module _ (table ws : List ℕ) (n l i : ℕ) (b : Bool) where
   -- a star above is not stepped to before the round has taken a letter
   pub stop_shut : {g : Bool} → g ≡ (not (loops_in table l) || b) → g ≡ false → false ≡ may_stop table ws n l i b

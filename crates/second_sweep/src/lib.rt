@@ -16,7 +16,9 @@ use bits::{is_open, set_bit, set_byte};
 use syntax::{Leaf, Node};
 use table::{follower_at, loops_at, node_at};
 
-// The number of the end as a follower (crate table).
+// The number of the end as a follower.
+// Kept: crate table packs followers as numbers of states, nodes from 0 on and then the end, and its contract and the promises of the first sweep
+// (`state_index`, `open_next`) speak of these numbers.
 const END: usize = 64;
 
 // The bit behind the bits written, and the position behind the letters read.
@@ -56,8 +58,7 @@ fn sweep_leaf(leaf: Leaf, tape: &[u8], i: u16, code: &mut [u8], at: u32) -> Swep
         Leaf::Nothing => Swept { position: i, at },
         Leaf::Letter(_) => Swept { position: next, at },
         Leaf::Range(_, _) => {
-            let here = i as usize;
-            put_letter(code, at, tape[here]);
+            put_letter(code, at, tape[i as usize]);
             Swept {
                 position: next,
                 at: at + 8,
@@ -66,21 +67,12 @@ fn sweep_leaf(leaf: Leaf, tape: &[u8], i: u16, code: &mut [u8], at: u32) -> Swep
     }
 }
 
-// Whether node l is open at position i with the flag. The index of a word, up to 7,201, is computed from the position as a usize.
-fn open_at(words: &[u64], i: u16, taken: bool, l: usize) -> bool
-    requires { (2 * i + 1 < length words.now) × (l < 64) }
-    ensures { result ≡ is_open words.now i taken l }
-{
-    let here = i as usize;
-    is_open(words, here, taken, l)
-}
-
 // Writes which side of an alternative is read, and gives it: the left one where it can be.
 fn choose(words: &[u64], i: u16, taken: bool, p: u8, q: u8, code: &mut [u8], at: u32) -> u8
     requires { (2 * i + 1 < length words.now) × (p < 64) × (at ≤ code_limit) }
     ensures { Chooses (is_open words.now i taken p) p q at code.old code.new result }
 {
-    let left = open_at(words, i, taken, p as usize);
+    let left = is_open(words, i as usize, taken, p as usize);
     put_bit(code, at, !left);
     if left { p } else { q }
 }
@@ -90,20 +82,14 @@ fn passes(table: &[u64; 64], l: usize, flag: bool) -> bool
     requires { l < 64 }
     ensures { result ≡ (not (loops_in table.now l) || flag) }
 {
-    if flag {
-        return true;
-    }
-    !loops_at(table, l)
+    flag || !loops_at(table, l)
 }
 
 // The end accepts behind the last letter, with flag 1.
 fn ends(i: u16, size: u16, flag: bool) -> bool
     ensures { result ≡ (flag && eqb i size) }
 {
-    if !flag {
-        return false;
-    }
-    i == size
+    flag && i == size
 }
 
 // Whether what follows node l can be read from position i on. A star's own bit in the state sets does not tell: it is set, too, where
@@ -116,10 +102,11 @@ fn may_stop(table: &[u64; 64], words: &[u64], size: u16, l: usize, i: u16, flag:
         return false;
     }
     let follower = follower_at(table, l) as usize;
-    if END <= follower {
-        return ends(i, size, flag);
+    if follower < END {
+        is_open(words, i as usize, flag, follower)
+    } else {
+        ends(i, size, flag)
     }
-    open_at(words, i, flag, follower)
 }
 
 // Whether a star takes another round of its part p. The greedy one does wherever a round can be read, the lazy one only where it must.
@@ -137,9 +124,10 @@ fn goes_on(
     ensures { result ≡ goes_on table.now words.now size l i flag again p }
 {
     if again {
-        return !may_stop(table, words, size, l, i, flag);
+        !may_stop(table, words, size, l, i, flag)
+    } else {
+        is_open(words, i as usize, false, p as usize)
     }
-    open_at(words, i, false, p as usize)
 }
 
 // Writes that a star ends at position i: the other bit than that of another round.
@@ -158,10 +146,7 @@ fn stop(i: u16, code: &mut [u8], at: u32, again: bool) -> Swept
 fn flag_behind(taken: bool, from: u16, to: u16) -> bool
     ensures { result ≡ (taken || ltb from to) }
 {
-    if taken {
-        return true;
-    }
-    from < to
+    taken || from < to
 }
 
 // Reads node l from position i on and writes its bits from bit `at` on, by calls for its parts. `taken` is the flag. Rounds are a loop, so
@@ -183,9 +168,7 @@ pub fn sweep(
     let mut here: Swept;
     let mut flag = taken;
     let last = match node_at(table, l) {
-        Node::Leaf(leaf) => {
-            return sweep_leaf(leaf, tape, i, code, at);
-        }
+        Node::Leaf(leaf) => return sweep_leaf(leaf, tape, i, code, at),
         Node::Sequence(p, q) => {
             here = sweep(table, words, tape, p as usize, i, taken, code, at);
             flag = flag_behind(taken, i, here.position);

@@ -3,7 +3,6 @@ use mathlib.Core.List.{[], ◌∷◌}
 use native.Mathlib.Omega.{arith}
 use mathlib.Core.Path.{◌∙◌}
 use Rattle.second_sweep.specs.SweepLaws.{put_fits, put-not}
-use borrow.Author.Rules.{rules}
 use Rattle.second_sweep.proofs.put_bit.Goals as goal
 
 pub returns-then-at-code : goal.returns-then-at-code

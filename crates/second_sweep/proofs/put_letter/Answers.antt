@@ -4,7 +4,6 @@ use Rattle.bits.specs.Bits.{bits_of}
 use native.Mathlib.Omega.{arith}
 use mathlib.Core.Path.{◌∙◌}
 use Rattle.second_sweep.specs.SweepLaws.{put_fits, put-not}
-use borrow.Author.Rules.{rules}
 use Rattle.second_sweep.proofs.put_letter.Goals as goal
 
 pub returns-then-at-code : goal.returns-then-at-code
