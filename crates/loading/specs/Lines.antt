@@ -1,23 +1,23 @@
 -- Laws of reading a text line by line.
 use Rattle.std.proofs.Math.Path.{◌≡◌, refl, ap}
 use Rattle.std.proofs.Common.{sym, ap₂, ◌∙◌, arith, length-set, length-drop, take-append-drop, take-suc-set, drop-set-lt, drop-cons, drop-drop}
-use Rattle.std.specs.Prelude.{Bool, eqb, ltb, get_or, set}
+use Rattle.std.specs.Prelude.{Bool, eqb, ltb, get_or, set, Option, None, Some, Result, Ok, Err}
+use Rattle.std.proofs.lemmas.Option.{some_pair_parts, none-some}
 use Rattle.std.proofs.Math.Bool.{true, false, cond}
 use Rattle.std.proofs.lemmas.Bool.{false≢true}
 use mathlib.Core.List.{List, [], ◌∷◌, ◌++◌, append_assoc, append-nil}
-use Rattle.std.proofs.Math.Option.{Option, none, some}
 use Prim.Native.Nat.{ℕ, suc, ◌+◌, ◌-◌, ◌≤◌, ◌<◌}
 use borrow.Author.Tests.{lt-ltb, le-ltb}
 use Rattle.std.proofs.Math.ListN.{length, take, drop, replicate, drop_of_length-le}
 use Rattle.std.proofs.Math.Seq.{length-take-le}
 use Rattle.syntax.specs.declared.Line.{Line}
 use Rattle.syntax.specs.declared.Pattern.{Pattern}
-use Rattle.scanning.specs.declared.Scanned.{Scanned}
-use Rattle.scanning.specs.declared.Scanned.TheVariants.{Line as ScanLine, Fault as NoLine}
+use Rattle.refusals.specs.declared.Refusal.TheVariants.{LineForm}
+use Rattle.refusals.specs.declared.Refusal.{Refusal}
 use Rattle.fields.specs.Text.{Row, byte_front, row_front, rows, line_of, row_line, Forms, good, fault, line_front, forms}
 use Rattle.syntax.specs.Table.{blank, table, no_lines}
 use Rattle.scanning.specs.Scans.{first_fields, first_closed, first_size, scan_of, scan_by, scanned}
-use Rattle.loading.specs.ReadLines.{ReadsLines, lines_front, ReadSoFar}
+use Rattle.loading.specs.ReadLines.{read_as, lines_front, ReadSoFar}
 
 -- ── the first line of a text ──
 abbrev first_row : List ℕ → Row
@@ -60,29 +60,30 @@ closed-inside (b ∷ bs) h = go (eqb b 10) (closed-inside bs) h
 
 -- ── the scan of a line and the line ──
 module _ (i at : ℕ) (w : List ℕ) where
-  pub scan_says_none : NoLine ≡ scanned i at w → row_line i (first_row w) ≡ none
+  pub scan_says_none : None ≡ scanned i at w → row_line i (first_row w) ≡ None
   unfolding scan_by row_line
   scan_says_none e = go (first_closed w) (line_of i (first_fields w)) e
     where
-      go : (c : Bool) (o : Option Line) → NoLine ≡ cond c (scan_of o (at + suc (first_size w))) NoLine → cond c o none ≡ none
-      go true none e = refl
-      go true (some x) e = absurd (let z : ◌≡◌ {A = ℕ} 0 1 = (cc) in omega arith)
+      go : (c : Bool) (o : Option Line) → None ≡ cond c (scan_of o (at + suc (first_size w))) None → cond c o None ≡ None
+      go true None e = refl
+      go true (Some x) e = absurd (none-some (x, at + suc (first_size w)) e)
       go false o e = refl
 
   pub record Found (x : Line) (next : ℕ) : Type 0 where
-    pub line_is : row_line i (first_row w) ≡ some x
+    pub line_is : row_line i (first_row w) ≡ Some x
     pub next_is : next ≡ at + suc (first_size w)
     pub inside : suc (first_size w) ≤ length w
 
-  pub scan_says-line : (x : Line) (next : ℕ) → ScanLine x next ≡ scanned i at w → Found x next
+  pub scan_says-line : (x : Line) (next : ℕ) → Some (x, next) ≡ scanned i at w → Found x next
   unfolding scan_by row_line
   scan_says-line x next e = go (first_closed w) refl (line_of i (first_fields w)) refl e
     where
       go : (c : Bool) → first_closed w ≡ c → (o : Option Line) → line_of i (first_fields w) ≡ o
-          → ScanLine x next ≡ cond c (scan_of o (at + suc (first_size w))) NoLine → Found x next
-      go true q none p e = absurd (let z : ◌≡◌ {A = ℕ} 0 1 = (cc) in omega arith)
-      go true q (some y) p e = let s : x ≡ y = (cc) in record { line_is = rw (q, p, s); next_is = (cc); inside = closed-inside w q }
-      go false q o p e = absurd (let z : ◌≡◌ {A = ℕ} 0 1 = (cc) in omega arith)
+          → Some (x, next) ≡ cond c (scan_of o (at + suc (first_size w))) None → Found x next
+      go true q None p e = absurd (none-some (x, next) (sym e))
+      go true q (Some y) p e = let s = some_pair_parts x y next (at + suc (first_size w)) e in
+          record { line_is = rw (q, p, s.0); next_is = s.1; inside = closed-inside w q }
+      go false q o p e = absurd (none-some (x, next) (sym e))
 
 -- ── reading on ──
 forms_first : (i : ℕ) (w : List ℕ) → 1 ≤ length w
@@ -95,7 +96,7 @@ front-nothing : (f : Forms) → f ≡ lines_front [] f
 front-nothing (good ys) = refl
 front-nothing (fault j) = refl
 
-front_twice : (xs : List Line) (x : Line) (i : ℕ) (f : Forms) → lines_front xs (line_front i (some x) f) ≡ lines_front (xs ++ (x ∷ [])) f
+front_twice : (xs : List Line) (x : Line) (i : ℕ) (f : Forms) → lines_front xs (line_front i (Some x) f) ≡ lines_front (xs ++ (x ∷ [])) f
 front_twice xs x i (good ys) = ap good (sym (append_assoc xs (x ∷ []) ys))
 front_twice xs x i (fault j) = refl
 
@@ -110,14 +111,14 @@ read-start text = record {
 }
 
 module _ (text : List ℕ) (p : Pattern) (at : ℕ) (s : ReadSoFar text p at) where
-  pub read_end : length text ≤ at → ReadsLines text (record { pattern = p; fault = 65 })
-  unfolding ReadsLines rows forms table
+  pub read_end : length text ≤ at → Ok p ≡ read_as (forms 0 (rows text))
+  unfolding rows forms table
   read_end h =
       let d : drop at text ≡ [] = drop_of_length-le text h in
       let e : forms 0 (rows text) ≡ good (take p.count p.lines ++ []) =
       s.rest ∙ ap (λ w. lines_front (take p.count p.lines) (forms p.count (rows w))) d in
       let n : length (take p.count p.lines) ≡ p.count = length-take-le p.count p.lines (omega (arith, s.few, s.size)) in
-      rw (e, append-nil) (refl, same n)
+      rw (e, append-nil) (ap Ok (same n))
     where
       same : length (take p.count p.lines) ≡ p.count → let xs = take p.count p.lines in
           p ≡ record { count = length xs; lines = xs ++ replicate (64 - length xs) blank }
@@ -130,20 +131,18 @@ module _ (text : List ℕ) (p : Pattern) (at : ℕ) (s : ReadSoFar text p at) wh
         (forms (suc p.count) (rows (drop (suc (first_size (drop at text))) (drop at text))))) (fault 64))
     on = s.rest ∙ ap (lines_front (take p.count p.lines)) (forms_first p.count (drop at text) (rw length-drop (omega arith)))
 
-    pub read_many : 64 ≤ p.count → ReadsLines text (record { pattern = p; fault = 64 })
-    unfolding ReadsLines
+    pub read_many : 64 ≤ p.count → Err (LineForm 64) ≡ read_as (forms 0 (rows text))
     read_many h = rw (on, le-ltb p.count 64 h) refl
 
-    module _ (few : p.count < 64) (r : Scanned) (e : r ≡ scanned p.count at (drop at text)) where
-      pub read_fault : r ≡ NoLine → ReadsLines text (record { pattern = p; fault = p.count })
-      unfolding ReadsLines
+    module _ (few : p.count < 64) (r : Option (Line × ℕ)) (e : r ≡ scanned p.count at (drop at text)) where
+      pub read_fault : r ≡ None → Err (LineForm p.count) ≡ read_as (forms 0 (rows text))
       read_fault h = rw (on, lt-ltb p.count 64 few, scan_says_none p.count at (drop at text) (sym h ∙ e)) refl
 
       -- the position moves on
-      pub read-less : (x : Line) (next : ℕ) → r ≡ ScanLine x next → at < next
+      pub read-less : (x : Line) (next : ℕ) → r ≡ Some (x, next) → at < next
       read-less x next h = let f = scan_says-line p.count at (drop at text) x next (sym h ∙ e) in omega (arith, f.next_is)
 
-      pub read_on : (x : Line) (next : ℕ) → r ≡ ScanLine x next → ReadSoFar text (record { count = p.count + 1; lines = set p.lines p.count x }) next
+      pub read_on : (x : Line) (next : ℕ) → r ≡ Some (x, next) → ReadSoFar text (record { count = p.count + 1; lines = set p.lines p.count x }) next
       read_on x next h =
           let f = scan_says-line p.count at (drop at text) x next (sym h ∙ e) in
           let n = simp length-drop at f.inside in

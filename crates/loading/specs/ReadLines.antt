@@ -1,17 +1,16 @@
 -- Reading the lines of a text: what is known line by line.
-use Rattle.std.specs.Prelude.{◌≡◌, List, [], ◌++◌, ℕ, ◌-◌, ◌≤◌, length, take, drop, replicate}
+use Rattle.std.specs.Prelude.{◌≡◌, List, [], ◌++◌, ℕ, ◌-◌, ◌≤◌, length, take, drop, replicate, Result, Ok, Err}
 use Rattle.syntax.specs.declared.Line.{Line}
 use Rattle.syntax.specs.declared.Pattern.{Pattern}
-use Rattle.loading.specs.declared.lines.Read.{Read}
+use Rattle.refusals.specs.declared.Refusal.{Refusal}
+use Rattle.refusals.specs.declared.Refusal.TheVariants.{LineForm}
 use Rattle.fields.specs.Text.{rows, Forms, good, fault, forms}
 use Rattle.syntax.specs.Table.{blank, table}
 
-abbrev pub read_as : Forms → Read → Type 0
-read_as (good xs) r = (r.fault ≡ 65) × (r.pattern ≡ table xs)
-read_as (fault j) r = r.fault ≡ j
-
-unfoldable pub ReadsLines : (text : List ℕ) → Read → Type 0
-ReadsLines text r = read_as (forms 0 (rows text)) r
+-- the table of the lines of a text, or the first form fault
+abbrev pub read_as : Forms → Result Pattern Refusal
+read_as (good xs) = Ok (table xs)
+read_as (fault j) = Err (LineForm j)
 
 -- lines in front of what is read later
 abbrev pub lines_front : List Line → Forms → Forms

@@ -1,39 +1,29 @@
 // The lines of a pattern text, read once from front to back.
-ghost use Rattle.loading.specs.ReadLines.{ReadsLines};
+ghost use Rattle.std.specs.Prelude.{◌≡◌};
+ghost use Rattle.fields.specs.Text.{forms, rows};
+ghost use Rattle.loading.specs.ReadLines.{read_as};
 
-use scanning::{Scanned, scan_line};
+use refusals::Refusal;
+use scanning::scan_line;
 use syntax::Pattern;
 
-// Stands for the line of a fault where there is none: no line is reported past `Pattern::MAX_LINES`.
-const NO_FAULT: usize = Pattern::MAX_LINES + 1;
-
-// The table of the lines before the first form fault, and that fault's line.
-#[derive(Clone, Copy)]
-pub struct Read {
-    pub pattern: Pattern,
-    pub fault: usize,
-}
-
-pub(crate) fn read_lines(text: &[u8]) -> Read
-    ensures { ReadsLines text.now result }
+// The table of a text's lines, or the first form fault.
+pub(crate) fn read_lines(text: &[u8]) -> Result<Pattern, Refusal>
+    ensures { result ≡ read_as (forms 0 (rows text.now)) }
 {
     let mut p = Pattern::new();
     let mut at = 0;
-    let fault = loop {
-        if text.len() <= at {
-            break NO_FAULT;
-        }
+    while at < text.len() {
         let i = p.count;
-        if Pattern::MAX_LINES <= i {
-            break Pattern::MAX_LINES;
+        if i == Pattern::MAX_LINES {
+            return Err(Refusal::LineForm(Pattern::MAX_LINES as u32));
         }
-        let scanned = scan_line(text, at, i);
-        let Scanned::Line(line, next) = scanned else {
-            break i;
+        let Some((line, next)) = scan_line(text, at, i) else {
+            return Err(Refusal::LineForm(i as u32));
         };
         p.lines[i] = line;
         p.count = i + 1;
         at = next;
-    };
-    Read { pattern: p, fault }
+    }
+    Ok(p)
 }

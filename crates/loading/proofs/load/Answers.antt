@@ -1,29 +1,24 @@
 -- `loading::load` meets its contract.
-use Rattle.syntax.specs.TableTest.{fault_within, fault_found, fault_none}
+use Rattle.std.proofs.Common.{rules, ◌≡◌, Err, sym, ◌∙◌, arith}
+use Rattle.syntax.specs.TableTest.{fault_within}
 use Rattle.loading.specs.Loading.{load_form, load_few, load_empty, load_tree, load_good}
-use native.Mathlib.Omega.{arith}
 use Rattle.loading.proofs.load.Goals as goal
 
-pub returns-then-fault-le-MAX_LINES : goal.returns-then-fault-le-MAX_LINES
-returns-then-fault-le-MAX_LINES c = rw c.refuse.ensures (load_form _ _ c.read_lines-read.ensures c.if-fault-le-MAX_LINES.true)
+pub returns-in_err-pattern : goal.returns-in_err-pattern
+returns-in_err-pattern c = let e : c.from_residual.result ≡ Err c.in_err-pattern.field-0.0 = search rules in
+    rw e (load_form _ _ c.read_lines.ensures _ c.in_err-pattern.was)
 
-pub returns-then-count-eq0 : goal.returns-then-count-eq0
-returns-then-count-eq0 c = rw c.refuse-then-count-eq0.ensures (load_empty _ _ c.read_lines-read.ensures c.if-fault-le-MAX_LINES.false c.if-count-eq0.true)
+pub returns-then-pattern-eq0 : goal.returns-then-pattern-eq0
+returns-then-pattern-eq0 c = load_empty _ _ c.read_lines.ensures _ c.in_ok-pattern.was c.if-pattern-eq0.true
 
 pub tree_fault_of-requires : goal.tree_fault_of-requires
-tree_fault_of-requires c = load_few _ _ c.read_lines-read.ensures c.if-fault-le-MAX_LINES.false
-
-pub overflow_cast-line : goal.overflow_cast-line
-overflow_cast-line c = let h = fault_within _ _ (fault_found _ _ _ c.tree_fault_of.ensures c.in-Line.is) in
-    omega (arith, h, load_few _ _ c.read_lines-read.ensures c.if-fault-le-MAX_LINES.false)
+tree_fault_of-requires c = load_few _ _ c.read_lines.ensures _ c.in_ok-pattern.was
 
 pub overflow_cast-result : goal.overflow_cast-result
-overflow_cast-result c = omega (arith, load_few _ _ c.read_lines-read.ensures c.if-fault-le-MAX_LINES.false)
+overflow_cast-result c = omega (arith, fault_within _ _ (sym c.tree_fault_of.ensures ∙ c.in-Some.is), load_few _ _ c.read_lines.ensures _ c.in_ok-pattern.was)
 
-pub returns-in-Line : goal.returns-in-Line
-returns-in-Line c = let h = fault_found _ _ _ c.tree_fault_of.ensures c.in-Line.is in
-    rw c.refuse-in-Line.ensures (load_tree _ _ c.read_lines-read.ensures c.if-fault-le-MAX_LINES.false c.if-count-eq0.false _ h)
+pub returns-in-Some : goal.returns-in-Some
+returns-in-Some c = load_tree _ _ c.read_lines.ensures _ c.in_ok-pattern.was c.if-pattern-eq0.false _ (sym c.tree_fault_of.ensures ∙ c.in-Some.is)
 
-pub returns-in-Nothing : goal.returns-in-Nothing
-returns-in-Nothing c = let h = fault_none _ _ c.tree_fault_of.ensures c.in-Nothing.is in
-    load_good _ _ c.read_lines-read.ensures c.if-fault-le-MAX_LINES.false c.if-count-eq0.false h
+pub returns-in-None : goal.returns-in-None
+returns-in-None c = load_good _ _ c.read_lines.ensures _ c.in_ok-pattern.was c.if-pattern-eq0.false (sym c.tree_fault_of.ensures ∙ c.in-None.is)

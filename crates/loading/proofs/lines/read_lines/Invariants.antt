@@ -1,6 +1,5 @@
 -- `loading::lines::read_lines` meets its contract.
-use Prim.Native.Nat.{◌-◌}
-use lib.ListN.{length}
+use Rattle.std.proofs.Common.{◌-◌, length}
 use Rattle.loading.specs.ReadLines.{ReadSoFar}
 use Rattle.loading.proofs.lines.read_lines.Given as goal
 
