@@ -21,12 +21,10 @@ use Rattle.first_sweep.specs.Growing.{Growable}
 use Rattle.desk.specs.declared.Desk.{Desk}
 use Rattle.desk.specs.declared.DeskRefusal.{DeskRefusal}
 use Rattle.desk.specs.declared.DeskRefusal.TheVariants.{Base}
-use Rattle.desk.specs.declared.DeskAfter.{DeskAfter}
 use Rattle.desk.specs.Desks.{page_limit, held, empty_desk, with_page, without_page, desk_number, desk_refused, if_accepted, DeskTest, words_for}
 use Rattle.desk.specs.Desks.{open_order, put_order, withdraw_order, open_answer, put_answer, withdraw_answer, Opens, Puts, Withdraws}
 use Rattle.desk.specs.Numbers.{desk_number_positive}
 use Rattle.desk.specs.Checking.{Checks, checked_why, checked-held, put_upto, withdraw_few}
-use Rattle.desk.specs.Pages.{less_page}
 
 -- ── of any call ──
 -- refused, a thing is as it was
@@ -40,7 +38,7 @@ kept order n why new old f =
 taken : {A : Type 0} (order : List DeskTest) (n : ℕ) (new old : A) → Clear order → new ≡ if_accepted (first_of desk_refused order (answer 0 n)) new old
 taken order n new old c = sym (ap (λ a. if_accepted a new old) (clear_said desk_refused order (answer 0 n) c))
 
--- ── `open_desk` ──
+-- ── `open` ──
 module _ (p : Pattern) (d : Desk) (words : List ℕ) where
   pub open_refused : (why : DeskRefusal) → First why (open_order p (length words)) → Opens p d d words words (Err why)
   unfolding open_answer
@@ -62,7 +60,7 @@ module _ (p : Pattern) (d : Desk) (words : List ℕ) where
         words_left = k ∙ taken order 0 (in_front (tail_words p []) words) words c;
       }
 
--- ── `put_page` ──
+-- ── `put` ──
 module _ (p : Pattern) (d : Desk) (page letters words : List ℕ) where
   abbrev at : ℕ
   at = letter_limit - (held d + length page)
@@ -132,7 +130,7 @@ module _ (p : Pattern) (d : Desk) (page letters words : List ℕ) where
           put_done f after now (b + length page) g (h ∙ ap (λ n. sets letters (letter_limit - (n + length page)) page) e)
           (k ∙ ap (λ n. sets words (2 * (n + 1)) (grown p (get_or words (2 * n + 1) 0) (eqb n 0) page)) e) (ap (λ n. n + length page) e)
 
--- ── `withdraw_page` ──
+-- ── `withdraw` ──
 module _ (p : Pattern) (d : Desk) (letters : List ℕ) where
   pub withdraw_refused : (why : DeskRefusal) → First why (withdraw_order d p letters) → Withdraws p d d letters (Err why)
   unfolding withdraw_answer
@@ -157,14 +155,12 @@ module _ (p : Pattern) (d : Desk) (letters : List ℕ) where
         let few = withdraw_few d p letters t.0 in
         (few.0, few.1, t.1, omega (arith, few.2, t.1))
 
-  withdrawn : Clear (withdraw_order d p letters) → Withdraws p d (without_page d) letters (Ok (held (without_page d)))
+  pub withdraw_done : Clear (withdraw_order d p letters) → (e : Desk) (n : ℕ) → e ≡ without_page d → n ≡ held (without_page d)
+      → Withdraws p d e letters (Ok n)
   unfolding withdraw_answer
-  withdrawn c =
-      let n = held (without_page d) in
+  withdraw_done c e n f k =
+      let m = held (without_page d) in
       record {
-        answers = sym (clear_said desk_refused (withdraw_order d p letters) (answer 0 n) c);
-        leaves = taken (withdraw_order d p letters) n (without_page d) d c;
+        answers = ap (answer 0) k ∙ sym (clear_said desk_refused (withdraw_order d p letters) (answer 0 m) c);
+        leaves = f ∙ taken (withdraw_order d p letters) m (without_page d) d c;
       }
-
-  pub withdraw_done : Clear (withdraw_order d p letters) → (r : DeskAfter) → r ≡ less_page d → Withdraws p d r.desk letters r.answer
-  withdraw_done c r e = subst (λ x. Withdraws p d x.desk letters x.answer) (sym e) (withdrawn c)

@@ -13,7 +13,6 @@ use Rattle.desk.specs.declared.Desk.{Desk}
 use Rattle.desk.specs.declared.DeskRefusal.{DeskRefusal}
 use Rattle.desk.specs.Desks.{held, empty_desk, with_page, without_page, DeskTest, open_order, put_order, withdraw_order}
 use Rattle.desk.specs.Desks.{Opens, Puts, Withdraws}
-use Rattle.desk.specs.Pages.{less_page}
 use Rattle.desk.proofs.DeskWays.{open_refused, open_clear, put_refused, put_done, withdraw_refused, withdraw_done}
 use Rattle.desk.specs.Unique.{opens_one, puts_one, withdraws_one}
 
@@ -74,7 +73,7 @@ module _ (p : Pattern) (d : Desk) (letters : List ℕ) where
 
     pub was_withdrawn : Clear (withdraw_order d p letters) → (r ≡ Ok (held (without_page d))) × (e ≡ without_page d)
     was_withdrawn c =
-        withdraws_one p d e (without_page d) letters r (Ok (held (without_page d))) h (withdraw_done p d letters c (less_page d) refl)
+        withdraws_one p d e (without_page d) letters r (Ok (held (without_page d))) h (withdraw_done p d letters c (without_page d) (held (without_page d)) refl refl)
 
     pub withdraw_answered : Answered (withdraw_order d p letters) (held (without_page d)) r
     withdraw_answered = go (which_first (withdraw_order d p letters))

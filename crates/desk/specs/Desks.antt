@@ -13,7 +13,6 @@ use Rattle.first_sweep.specs.Grow.{grown}
 use Rattle.desk.specs.declared.Desk.{Desk}
 use Rattle.desk.specs.declared.DeskRefusal.{DeskRefusal}
 use Rattle.desk.specs.declared.DeskRefusal.TheVariants.{Base, DeskLimits, DeskFull, DeskEmpty}
-use Rattle.desk.specs.declared.DeskAfter.{DeskAfter}
 
 -- ── a desk and its letters ──
 -- 02: "At most 30 pages are held."
@@ -146,12 +145,6 @@ withdraw_answer d p letters = first_of desk_refused (withdraw_order d p letters)
 -- 02: "A refused call leaves desk, letters and marks alike."
 abbrev pub if_accepted : {A : Type 0} → Answer → (new old : A) → A
 if_accepted a new old = cond (eqb a.number 0) new old
-
-abbrev pub emptied : DeskAfter
-emptied = record { desk = empty_desk; answer = Ok 0 }
-
-abbrev pub refused_change : Desk → DeskRefusal → DeskAfter
-refused_change d why = record { desk = d; answer = Err why }
 
 -- ── THE PROMISES, for every desk, table, page and lent buffers ──
 pub record Opens (p : Pattern) (d d_now : Desk) (words words_now : List ℕ) (r : Result ℕ DeskRefusal) : Type 0 where

@@ -2,6 +2,9 @@
 use Rattle.std.specs.Prelude.{◌≡◌, refl, Bool, ◌&&◌, List, [], ◌∷◌, ℕ, suc, ◌+◌, ◌-◌, ◌*◌, ◌≤◌, ◌<◌, leb, get_or, take, None, Option, Some}
 use Rattle.std.proofs.Math.Path.{sym, ap}
 use Rattle.std.proofs.Common.{◌∙◌, arith, leb-true, le-leb, length-take, drop-cons}
+use Rattle.std.specs.Bool.{then_some}
+use Rattle.std.specs.List.{slice_range}
+use Rattle.std.proofs.Math.Decide.{dec_le}
 use Rattle.std.proofs.Math.Bool.{true, false, cond}
 use Rattle.std.proofs.lemmas.Bool.{lt-leb}
 use Rattle.std.proofs.Math.ListN.{length, drop, drop_of_length-le}
@@ -18,15 +21,8 @@ pages_limits xs = cond (every good_page xs) (Some (sum xs)) None
 unfoldable pub desk_limits : Desk → Option ℕ
 desk_limits d = cond (limits_kept d) (Some (held d)) None
 
-abbrev pub desk_of : (count : ℕ) → (lengths : List ℕ) → Desk
-desk_of n ls = record { count = n; lengths = ls }
-
 unfoldable pub held_limits : Desk → (letters : List ℕ) → Option ℕ
 held_limits d letters = cond (desk_good d letters) (Some (held d)) None
-
--- the same, where a page of so many letters is to be put
-unfoldable pub put_limits : (letters : ℕ) → Desk → (cells : List ℕ) → Option ℕ
-put_limits n d cells = cond (good_page n && desk_good d cells) (Some (held d)) None
 
 kept_broken : (n : ℕ) → Some n ≡ None → ⊥
 kept_broken n e = let z : ◌≡◌ {A = ℕ} 0 1 = ap (λ l. told l) e in omega arith
@@ -57,16 +53,6 @@ module _ (b : Bool) (h : ℕ) (r : Option ℕ) (e : r ≡ cond b (Some h) None) 
       go : (t : Bool) → b ≡ t → None ≡ cond t (Some h) None → b ≡ false
       go true q f = absurd (kept_broken h (sym f))
       go false q f = q
-
--- ── `good_page` ──
-module _ (n : ℕ) where
-  pub page-empty : n < 1 → false ≡ good_page n
-  unfolding good_page
-  page-empty h = rw (lt-leb 1 n h)
-
-  pub page-filled : 1 ≤ n → leb n page_letters ≡ good_page n
-  unfolding good_page
-  page-filled h = rw (le-leb 1 n h)
 
 pub page_upto : (n : ℕ) → good_page n ≡ true → n ≤ page_letters
 unfolding good_page
@@ -134,15 +120,17 @@ module _ (xs : List ℕ) (i total : ℕ) (s : PagesSummed xs i total) where
           sums = moved ∙ ap (λ m. total + n + sum (drop m xs)) j;
         }
 
--- ── `limits_of` ──
-module _ (count : ℕ) (lengths : List ℕ) where
-  pub count_over : page_limit < count → None ≡ desk_limits (desk_of count lengths)
+-- ── `limits_of`: the lengths up to the count are there where it is at most 30 ──
+module _ (d : Desk) (whole : length d.lengths ≡ page_limit) where
+  pub count_over : (length d.lengths < d.count) → None ≡ desk_limits d
   unfolding desk_limits limits_kept
-  count_over h = rw (lt-leb count page_limit h)
+  count_over h = rw (lt-leb d.count page_limit (omega (arith, h, whole)))
 
-  pub limits_summed : count ≤ page_limit → (r : Option ℕ) → r ≡ pages_limits (take count lengths) → r ≡ desk_limits (desk_of count lengths)
+  pub limits_summed : d.count ≤ length d.lengths → (part : List ℕ) → part ≡ slice_range d.lengths 0 d.count → (r : Option ℕ) → r ≡ pages_limits part → r ≡ desk_limits d
   unfolding desk_limits limits_kept pages_limits held lengths_held
-  limits_summed h r e = e ∙ rw (le-leb count page_limit h)
+  limits_summed h part q r e =
+      let all : d.count - 0 ≡ d.count = omega arith in
+      e ∙ ap pages_limits (q ∙ ap (λ n. take n d.lengths) all) ∙ rw (le-leb d.count page_limit (omega (arith, h, whole)))
 
 -- ── `limits_held` ──
 module _ (d : Desk) (letters : List ℕ) (r : Option ℕ) (e : r ≡ desk_limits d) where
@@ -178,7 +166,7 @@ module _ (d : Desk) (letters : List ℕ) (r : Option ℕ) (e : r ≡ desk_limits
           ap length (part_held part q l) ∙ length-slice (letter_limit - held d) letter_limit letters l
           ∙ (let e : letter_limit - (letter_limit - held d) ≡ n = omega (arith, t.1, held_upto) in e)
 
-      pub held-bad : bad < n → None ≡ held_limits d letters
+      held-bad : bad < n → None ≡ held_limits d letters
       unfolding held_limits desk_good
       held-bad h =
           let bad_letters : every is_letter (letters_held d letters) ≡ false =
@@ -186,7 +174,7 @@ module _ (d : Desk) (letters : List ℕ) (r : Option ℕ) (e : r ≡ desk_limits
           sym (ap (λ b. cond (limits_kept d && b) (Some (held d)) None) bad_letters
           ∙ ap (λ b. cond (b && false) (Some (held d)) None) (limits_told n k).0)
 
-      pub held-good : n ≤ bad → Some n ≡ held_limits d letters
+      held-good : n ≤ bad → Some n ≡ held_limits d letters
       unfolding held_limits desk_good
       held-good h =
           let good : every is_letter (letters_held d letters) ≡ true =
@@ -194,12 +182,9 @@ module _ (d : Desk) (letters : List ℕ) (r : Option ℕ) (e : r ≡ desk_limits
           sym (ap (λ b. cond (limits_kept d && b) (Some (held d)) None) good
           ∙ ap (λ b. cond (b && true) (Some (held d)) None) (limits_told n k).0 ∙ ap Some (sym (limits_told n k).1))
 
--- ── `limits_put` ──
-module _ (n : ℕ) (d : Desk) (cells : List ℕ) where
-  pub put-page_wrong : good_page n ≡ false → None ≡ put_limits n d cells
-  unfolding put_limits
-  put-page_wrong e = rw e
-
-  pub put-page-right : good_page n ≡ true → (r : Option ℕ) → r ≡ held_limits d cells → r ≡ put_limits n d cells
-  unfolding put_limits held_limits
-  put-page-right e r f = f ∙ rw e
+      pub held_told : (s : Option ℕ) → s ≡ then_some (leb n bad) n → s ≡ held_limits d letters
+      held_told s e = e ∙ go (dec_le n bad)
+        where
+          go : Dec (n ≤ bad) → then_some (leb n bad) n ≡ held_limits d letters
+          go (yes h) = ap (λ b. then_some b n) (le-leb n bad h) ∙ held-good h
+          go (no h) = ap (λ b. then_some b n) (lt-leb n bad (omega arith)) ∙ held-bad (omega arith)

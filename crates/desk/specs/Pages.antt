@@ -1,21 +1,13 @@
 -- What the functions on pages do.
-use Rattle.std.specs.Prelude.{◌≡◌, refl, List, [], ◌∷◌, get_or, take, set, Ok}
+use Rattle.std.specs.Prelude.{◌≡◌, refl, List, [], ◌∷◌, get_or, take, set}
 use Rattle.std.proofs.Math.Path.{ap}
 use Rattle.std.proofs.Common.{◌∙◌}
 use Prim.Native.Nat.{ℕ, zero, suc, ◌+◌, ◌-◌, ◌≤◌, ◌<◌}
 use native.Mathlib.Omega.{arith}
 use Rattle.desk.specs.declared.Desk.{Desk}
-use Rattle.desk.specs.declared.DeskAfter.{DeskAfter}
 use Rattle.desk.specs.Desks.{sum, lengths_held, held, with_page, without_page}
 
--- the desk without its last page, and the letters then held
-abbrev pub less_page : Desk → DeskAfter
-less_page d = record { desk = without_page d; answer = Ok (held (without_page d)) }
-
--- ── `with_page`, `take_page` ──
-pub with_page-made : (d : Desk) (n : ℕ) → record { count = d.count + 1; lengths = set d.lengths d.count n } ≡ with_page d n
-with_page-made d n = let e : d.count + 1 ≡ suc d.count = omega arith in ap (λ c. record { count = c; lengths = set d.lengths d.count n }) e
-
+-- ── `take_off` ──
 sum_last : (xs : List ℕ) (n : ℕ) → sum (take (suc n) xs) ≡ sum (take n xs) + get_or xs n 0
 sum_last [] zero = refl
 sum_last [] (suc n) = refl
@@ -40,9 +32,3 @@ module _ (d : Desk) (h : 1 ≤ d.count) where
   less-held =
       let e : d.count ≡ suc (d.count - 1) = omega arith in
       ap (λ n. sum (take n d.lengths)) e ∙ sum_last d.lengths (d.count - 1)
-
-  pub less-made : (letters size : ℕ) → letters ≡ held d → size ≡ get_or d.lengths (d.count - 1) 0
-      → record { desk = without_page d; answer = Ok (letters - size) } ≡ less_page d
-  less-made letters size e f =
-      let g : letters - size ≡ held (without_page d) = omega (arith, e, f, less-held) in
-      ap (λ n. record { desk = without_page d; answer = Ok n }) g

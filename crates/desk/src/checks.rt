@@ -1,8 +1,7 @@
 // The checks of an opening and of a put, in 02's order, and those that a withdrawal shares.
-ghost use Rattle.std.specs.Prelude.{◌≡◌, ◌≤◌, length};
+ghost use Rattle.std.specs.Prelude.{◌≤◌, length};
 ghost use Rattle.syntax.specs.Letter.{letter_limit};
 ghost use Rattle.desk.specs.Desks.{held, open_order, lent_order, page_order, put_order};
-ghost use Rattle.desk.specs.Limits.{put_limits};
 ghost use Rattle.desk.specs.Checking.{Checks, ChecksFirst};
 
 use crate::limits::{good_page, limits_held};
@@ -10,26 +9,15 @@ use crate::{Desk, DeskRefusal};
 use refusals::Refusal;
 use syntax::{Pattern, first_bad, obeys_rules};
 
-// What a desk holds, where a page of n letters may be put on some desk.
-fn limits_put(n: usize, desk: Desk, letters: &[u8]) -> Option<usize>
-    requires { letter_limit ≤ length letters.now }
-    ensures { result ≡ put_limits n desk letters.now }
-{
-    if !good_page(n) {
-        return None;
-    }
-    limits_held(desk, letters)
-}
-
 // The causes of an opening. A caller that holds a desk in another form tests these before its own.
 pub fn check_open(p: Pattern, words: usize) -> Result<(), DeskRefusal>
     ensures { ChecksFirst (open_order p words) result }
 {
     if !obeys_rules(p) {
-        return Err(DeskRefusal::Base(Refusal::Tree(0)));
+        return Err(Refusal::Tree(0).into());
     }
     if words < 2 {
-        return Err(DeskRefusal::Base(Refusal::WordsTooShort(2)));
+        return Err(Refusal::WordsTooShort(2).into());
     }
     Ok(())
 }
@@ -39,51 +27,47 @@ pub(crate) fn check_lent(p: Pattern, cells: usize) -> Result<(), DeskRefusal>
     ensures { ChecksFirst (lent_order p cells) result }
 {
     if !obeys_rules(p) {
-        return Err(DeskRefusal::Base(Refusal::Tree(0)));
+        return Err(Refusal::Tree(0).into());
     }
     if cells < Pattern::MAX_LETTERS {
-        let needed = Pattern::MAX_LETTERS as u32;
-        return Err(DeskRefusal::Base(Refusal::TapeTooShort(needed)));
+        return Err(Refusal::TapeTooShort(Pattern::MAX_LETTERS as u32).into());
     }
     Ok(())
 }
 
-// The others of a put.
-fn check_page(desk: Desk, page: &[u8], letters: &[u8], words: usize) -> Result<usize, DeskRefusal>
+// The others of a put. The answer is how many letters are held before it.
+fn check_page(desk: &Desk, page: &[u8], letters: &[u8], words: usize) -> Result<usize, DeskRefusal>
     requires { letter_limit ≤ length letters.now }
-    ensures { Checks (page_order desk page.now letters.now words) (held desk) result }
+    ensures { Checks (page_order desk.now page.now letters.now words) (held desk.now) result }
 {
     let n = page.len();
-    let limits = limits_put(n, desk, letters);
-    let Some(held) = limits else {
+    if !good_page(n) {
         return Err(DeskRefusal::DeskLimits);
-    };
-    if Desk::MAX_PAGES <= desk.count as usize {
+    }
+    let held = limits_held(desk, letters).ok_or(DeskRefusal::DeskLimits)?;
+    if Desk::MAX_PAGES <= usize::from(desk.count) {
         return Err(DeskRefusal::DeskFull);
     }
     let bad = first_bad(page);
     if bad < n {
-        return Err(DeskRefusal::Base(Refusal::TapeByte(bad as u32)));
+        return Err(Refusal::TapeByte(bad as u32).into());
     }
     let needed = 2 * (held + n + 1);
     if words < needed {
-        return Err(DeskRefusal::Base(Refusal::WordsTooShort(needed as u32)));
+        return Err(Refusal::WordsTooShort(needed as u32).into());
     }
     Ok(held)
 }
 
 pub(crate) fn check_put(
-    desk: Desk,
+    desk: &Desk,
     p: Pattern,
     page: &[u8],
     letters: &[u8],
     words: usize,
 ) -> Result<usize, DeskRefusal>
-    ensures { Checks (put_order desk p page.now letters.now words) (held desk) result }
+    ensures { Checks (put_order desk.now p page.now letters.now words) (held desk.now) result }
 {
-    let lent = check_lent(p, letters.len());
-    match lent {
-        Ok(()) => check_page(desk, page, letters, words),
-        Err(why) => Err(why),
-    }
+    check_lent(p, letters.len())?;
+    check_page(desk, page, letters, words)
 }

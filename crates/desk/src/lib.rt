@@ -3,19 +3,24 @@
 #![tactic(auto)]
 
 ghost use Rattle.std.specs.Prelude.{◌≡◌};
+ghost use Rattle.desk.specs.declared.DeskRefusal.TheVariants.{Base};
 ghost use Rattle.desk.specs.Desks.{desk_number, desk_value, Opens, Puts, Withdraws};
 
-mod calls; // calls.rt: the calls on a desk by value
 mod checks; // checks.rt: the checks of an opening and of a put, in 02's order
 mod limits; // limits.rt: what a desk holds, and whether it keeps the limits
 mod pages; // pages.rt: the length of a page
 mod withdrawal; // withdrawal.rt: the checks of a withdrawal, in 02's order
 
-// A caller that holds a desk in another form, as in bytes, calls these and stores the desk that comes back.
-pub use calls::{open_desk, put_page, withdraw_page};
+// A caller that holds a desk in another form, as in bytes, makes a desk of it, calls these, and stores the desk that they leave.
 pub use checks::check_open;
-use refusals::{Refusal, number_of, value_of};
+use checks::check_put;
+use first_sweep::{grow, put_end};
+use pages::{put_on, take_off};
+use refusals::{Cause, Refusal};
 use syntax::Pattern;
+use table::table_of;
+use text::put_bytes;
+use withdrawal::check_withdraw;
 
 // How many pages are held, and how many letters each has, in the order of their putting. Lengths at or past the count mean nothing.
 #[derive(Clone, Copy)]
@@ -31,7 +36,7 @@ impl Desk {
 }
 
 // Why a call of the desk refuses: for a cause that 01 has, or for one of the desk's own.
-#[derive(Clone, Copy)]
+#[derive(Clone, Copy, Debug, PartialEq, Eq)]
 pub enum DeskRefusal {
     Base(Refusal),
     DeskLimits,
@@ -39,47 +44,54 @@ pub enum DeskRefusal {
     DeskEmpty,
 }
 
-// The desk after a call, and the call's answer.
-#[derive(Clone, Copy)]
-pub struct DeskAfter {
-    pub desk: Desk,
-    pub answer: Result<u32, DeskRefusal>,
-}
+impl From<Refusal> for DeskRefusal {
+    ghost from_gives = { λ base why. why ≡ Base base };
 
-// The number of a cause: 02 gives 13, 14 and 15, 01's table the others.
-pub fn desk_number_of(why: DeskRefusal) -> u32
-    ensures { result ≡ desk_number why }
-{
-    match why {
-        DeskRefusal::Base(base) => number_of(base),
-        DeskRefusal::DeskLimits => 13,
-        DeskRefusal::DeskFull => 14,
-        DeskRefusal::DeskEmpty => 15,
+    fn from(base: Refusal) -> DeskRefusal {
+        DeskRefusal::Base(base)
     }
 }
 
-// The value beside it: 0 for a cause that 02 adds.
-pub fn desk_value_of(why: DeskRefusal) -> u32
-    ensures { result ≡ desk_value why }
-{
-    match why {
-        DeskRefusal::Base(base) => value_of(base),
-        DeskRefusal::DeskLimits => 0,
-        DeskRefusal::DeskFull => 0,
-        DeskRefusal::DeskEmpty => 0,
+impl Cause for DeskRefusal {
+    ghost number_of = { desk_number };
+
+    ghost value_of = { desk_value };
+
+    // 02 gives 13, 14 and 15, 01's table the others.
+    fn number(&self) -> u32 {
+        match *self {
+            DeskRefusal::Base(base) => base.number(),
+            DeskRefusal::DeskLimits => 13,
+            DeskRefusal::DeskFull => 14,
+            DeskRefusal::DeskEmpty => 15,
+        }
+    }
+
+    // 0 for a cause that 02 adds.
+    fn value(&self) -> u32 {
+        match *self {
+            DeskRefusal::Base(base) => base.value(),
+            DeskRefusal::DeskLimits | DeskRefusal::DeskFull | DeskRefusal::DeskEmpty => 0,
+        }
     }
 }
 
-// Opens a desk: it is empty then, whatever it held before.
+// Opens a desk: it is empty then, whatever it held before, and the two words of the tape's end are written. The answer is 0. A call that is
+// refused leaves all as it was, here and below.
 pub fn open(desk: &mut Desk, p: Pattern, words: &mut [u64]) -> Result<u32, DeskRefusal>
     ensures { Opens p desk.old desk.new words.old words.new result }
 {
-    let changed = open_desk(*desk, p, words);
-    *desk = changed.desk;
-    changed.answer
+    check_open(p, words.len())?;
+    let table = table_of(p);
+    put_end(p, &table, words);
+    *desk = Desk {
+        count: 0,
+        lengths: [0; Desk::MAX_PAGES],
+    };
+    Ok(0)
 }
 
-// Puts a page before the letters held.
+// Puts a page before the letters held: its letters, its words, its length. The answer is how many letters are held then.
 pub fn put(
     desk: &mut Desk,
     p: Pattern,
@@ -90,16 +102,21 @@ pub fn put(
     ensures { Puts p page.now desk.old desk.new letters.old letters.new
         words.old words.new result }
 {
-    let changed = put_page(*desk, p, page, letters, words);
-    *desk = changed.desk;
-    changed.answer
+    let held = check_put(desk, p, page, letters, words.len())?;
+    let n = page.len();
+    let total = held + n;
+    let table = table_of(p);
+    grow(p, &table, page, held, words);
+    put_bytes(letters, Pattern::MAX_LETTERS - total, page);
+    put_on(desk, n);
+    Ok(total as u32)
 }
 
-// Withdraws the last page put.
+// Withdraws the last page put: nothing but the desk changes. The answer is how many letters are held then.
 pub fn withdraw(desk: &mut Desk, p: Pattern, letters: &[u8]) -> Result<u32, DeskRefusal>
     ensures { Withdraws p desk.old desk.new letters.now result }
 {
-    let changed = withdraw_page(*desk, p, letters);
-    *desk = changed.desk;
-    changed.answer
+    let held = check_withdraw(desk, p, letters)?;
+    let left = take_off(desk, held);
+    Ok(left as u32)
 }

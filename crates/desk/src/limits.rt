@@ -2,7 +2,7 @@
 ghost use Rattle.std.specs.Prelude.{◌≡◌, ◌≤◌, length};
 ghost use Rattle.syntax.specs.Letter.{letter_limit};
 ghost use Rattle.desk.specs.Desks.{page_limit, good_page};
-ghost use Rattle.desk.specs.Limits.{desk_of, pages_limits, desk_limits, held_limits};
+ghost use Rattle.desk.specs.Limits.{pages_limits, desk_limits, held_limits};
 
 use crate::Desk;
 use syntax::{Pattern, first_bad};
@@ -11,64 +11,39 @@ use syntax::{Pattern, first_bad};
 pub(crate) fn good_page(n: usize) -> bool
     ensures { result ≡ good_page n }
 {
-    if n < 1 {
-        return false;
-    }
-    n <= Desk::MAX_PAGE_LETTERS
+    (1..=Desk::MAX_PAGE_LETTERS).contains(&n)
 }
 
-pub(crate) fn page_size(n: u8) -> usize
-    ensures { result ≡ n }
-{
-    n as usize
-}
-
-// The letters of pages of these lengths.
+// How many letters pages of these lengths have, or nothing if one of the lengths is wrong.
 fn sum_pages(pages: &[u8]) -> Option<usize>
     requires { length pages.now ≤ page_limit }
     ensures { result ≡ pages_limits pages.now }
 {
     let mut held = 0;
-    let mut i = 0;
-    loop {
-        if pages.len() <= i {
-            break Some(held);
-        }
-        let n = page_size(pages[i]);
+    for n in pages {
+        let n = usize::from(*n);
         if !good_page(n) {
-            break None;
+            return None;
         }
         held += n;
-        i += 1;
     }
+    Some(held)
 }
 
-// Lengths at or past the count are not looked at.
-fn limits_of(lengths: &[u8], count: usize) -> Option<usize>
-    requires { page_limit ≤ length lengths.now }
-    ensures { result ≡ desk_limits (desk_of count lengths.now) }
+// How many letters a desk holds, or nothing if it breaks the limits. Lengths at or past the count are not looked at.
+fn limits_of(desk: &Desk) -> Option<usize>
+    ensures { result ≡ desk_limits desk.now }
 {
-    if Desk::MAX_PAGES < count {
-        return None;
-    }
-    sum_pages(&lengths[..count])
+    sum_pages(desk.lengths.get(..usize::from(desk.count))?)
 }
 
 // The same, where the cells that a desk holds are looked at too: a byte there that is no letter breaks the limits.
-pub(crate) fn limits_held(desk: Desk, letters: &[u8]) -> Option<usize>
+pub(crate) fn limits_held(desk: &Desk, letters: &[u8]) -> Option<usize>
     requires { letter_limit ≤ length letters.now }
-    ensures { result ≡ held_limits desk letters.now }
+    ensures { result ≡ held_limits desk.now letters.now }
 {
-    let lengths = desk.lengths;
-    let limits = limits_of(&lengths, desk.count as usize);
-    let Some(held) = limits else {
-        return None;
-    };
+    let held = limits_of(desk)?;
     let from = Pattern::MAX_LETTERS - held;
-    let end = Pattern::MAX_LETTERS;
-    let bad = first_bad(&letters[from..end]);
-    if held <= bad {
-        return Some(held);
-    }
-    None
+    let bad = first_bad(&letters[from..Pattern::MAX_LETTERS]);
+    (held <= bad).then_some(held)
 }

@@ -1,38 +1,24 @@
 // Pages: the length of a page goes behind the others.
 ghost use Rattle.std.specs.Prelude.{◌≡◌, ◌≤◌, ◌<◌};
-ghost use Rattle.syntax.specs.Letter.{letter_limit};
-ghost use Rattle.desk.specs.Desks.{page_limit, page_letters, held, with_page};
-ghost use Rattle.desk.specs.Pages.{less_page};
+ghost use Rattle.desk.specs.Desks.{page_limit, page_letters, held, with_page, without_page};
 
-use crate::limits::page_size;
-use crate::{Desk, DeskAfter};
+use crate::Desk;
 
-// The desk with one more page, of n letters.
-pub(crate) fn with_page(desk: Desk, n: usize) -> Desk
-    requires { (desk.count < page_limit) × (n ≤ page_letters) }
-    ensures { result ≡ with_page desk n }
+// Puts one more page on the desk, of n letters.
+pub(crate) fn put_on(desk: &mut Desk, n: usize)
+    requires { (desk.old.count < page_limit) × (n ≤ page_letters) }
+    ensures { desk.new ≡ with_page desk.old n }
 {
-    let count = desk.count;
-    let at = count as usize;
-    let mut lengths = desk.lengths;
-    lengths[at] = n as u8;
-    Desk {
-        count: count + 1,
-        lengths,
-    }
+    desk.lengths[usize::from(desk.count)] = n as u8;
+    desk.count += 1;
 }
 
-// The desk without the last page put. Its length stays where it is: it is not looked at any more.
-pub(crate) fn take_page(desk: Desk, letters: usize) -> DeskAfter
-    requires { (1 ≤ desk.count) × (desk.count ≤ page_limit) × (letters ≡ held desk) × (letters ≤ letter_limit) }
-    ensures { result ≡ less_page desk }
+// Takes the last page put off the desk, and answers how many of its letters are left. Its length stays where it is: it is not looked at any more.
+pub(crate) fn take_off(desk: &mut Desk, letters: usize) -> usize
+    requires { (1 ≤ desk.old.count) × (desk.old.count ≤ page_limit) × (letters ≡ held desk.old) }
+    ensures { (desk.new ≡ without_page desk.old) × (result ≡ held (without_page desk.old)) }
 {
-    let count = desk.count - 1;
-    let lengths = desk.lengths;
-    let at = count as usize;
-    let left = letters - page_size(lengths[at]);
-    DeskAfter {
-        desk: Desk { count, lengths },
-        answer: Ok(left as u32),
-    }
+    desk.count -= 1;
+    let at = usize::from(desk.count);
+    letters - usize::from(desk.lengths[at])
 }

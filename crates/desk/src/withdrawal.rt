@@ -9,27 +9,21 @@ use crate::limits::limits_held;
 use crate::{Desk, DeskRefusal};
 use syntax::Pattern;
 
-// The causes behind those of what is lent.
-fn check_held(desk: Desk, letters: &[u8]) -> Result<usize, DeskRefusal>
+// The causes behind those of what is lent. The answer is how many letters are held.
+fn check_held(desk: &Desk, letters: &[u8]) -> Result<usize, DeskRefusal>
     requires { letter_limit ≤ length letters.now }
-    ensures { Checks (held_order desk letters.now) (held desk) result }
+    ensures { Checks (held_order desk.now letters.now) (held desk.now) result }
 {
-    let limits = limits_held(desk, letters);
-    let Some(held) = limits else {
-        return Err(DeskRefusal::DeskLimits);
-    };
+    let held = limits_held(desk, letters).ok_or(DeskRefusal::DeskLimits)?;
     if desk.count == 0 {
         return Err(DeskRefusal::DeskEmpty);
     }
     Ok(held)
 }
 
-pub(crate) fn check_withdraw(desk: Desk, p: Pattern, letters: &[u8]) -> Result<usize, DeskRefusal>
-    ensures { Checks (withdraw_order desk p letters.now) (held desk) result }
+pub(crate) fn check_withdraw(desk: &Desk, p: Pattern, letters: &[u8]) -> Result<usize, DeskRefusal>
+    ensures { Checks (withdraw_order desk.now p letters.now) (held desk.now) result }
 {
-    let lent = check_lent(p, letters.len());
-    match lent {
-        Ok(()) => check_held(desk, letters),
-        Err(why) => Err(why),
-    }
+    check_lent(p, letters.len())?;
+    check_held(desk, letters)
 }

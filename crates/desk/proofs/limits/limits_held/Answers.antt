@@ -1,18 +1,14 @@
 -- `desk::limits::limits_held` meets its contract.
-use mathlib.Core.Path.{refl}
-use Rattle.desk.specs.Limits.{held_broken, held_upto, held-bad, held-good}
+use Rattle.std.proofs.Common.{refl, ◌∙◌}
+use Rattle.desk.specs.Limits.{held_broken, held_upto, held_told}
 use Rattle.desk.proofs.limits.limits_held.Goals as goal
 
-pub returns-in_default : goal.returns-in_default
-returns-in_default c = held_broken _ _ _ c.limits_of-limits.ensures c.in_default.is
+pub returns-in_err-held : goal.returns-in_err-held
+returns-in_err-held c = c.from_residual.ensures ∙ held_broken _ _ _ c.limits_of.ensures c.in_err-held.was
 
 pub overflow_sub-from : goal.overflow_sub-from
-overflow_sub-from c = held_upto _ c.args.letters.now _ c.limits_of-limits.ensures _ c.in-Kept.is
-
-pub returns-then-held-bad : goal.returns-then-held-bad
-returns-then-held-bad c = held-good _ c.args.letters.now _ c.limits_of-limits.ensures _ c.in-Kept.is _ _ c.first_bad-bad.ensures refl
-    c.requires c.if-held-bad.true
+overflow_sub-from c = held_upto _ c.args.letters.now _ c.limits_of.ensures _ c.in_ok-held.was
 
 pub returns : goal.returns
-returns c = held-bad _ c.args.letters.now _ c.limits_of-limits.ensures _ c.in-Kept.is _ _ c.first_bad-bad.ensures refl
-    c.requires c.if-held-bad.false
+returns c = held_told _ c.args.letters.now _ c.limits_of.ensures _ c.in_ok-held.was _ _ c.first_bad-bad.ensures refl c.requires _
+    c.then_some.ensures

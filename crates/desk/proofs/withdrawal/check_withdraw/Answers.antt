@@ -1,18 +1,16 @@
 -- `desk::withdrawal::check_withdraw` meets its contract.
-use lib.ListN.{length}
+use Rattle.std.proofs.Common.{length}
+use Rattle.std.proofs.lemmas.Result.{err_from_is_err_and}
 use Rattle.refusals.specs.CheckLaws.{first_more}
 use Rattle.desk.specs.Desks.{held, lent_order, held_order}
-use Rattle.desk.specs.Checking.{not_taken, when_taken, lent_cells, checks_behind}
+use Rattle.desk.specs.Checking.{not_taken, when_taken, checks_behind}
 use Rattle.desk.proofs.withdrawal.check_withdraw.Goals as goal
 
-pub check_held-requires : goal.check_held-requires
-check_held-requires c = lent_cells c.args.p _ (when_taken (lent_order c.args.p (length c.args.letters.now)) _ c.check_lent-lent.ensures c.in-Ok.is)
+pub returns-in_err-check_lent : goal.returns-in_err-check_lent
+returns-in_err-check_lent c =
+    let p = err_from_is_err_and c.from_residual.result c.from_residual.ensures.1 in
+    rw (p.1, p.2) (first_more {cs = lent_order c.args.p (length c.args.letters.now)} _ (not_taken (lent_order c.args.p (length c.args.letters.now)) _ c.check_lent.ensures _ c.in_err-check_lent.was))
 
-pub returns-in-Ok : goal.returns-in-Ok
-returns-in-Ok c = checks_behind (lent_order c.args.p (length c.args.letters.now)) (held_order c.args.desk c.args.letters.now)
-    (held c.args.desk) c.check_held.result
-    (when_taken (lent_order c.args.p (length c.args.letters.now)) _ c.check_lent-lent.ensures c.in-Ok.is) c.check_held.ensures
-
-pub returns-in-Err : goal.returns-in-Err
-returns-in-Err c = first_more {cs = lent_order c.args.p (length c.args.letters.now)}
-    (held_order c.args.desk c.args.letters.now) (not_taken (lent_order c.args.p (length c.args.letters.now)) _ c.check_lent-lent.ensures _ c.in-Err.is)
+pub returns : goal.returns
+returns c = checks_behind (lent_order c.args.p (length c.args.letters.now)) (held_order c.args.desk.now c.args.letters.now) (held c.args.desk.now) _
+    (when_taken (lent_order c.args.p (length c.args.letters.now)) _ c.check_lent.ensures c.in_ok-check_lent.was) c.check_held.ensures
