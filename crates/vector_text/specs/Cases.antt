@@ -1,25 +1,38 @@
 -- Cases as text: what is read from a case's line, digests, and the lines of the input. Definitions only.
-use Rattle.std.specs.Prelude.{◌≡◌, Bool, true, false, ◌&&◌, cond, List, [], ◌∷◌, ◌++◌, ℕ, ◌+◌, ◌-◌, ◌*◌, ◌/◌, ◌%◌, ◌≤◌, min, eqb, leb, length, take, drop}
+use Rattle.std.specs.Prelude.{◌≡◌, Option, Some, None, Bool, true, false, ◌&&◌, cond, List, [], ◌∷◌, ◌++◌, ℕ, ◌+◌, ◌-◌, ◌*◌, ◌/◌, ◌%◌, ◌≤◌, min, eqb, leb, length, take, drop, fold}
 use Rattle.text.specs.Text.{PutsTo, hex, parted, field}
 use Rattle.vector_text.specs.declared.lines.Input.{Input}
+use Rattle.vector_text.specs.declared.lines.Step.{Step}
+use Rattle.vector_text.specs.declared.lines.Step.TheVariants.{Within, Complete, Ended}
 
 -- the cells from `from` to before `to`, as far as there are any
-abbrev pub part : (from to : ℕ) → List ℕ → List ℕ
+abbrev pub part : {A : Type 0} → (from to : ℕ) → List A → List A
 part from to xs = take (to - from) (drop from xs)
 
--- the value of a hexadecimal digit in lower case, 16 for any other byte
-abbrev pub hex_value : ℕ → ℕ
-hex_value c = cond (leb 48 c && leb c 57) (c - 48) (cond (leb 97 c && leb c 102) (c - 87) 16)
+-- the value of a hexadecimal digit in lower case, none for any other byte
+abbrev pub hex_value : ℕ → Option ℕ
+hex_value c = cond (leb 48 c && leb c 57) (Some (c - 48)) (cond (leb 97 c && leb c 102) (Some (c - 87)) None)
 
--- what two hexadecimal digits write, 256 where one is none
-abbrev pub hex_pair : (high low : ℕ) → ℕ
-hex_pair h l = cond (leb (hex_value h) 15 && leb (hex_value l) 15) (16 * hex_value h + hex_value l) 256
+-- the byte that two digits of these values write, none where one is no digit
+abbrev pub byte_of : (high low : Option ℕ) → Option ℕ
+byte_of (Some h) (Some l) = Some (16 * h + l)
+byte_of (Some h) None = None
+byte_of None low = None
+
+-- what two hexadecimal digits write, nothing where one is none
+abbrev pub hex_pair : (high low : ℕ) → Option ℕ
+hex_pair h l = byte_of (hex_value h) (hex_value l)
+
+-- a byte before others, none of them where there is none
+abbrev pub while_some : Option ℕ → List ℕ → List ℕ
+while_some (Some b) bs = b ∷ bs
+while_some None bs = []
 
 -- the bytes that pairs of hexadecimal digits write, up to the first pair that writes none
 abbrev pub hex_bytes : List ℕ → List ℕ
 hex_bytes [] = []
 hex_bytes (h ∷ []) = []
-hex_bytes (h ∷ l ∷ cs) = cond (leb (hex_pair h l) 255) (hex_pair h l ∷ hex_bytes cs) []
+hex_bytes (h ∷ l ∷ cs) = while_some (hex_pair h l) (hex_bytes cs)
 
 -- a number with one decimal digit more; other bytes are left out
 abbrev pub appended : (n c : ℕ) → ℕ
@@ -42,9 +55,8 @@ unfoldable pub digest_step : (digest value : ℕ) → ℕ
 digest_step d v = (d % 4294967291 * 65599 + v % 4294967296) % 4294967291
 
 -- cells are taken in one after the other, each by `add`
-abbrev pub digest_by : (add : ℕ → ℕ → ℕ) → (digest : ℕ) → List ℕ → ℕ
-digest_by add d [] = d
-digest_by add d (x ∷ xs) = digest_by add (add d x) xs
+abbrev pub digest_by : {A : Type 0} → (add : ℕ → A → ℕ) → (digest : ℕ) → List A → ℕ
+digest_by add d xs = fold add d xs
 
 abbrev pub bytes_digest : (digest : ℕ) → List ℕ → ℕ
 bytes_digest = digest_by digest_step
@@ -67,6 +79,11 @@ left_text d words lent code bytes =
     ++ shown_text bytes code
     ++ field (bytes_digest (words_digest d (part lent (length words) words)) (part bytes (length code) code))
 
+-- numbers, the first of which is number i of a list: a tab stands before the first one, commas before the others
+abbrev pub numbers_text : (i : ℕ) → List ℕ → List ℕ
+numbers_text i [] = []
+numbers_text i (n ∷ ns) = parted (cond (eqb i 0) 9 44) n ++ numbers_text (i + 1) ns
+
 -- what stands before the first byte `stop`, and whether there is one
 abbrev pub before_byte : (stop : ℕ) → List ℕ → List ℕ
 before_byte stop [] = []
@@ -88,11 +105,16 @@ most_held line = length line + 1
 
 -- nothing is read yet
 abbrev pub before_input : Input
-before_input = record { from = 0; to = 0; size = 0; complete = false; ended = false }
+before_input = record { from = 0; to = 0; size = 0; step = Within }
 
 -- a line that was complete is no longer held
+abbrev pub kept_of : Step → (size : ℕ) → ℕ
+kept_of Within n = n
+kept_of Complete n = 0
+kept_of Ended n = n
+
 abbrev pub kept_size : Input → ℕ
-kept_size i = cond i.complete 0 i.size
+kept_size i = kept_of i.step i.size
 
 abbrev pub chunk_left : Input → (chunk : List ℕ) → List ℕ
 chunk_left i chunk = part i.from i.to chunk
@@ -100,15 +122,13 @@ chunk_left i chunk = part i.from i.to chunk
 -- The bytes of the chunk up to the next byte 10 are held; byte 10 itself is passed.
 pub record Holds (line chunk : List ℕ) (i : Input) (after : List ℕ) (r : Input) : Type 0 where
   pub held : PutsTo (most_held line) line (kept_size i) (before_byte 10 (chunk_left i chunk)) after r.size
-  pub completes : r.complete ≡ has_byte 10 (chunk_left i chunk)
+  pub completes : r.step ≡ cond (has_byte 10 (chunk_left i chunk)) Complete Within
   pub passes : r.from ≡ i.from + length (before_byte 10 (chunk_left i chunk)) + cond (has_byte 10 (chunk_left i chunk)) 1 0
   pub same_end : r.to ≡ i.to
-  pub goes_on : r.ended ≡ false
 
 -- A new chunk, of whose bytes nothing can be said; the input has ended where it has none.
 pub record Refills (chunk : List ℕ) (i r : Input) : Type 0 where
   pub keeps : r.size ≡ kept_size i
   pub starts : r.from ≡ 0
   pub lies : r.to ≤ length chunk
-  pub incomplete : r.complete ≡ false
-  pub says_end : r.ended ≡ eqb r.to 0
+  pub says_end : r.step ≡ cond (eqb r.to 0) Ended Within

@@ -1,11 +1,14 @@
 -- Numbers read, digests and positions found, one law for each way of the code.
-use Rattle.std.specs.Prelude.{◌≡◌, refl, Bool, true, false, cond, ◌&&◌, List, [], ◌∷◌, ◌⊎◌, ℕ, suc, ◌+◌, ◌-◌, ◌*◌, ◌≤◌, ◌<◌, min, eqb, leb, length, take, drop, get_or}
-use Rattle.std.proofs.Common.{sym, ap, ◌∙◌, ⊎_elim, arith, le-leb, eq-eqb, ne_eqb, length-drop, take_all}
+use Rattle.std.specs.Prelude.{◌≡◌, refl, Bool, true, false, cond, ◌&&◌, List, [], ◌∷◌, ◌⊎◌, ℕ, suc, ◌+◌, ◌-◌, ◌*◌, ◌≤◌, ◌<◌, min, eqb, ◌==◌, not, leb, ltb, Option, Some, None, length, take, drop, get_or}
+use Rattle.std.proofs.Common.{sym, ap, ◌∙◌, ⊎_elim, arith, le-leb, ltb-false, length-drop, take_all}
 use Rattle.std.proofs.Math.Nat.{min-eq_left}
 use Rattle.std.proofs.lemmas.Bool.{lt-leb}
 use Rattle.text.specs.Putting.{le_or, drop_next, drop_done}
-use Rattle.vector_text.specs.Cases.{part, appended, decimal_from, most_number, number_of_text, digest_by, before_byte, behind_byte, has_byte}
-use Rattle.vector_text.specs.Parts.{part_next}
+use Rattle.vector_text.specs.Cases.{appended, decimal_from, most_number, number_of_text, before_byte, behind_byte, has_byte}
+use Rattle.std.proofs.lemmas.List.Recursion.{is_position_or_len}
+use Rattle.std.specs.List.{position, position_or_len}
+use Rattle.std.specs.Option.{unwrap_or}
+use Rattle.std.proofs.lemmas.List.Sums.{prefix_len-le-length}
 
 -- Digits.
 pub digit_told : (n c : ℕ) → 48 ≤ c → c ≤ 57 → appended n c ≡ 10 * n + (c - 48)
@@ -58,40 +61,40 @@ reads_turn all n i r (h, k) l e = (
 pub reads_done : (all : List ℕ) (n i : ℕ) → Reads all n (drop i all) → length all ≤ i → n ≡ number_of_text all
 reads_done all n i (h, k) l = sym (min-eq_left k) ∙ sym (ap (λ xs. min (decimal_from n xs) most_number) (drop_done i all l)) ∙ h
 
--- Digests.
-pub digest_turn : (add : ℕ → ℕ → ℕ) (d r v i to : ℕ) (xs : List ℕ) → i < to → i < length xs → v ≡ get_or xs i 0 → r ≡ add d v
-    → digest_by add r (part (i + 1) to xs) ≡ digest_by add d (part i to xs)
-digest_turn add d r v i to xs h k f e = ap (λ m. digest_by add m (part (i + 1) to xs)) (e ∙ ap (add d) f) ∙ sym (ap (digest_by add d) (part_next i to xs h k))
+-- The first byte of a kind: where it stands is how many stand before it, and there is one where those are not all.
+pub before_end : (stop : ℕ) (xs : List ℕ) → length (before_byte stop xs) ≡ position_or_len (λ c. eqb c stop) xs
+before_end stop xs = is_position_or_len (λ ys. length (before_byte stop ys)) (λ c. eqb c stop) refl step xs where
+  step : (c : ℕ) (cs : List ℕ) → length (before_byte stop (c ∷ cs)) ≡ cond (eqb c stop) 0 (1 + length (before_byte stop cs))
+  step c cs = cases (eqb c stop) where
+    cases : (b : Bool) → length (cond b [] (c ∷ before_byte stop cs)) ≡ cond b 0 (1 + length (before_byte stop cs))
+    cases true = refl
+    cases false = omega arith
 
--- The first byte of a kind.
-pub before_here : (stop : ℕ) (xs ys : List ℕ) (c : ℕ) → xs ≡ c ∷ ys → c ≡ stop → before_byte stop xs ≡ []
-before_here stop xs ys c e h = ap (before_byte stop) e ∙ ap (λ b. cond b [] (c ∷ before_byte stop ys)) (eq-eqb c stop h)
+pub before_found : (stop : ℕ) (xs : List ℕ) → unwrap_or (position (λ c. c == stop) xs) (length xs) ≡ length (before_byte stop xs)
+before_found stop xs = found (ltb end (length xs)) refl ∙ sym (before_end stop xs) where
+  end : ℕ
+  end = position_or_len (λ c. c == stop) xs
 
-pub before_next : (stop : ℕ) (xs ys : List ℕ) (c : ℕ) → xs ≡ c ∷ ys → (c ≡ stop → ⊥) → before_byte stop xs ≡ c ∷ before_byte stop ys
-before_next stop xs ys c e h = ap (before_byte stop) e ∙ ap (λ b. cond b [] (c ∷ before_byte stop ys)) (ne_eqb c stop h)
+  found : (b : Bool) → ltb end (length xs) ≡ b → unwrap_or (cond b (Some end) None) (length xs) ≡ end
+  found true e = refl
+  found false e = omega (arith, ltb-false end (length xs) e, prefix_len-le-length (λ c. not (c == stop)) xs)
 
-pub has_here : (stop : ℕ) (xs ys : List ℕ) (c : ℕ) → xs ≡ c ∷ ys → c ≡ stop → has_byte stop xs ≡ true
-has_here stop xs ys c e h = ap (has_byte stop) e ∙ ap (λ b. cond b true (has_byte stop ys)) (eq-eqb c stop h)
+-- there is one where those before it are not all
+pub has_some : (stop : ℕ) (xs : List ℕ) → length (before_byte stop xs) < length xs → has_byte stop xs ≡ true
+has_some stop [] h = absurd (omega arith)
+has_some stop (c ∷ cs) h = cases (has_some stop cs) (eqb c stop) h where
+  cases : (length (before_byte stop cs) < length cs → has_byte stop cs ≡ true)
+      → (b : Bool) → length (cond b [] (c ∷ before_byte stop cs)) < suc (length cs) → cond b true (has_byte stop cs) ≡ true
+  cases f true h = refl
+  cases f false h = f (omega arith)
 
-pub has_next : (stop : ℕ) (xs ys : List ℕ) (c : ℕ) → xs ≡ c ∷ ys → (c ≡ stop → ⊥) → has_byte stop xs ≡ has_byte stop ys
-has_next stop xs ys c e h = ap (has_byte stop) e ∙ ap (λ b. cond b true (has_byte stop ys)) (ne_eqb c stop h)
-
--- the position so far and what stands before the byte from here on are together what stands before it
-abbrev pub SeeksByte : (stop : ℕ) (all : List ℕ) (i : ℕ) → Type 0
-SeeksByte stop all i = (i ≤ length all) × (i + length (before_byte stop (drop i all)) ≡ length (before_byte stop all))
-
-pub seek_start : (stop : ℕ) (all : List ℕ) → SeeksByte stop all 0
-seek_start stop all = (omega arith, omega arith)
-
-pub seek_here : (stop : ℕ) (all : List ℕ) (i : ℕ) → SeeksByte stop all i → i < length all → get_or all i 0 ≡ stop → i ≡ length (before_byte stop all)
-seek_here stop all i (h, k) l e = omega (arith, ap length (before_here stop (drop i all) (drop (i + 1) all) (get_or all i 0) (drop_next i all l) e))
-
-pub seek_next : (stop : ℕ) (all : List ℕ) (i : ℕ) → SeeksByte stop all i → i < length all → (get_or all i 0 ≡ stop → ⊥) → SeeksByte stop all (i + 1)
-seek_next stop all i (h, k) l e =
-    (omega arith, omega (arith, ap length (before_next stop (drop i all) (drop (i + 1) all) (get_or all i 0) (drop_next i all l) e)))
-
-pub seek_done : (stop : ℕ) (all : List ℕ) (i : ℕ) → SeeksByte stop all i → length all ≤ i → i ≡ length (before_byte stop all)
-seek_done stop all i (h, k) l = omega (arith, ap (λ xs. length (before_byte stop xs)) (drop_done i all l))
+pub has_none : (stop : ℕ) (xs : List ℕ) → length xs ≤ length (before_byte stop xs) → has_byte stop xs ≡ false
+has_none stop [] h = refl
+has_none stop (c ∷ cs) h = cases (has_none stop cs) (eqb c stop) h where
+  cases : (length cs ≤ length (before_byte stop cs) → has_byte stop cs ≡ false)
+      → (b : Bool) → suc (length cs) ≤ length (cond b [] (c ∷ before_byte stop cs)) → cond b true (has_byte stop cs) ≡ false
+  cases f true h = absurd (omega arith)
+  cases f false h = f (omega arith)
 
 -- Fields: what stands before the first byte of a kind, and what stands behind it.
 field-before : (stop : ℕ) (xs : List ℕ) → take (length (before_byte stop xs)) xs ≡ before_byte stop xs

@@ -1,10 +1,11 @@
 // Cells shown: bytes whole, or as a digest where they are many, and what a call leaves in lent buffers.
-ghost use Rattle.std.specs.Prelude.{◌≡◌, cond, eqb};
+ghost use Rattle.std.specs.Prelude.{◌≡◌, cond, eqb, map};
 ghost use Rattle.text.specs.Text.{Puts, field};
-ghost use Rattle.vector_text.specs.Cases.{part, bytes_digest, shown_text, left_text};
+ghost use Rattle.vector_text.specs.Cases.{part, digest_by, shown_text, left_text, numbers_text};
 
-use crate::digest::{START, of_bytes, of_words};
-use text::{least, put_byte, put_hex, put_parted};
+use crate::digest::{Cell, START, digest_of};
+use crate::parts::part;
+use text::{put_byte, put_hex, put_parted};
 
 const SHOWN_BYTES: usize = 64;
 
@@ -14,24 +15,35 @@ pub fn put_shown(out: &mut [u8], at: usize, bytes: &[u8], count: usize) -> usize
 {
     let end = put_byte(out, at, b'\t');
     if count <= SHOWN_BYTES {
-        let n = least(count, bytes.len());
-        return put_hex(out, end, &bytes[..n]);
+        put_hex(out, end, part(bytes, 0, count))
+    } else {
+        put_parted(out, end, b'#', digest_of(START, bytes, 0, count))
     }
-    put_parted(out, end, b'#', of_bytes(START, bytes, 0, count))
 }
 
 // A tab stands before the first number of a list, commas before the others.
-pub fn part_before(i: usize) -> u8
+fn part_before(i: usize) -> u8
     ensures { result ≡ cond (eqb i 0) 9 44 }
 {
     if i == 0 { b'\t' } else { b',' }
 }
 
-// The digest of the bytes from position `from` to before `to`.
-pub fn put_digest(out: &mut [u8], at: usize, bytes: &[u8], from: usize, to: usize) -> usize
-    ensures { Puts out.old at (field (bytes_digest 1 (part from to bytes.now))) out.new result }
+// The cells as numbers.
+pub fn put_numbers<C: Cell>(out: &mut [u8], at: usize, cells: &[C]) -> usize
+    ensures { Puts out.old at (numbers_text 0 (map C.value_of cells.now)) out.new result }
 {
-    put_parted(out, at, b'\t', of_bytes(START, bytes, from, to))
+    let mut end = at.min(out.len());
+    for (i, cell) in cells.iter().enumerate() {
+        end = put_parted(out, end, part_before(i), cell.value());
+    }
+    end
+}
+
+// The digest of the cells from position `from` to before `to`.
+pub fn put_digest<C: Cell>(out: &mut [u8], at: usize, cells: &[C], from: usize, to: usize) -> usize
+    ensures { Puts out.old at (field (digest_by C.added_to 1 (part from to cells.now))) out.new result }
+{
+    put_parted(out, at, b'\t', digest_of(START, cells, from, to))
 }
 
 // The digest of the words lent, the code bytes lent, and one digest of all cells past those lent, of the words and then
@@ -47,8 +59,8 @@ pub fn put_left(
 ) -> usize
     ensures { Puts out.old at (left_text digest words.now lent code.now bytes) out.new result }
 {
-    let a = put_parted(out, at, b'\t', of_words(START, words, 0, lent));
+    let a = put_digest(out, at, words, 0, lent);
     let b = put_shown(out, a, code, bytes);
-    let past = of_words(digest, words, lent, words.len());
-    put_parted(out, b, b'\t', of_bytes(past, code, bytes, code.len()))
+    let past = digest_of(digest, words, lent, words.len());
+    put_parted(out, b, b'\t', digest_of(past, code, bytes, code.len()))
 }

@@ -1,81 +1,81 @@
 // The lines of the input, which comes in chunks. Byte 10 ends a line.
-ghost use Rattle.std.specs.Prelude.{◌≡◌, [], ◌∷◌, ◌<◌, ◌≤◌};
-ghost use Rattle.text.specs.Text.{PutsTo};
-ghost use Rattle.vector_text.specs.Cases.{before_input, most_held, kept_size, Holds, Refills};
+ghost use Rattle.std.specs.Prelude.{◌≡◌, ◌<◌, ◌≤◌};
+ghost use Rattle.vector_text.specs.Cases.{before_input, kept_size, Holds, Refills};
 
+use crate::parts::{before, part};
 use std::io::Read;
-use text::least;
+use text::put_bytes;
 
-// The bytes of the chunk from `from` to before `to` are still to be held. `size` counts those held of a line; one above
-// the line's length marks a line that does not fit. A line that is complete is to be used before the next step.
+// What a step on in the input came to.
+#[derive(Clone, Copy, PartialEq, Eq)]
+pub enum Step {
+    // The line goes on.
+    Within,
+    // The line is complete, and is to be used before the next step.
+    Complete,
+    // The input has ended.
+    Ended,
+}
+
+// The bytes of the chunk from `from` to before `to` are still to be held. `size` counts those of the line so far, up to
+// one above the length of the buffer that holds them: then the line does not fit.
 #[derive(Clone, Copy)]
 pub struct Input {
     pub from: usize,
     pub to: usize,
     pub size: usize,
-    pub complete: bool,
-    pub ended: bool,
+    pub step: Step,
 }
 
-pub fn no_input() -> Input
-    ensures { result ≡ before_input }
-{
-    Input {
-        from: 0,
-        to: 0,
-        size: 0,
-        complete: false,
-        ended: false,
+impl Input {
+    // Nothing is read yet.
+    pub fn new() -> Input
+        ensures { result ≡ before_input }
+    {
+        Input {
+            from: 0,
+            to: 0,
+            size: 0,
+            step: Step::Within,
+        }
     }
-}
 
-fn hold_byte(line: &mut [u8], size: usize, byte: u8) -> usize
-    ensures { PutsTo (most_held line.old) line.old size (byte ∷ []) line.new result }
-{
-    if size < line.len() {
-        line[size] = byte;
-        return size + 1;
+    // A line that was complete is no longer held.
+    fn kept(&self) -> usize
+        ensures { result ≡ kept_size self.now }
+    {
+        match self.step {
+            Step::Complete => 0,
+            Step::Within | Step::Ended => self.size,
+        }
     }
-    line.len() + 1
-}
-
-fn size_kept(input: Input) -> usize
-    ensures { result ≡ kept_size input }
-{
-    if input.complete { 0 } else { input.size }
 }
 
 // Holds the bytes of the chunk up to the next byte 10, which is passed.
 fn hold(line: &mut [u8], chunk: &[u8], input: Input) -> Input
     ensures { Holds line.old chunk.now input line.new result }
 {
+    let left = part(chunk, input.from, input.to);
+    let held = before(left, b'\n');
+    let kept = input.kept();
+    put_bytes(line, kept, held);
+    let from = input.from + held.len();
     let to = input.to;
-    let kept = size_kept(input);
-    let mut size = least(kept, line.len() + 1);
-    let mut i = input.from;
-    while i < to {
-        if chunk.len() <= i {
-            break;
+    let size = kept.saturating_add(held.len()).min(line.len() + 1);
+    if held.len() < left.len() {
+        Input {
+            from: from + 1,
+            to,
+            size,
+            step: Step::Complete,
         }
-        let byte = chunk[i];
-        if byte == b'\n' {
-            return Input {
-                from: i + 1,
-                to,
-                size,
-                complete: true,
-                ended: false,
-            };
+    } else {
+        Input {
+            from,
+            to,
+            size,
+            step: Step::Within,
         }
-        size = hold_byte(line, size, byte);
-        i += 1;
-    }
-    Input {
-        from: i,
-        to,
-        size,
-        complete: false,
-        ended: false,
     }
 }
 
@@ -83,13 +83,13 @@ fn hold(line: &mut [u8], chunk: &[u8], input: Input) -> Input
 fn refill(reader: &mut impl Read, chunk: &mut [u8], input: Input) -> Input
     ensures { Refills chunk.new input result }
 {
-    let n = reader.read(chunk).unwrap_or(0);
+    let to = reader.read(chunk).unwrap_or(0);
+    let step = if to == 0 { Step::Ended } else { Step::Within };
     Input {
         from: 0,
-        to: n,
-        size: size_kept(input),
-        complete: false,
-        ended: n == 0,
+        to,
+        size: input.kept(),
+        step,
     }
 }
 
@@ -99,7 +99,8 @@ pub fn advance(reader: &mut impl Read, line: &mut [u8], chunk: &mut [u8], input:
     ensures line_unchanged { input.to ≤ input.from → (line.new ≡ line.old) × Refills chunk.new input result }
 {
     if input.from < input.to {
-        return hold(line, chunk, input);
+        hold(line, chunk, input)
+    } else {
+        refill(reader, chunk, input)
     }
-    refill(reader, chunk, input)
 }

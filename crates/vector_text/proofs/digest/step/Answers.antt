@@ -1,5 +1,5 @@
 -- `vector_text::digest::step` meets its contract: it is the definition.
-use mathlib.Core.Path.{refl}
+use Rattle.std.proofs.Common.{refl}
 use Rattle.vector_text.specs.Cases.{digest_step}
 use Rattle.vector_text.proofs.digest.step.Goals as goal
 

@@ -1,25 +1,20 @@
--- `vector_text::hex::decode` meets its contract. The invariant: what is left to decode gives what was to be put; the measure is what is left of the text.
-use mathlib.Core.Path.{refl}
-use mathlib.Core.Logic.{inl, inr}
-use native.Mathlib.Omega.{arith}
-use Rattle.text.specs.Putting.{put-start, put_turn, put_done, put_in}
-use Rattle.vector_text.specs.Parts.{puts_counts}
+-- `vector_text::hex::decode` meets its contract. The invariant: what is left to decode gives what was to be put.
+use Rattle.std.proofs.Common.{inl, inr, sym, ◌∙◌, arith}
+use Rattle.text.specs.Putting.{put_turn, put_done, put_in}
 use Rattle.vector_text.specs.Hexadecimal.{decode_stop, decode_next}
 use Rattle.vector_text.proofs.hex.decode.Goals as goal
 
-pub loop-n-init : goal.loop-n-init
-loop-n-init c = put-start _ _ _ _ _ _ (omega arith) (omega arith) refl
-
 pub loop-n-preserved : goal.loop-n-preserved
-loop-n-preserved c = put_turn _ _ _ _ _ _ _ _ _ _ _ _ c.loop-n.invariant
-    (decode_next c.loop-n.n _ c.args.digits.now c.byte_at-byte.ensures c.if-byte-gt255.false)
-    c.loop-n.invariant.long (put_in _ _ _ _ c.loop-n-test.true)
+loop-n-preserved c =
+    let next = decode_next c.loop-n.n _ c.args.digits.now (sym c.in-Some.is ∙ c.byte_at.ensures) in
+    put_turn _ _ _ _ _ _ _ _ _ _ _ _ c.loop-n.invariant next c.loop-n.invariant.long (put_in _ _ _ _ (omega (arith, c.loop-n.invariant.long)))
 
-pub returns-after-loop-n : goal.returns-after-loop-n
-returns-after-loop-n c = let p = put_done _ _ _ _ _ _ _ c.loop-n.invariant
-    (inr (c.loop-n-test.false, omega (arith, c.loop-n.invariant.long))) in record { puts = p; prefix_len = puts_counts _ _ _ _ _ p }
+pub returns-in_default-clause-puts : goal.returns-in_default-clause-puts
+returns-in_default-clause-puts c =
+    put_done _ _ _ _ _ _ _ c.loop-n.invariant (inl (decode_stop c.loop-n.n c.args.digits.now (sym c.in_default.is ∙ c.byte_at.ensures)))
 
-pub returns-then-byte-gt255 : goal.returns-then-byte-gt255
-returns-then-byte-gt255 c = let p = put_done _ _ _ _ _ _ _ c.loop-n.invariant
-    (inl (decode_stop c.loop-n.n _ c.args.digits.now
-    c.byte_at-byte.ensures c.if-byte-gt255.true)) in record { puts = p; prefix_len = puts_counts _ _ _ _ _ p }
+pub returns-clause-puts : goal.returns-clause-puts
+returns-clause-puts c =
+    let long = c.loop-n.invariant.long in
+    let put = put_done _ _ _ _ _ _ _ c.loop-n.invariant (inr (omega (arith, long), omega (arith, long))) in
+    record { leaves = put.leaves; ends = omega (arith, put.ends, long, c.loop-n.auto.n-end) }
