@@ -1,5 +1,5 @@
 -- Showing a piece: the first cause that holds is answered, whatever later causes hold, and the piece is empty.
-use Rattle.std.specs.Prelude.{◌≡◌, true, false, not, List, [], ◌∷◌, ℕ, ◌≤◌}
+use Rattle.std.specs.Prelude.{◌≡◌, true, false, not, List, [], ◌∷◌, ℕ, ◌≤◌, Err, Result}
 use Rattle.std.proofs.Math.Path.{refl, ap}
 use Rattle.std.proofs.Common.{sym, ◌∙◌}
 use Rattle.std.proofs.Math.Option.{none}
@@ -13,9 +13,8 @@ use Rattle.refusals.specs.CheckLaws.{first_more, refused_first}
 use Rattle.checks.specs.TapeOrder.{tape_order}
 use Rattle.checks.specs.TapeLaws.{IsTaken}
 use Rattle.codes.specs.Spells.{code_of_tape}
-use Rattle.spans.specs.declared.SpanOutcome.TheVariants.{Refused}
-use Rattle.spans.specs.declared.Spanned.{Spanned}
-use Rattle.spans.specs.Spans.{span_visit, unvisited, span_order, span_answer, span_outcome, refused_span, Spans}
+use Rattle.spans.specs.declared.find.Span.{Span}
+use Rattle.spans.specs.Spans.{span_visit, unvisited, span_order, span_answer, span_outcome, span_given, Spans}
 use Rattle.spans.specs.SpanLaws.{span_refused, behind-tape}
 use Rattle.spans.specs.Unique.{spans_one}
 use Rattle.spans.specs.Outside.{outside_none}
@@ -25,15 +24,17 @@ pub span_numbers : (p : Pattern) (tape code : List ℕ) (count l k : ℕ)
     → numbers (span_order p tape code count l k) ≡ 2 ∷ 3 ∷ 4 ∷ 8 ∷ 10 ∷ []
 span_numbers p tape code count l k = refl
 
-module _ (p : Pattern) (tape code : List ℕ) (count l k : ℕ) (r : Spanned) (h : Spans p tape code count l k r) where
+module _ (p : Pattern) (tape code : List ℕ) (count l k : ℕ) (r : Result Span Refusal) (h : Spans p tape code count l k r) where
   abbrev Only : Refusal → Type 0
-  Only why = (r.outcome ≡ Refused why) × (r.start ≡ 0) × (r.length ≡ 0)
+  Only why = (r ≡ Err why) × ((span_given r).start ≡ 0) × ((span_given r).length ≡ 0)
 
   pub only : (why : Refusal) → First why (span_order p tape code count l k) → Only why
-  only why f = spans_one p tape code count l k r (refused_span why) h (span_refused p tape code count l k why f (refused_span why) refl)
+  only why f =
+      let e = spans_one p tape code count l k r (Err why) h (span_refused p tape code count l k why f) in
+      (e, ap (λ z. (span_given z).start) e, ap (λ z. (span_given z).length) e)
 
   -- "and never otherwise"
-  pub only_first : (why : Refusal) → r.outcome ≡ Refused why → First why (span_order p tape code count l k)
+  pub only_first : (why : Refusal) → r ≡ Err why → First why (span_order p tape code count l k)
   unfolding span_answer
   only_first why e = refused_first (span_order p tape code count l k) (answer 0 0) refl why (sym h.answers ∙ ap span_outcome e)
 

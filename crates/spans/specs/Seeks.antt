@@ -11,11 +11,12 @@ use Rattle.syntax.specs.Trees.{made}
 use Rattle.bits.specs.Bits.{bit_at}
 use Rattle.semantics.specs.Visits.{visits_at}
 use Rattle.semantics.specs.Positions.{Seen, and_then}
-use Rattle.spans.specs.declared.find.Found.{Found}
-use Rattle.spans.specs.declared.find.Found.TheVariants.{Hit, Passed}
+use Rattle.std.specs.declared.ops.ControlFlow.TheVariants.{Continue, Break}
+use Rattle.spans.specs.declared.find.Passed.{Passed}
+use Rattle.spans.specs.declared.find.Span.{Span}
 use Rattle.spans.specs.declared.find.Step.{Step}
 use Rattle.walks.specs.Looks.{stops, same_seen, then_some}
-use Rattle.spans.specs.Traces.{Trace, letters_trace, trace_then, own, inside, trace_at, inside_at, own_seen, found_in, ended, end_of}
+use Rattle.spans.specs.Traces.{Trace, Found, passed, letters_trace, trace_then, own, inside, trace_at, inside_at, own_seen, found_in, ended, end_of}
 use Rattle.spans.specs.Traces.{found_first, found_second, found_own, found_inside, found_end}
 use Rattle.spans.specs.TraceLaws.{not_none, trace-inside, inside-value, inside_grows, trace_grows, trace_stays, inside_seq, inside_alt_none}
 use Rattle.spans.specs.TraceLaws.{rounds_none, rounds_stop, rounds_more, step_of, inside_leaf}
@@ -46,9 +47,9 @@ as_found : {o : Seen Trace} {i node k : ℕ} {r x : Found} → r ≡ x → Finds
 as_found e w = record { trace = w.trace; stop = w.stop; is = w.is; result = e ∙ w.result }
 
 -- a search that is told to go on ends where the trace ends
-passed_stop : {o : Seen Trace} {i node k : ℕ} {r : Found} (w : Finds o i node k r) (a b c : ℕ) → r ≡ Passed a b c → (a ≡ w.stop) × (b ≡ (w.trace i).1)
-passed_stop {o} {i} {node} {k} w a b c t =
-    let (x, y, _) = found_second node k (w.trace i).0 [] w.stop 0 (w.trace i).1 0 a b c (sym t ∙ w.result) in
+passed_stop : {o : Seen Trace} {i node k : ℕ} {r : Found} (w : Finds o i node k r) (p : Passed) → r ≡ Continue p → (p.at ≡ w.stop) × (p.letter ≡ (w.trace i).1)
+passed_stop {o} {i} {node} {k} w p t =
+    let (x, y, _) = found_second node k (w.trace i).0 [] w.stop 0 (w.trace i).1 0 p (sym t ∙ w.result) in
     (x, y)
 
 -- ── one after the other: parts of a pair, or a round and the rounds behind it ──
@@ -71,8 +72,8 @@ module _ {o a : Seen Trace} {f : ℕ → Seen Trace} (e : Runs o a f) {i : ℕ} 
       record { trace = x; stop = s; is = g; room = omega (arith, r.room, ap (λ z. (z i).1) k) }
 
   module _ {node k : ℕ} {one : Found} (w : Finds a i node k one) where
-    pub first_found : {b n : ℕ} → one ≡ Hit b n → Finds o i node k one
-    first_found {b} {n} t =
+    pub first_found : {s : Span} → one ≡ Break s → Finds o i node k one
+    first_found {s = found} t =
         let (x, s, y, g, h, q) = parts in
         let (p, _) = same_seen (sym w.is ∙ g) in
         let m = (x i).1 in
@@ -81,15 +82,15 @@ module _ {o a : Seen Trace} {f : ℕ → Seen Trace} (e : Runs o a f) {i : ℕ} 
           trace = r.trace;
           stop = r.stop;
           is = r.is;
-          result = t ∙ found_first node k (x i).0 (y m).0 w.stop r.stop m (y m).1 b n z ∙ ap (λ z. found_in node k r.stop (z i)) q;
+          result = t ∙ found_first node k (x i).0 (y m).0 w.stop r.stop m (y m).1 found z ∙ ap (λ z. found_in node k r.stop (z i)) q;
         }
 
-    module _ {next position left : ℕ} (t : one ≡ Passed next position left) where
-      pub second_seeking : Seeking (f next) position
+    module _ {next : Passed} (t : one ≡ Continue next) where
+      pub second_seeking : Seeking (f next.at) next.letter
       second_seeking =
           let (x, s, y, g, h, q) = parts in
           let (p, j) = same_seen (sym w.is ∙ g) in
-          let (b, c) = passed_stop w next position left t in
+          let (b, c) = passed_stop w next t in
           record {
             trace = y;
             stop = r.stop;
@@ -99,24 +100,24 @@ module _ {o a : Seen Trace} {f : ℕ → Seen Trace} (e : Runs o a f) {i : ℕ} 
 
       -- what is found in the second part, as what is found in both
       result_second : (x y : Trace) → w.trace ≡ x → trace_then x y ≡ r.trace
-          → found_in node left r.stop (y position) ≡ found_in node k r.stop (r.trace i)
+          → found_in node next.left r.stop (y next.letter) ≡ found_in node k r.stop (r.trace i)
       result_second x y p q =
           let m = (x i).1 in
           let z = sym t ∙ w.result ∙ ap (λ z. found_in node k w.stop (z i)) p in
-          let (_, c, d) = found_second node k (x i).0 (y m).0 w.stop r.stop m (y m).1 next position left z in
-          ap (λ n. found_in node left r.stop (y n)) c ∙ d ∙ ap (λ z. found_in node k r.stop (z i)) q
+          let (_, c, d) = found_second node k (x i).0 (y m).0 w.stop r.stop m (y m).1 next z in
+          ap (λ n. found_in node next.left r.stop (y n)) c ∙ d ∙ ap (λ z. found_in node k r.stop (z i)) q
 
-      pub second_found : {two : Found} → Finds (f next) position node left two → Finds o i node k two
+      pub second_found : {two : Found} → Finds (f next.at) next.letter node next.left two → Finds o i node k two
       second_found {two} v =
           let (x, s, y, g, h, q) = parts in
           let (p, j) = same_seen (sym w.is ∙ g) in
-          let (b, _) = passed_stop w next position left t in
+          let (b, _) = passed_stop w next t in
           let (u, l) = same_seen (sym v.is ∙ ap f (b ∙ j) ∙ h) in
           record {
             trace = r.trace;
             stop = r.stop;
             is = r.is;
-            result = v.result ∙ ap₂ (λ z n. found_in node left n (z position)) u l ∙ result_second x y p q;
+            result = v.result ∙ ap₂ (λ z n. found_in node next.left n (z next.letter)) u l ∙ result_second x y p q;
           }
 
 -- ── a node and what is inside it ──
@@ -168,9 +169,9 @@ module _ (code : List ℕ) (count : ℕ) (t : Tree) (at : ℕ) {i : ℕ} where
           as_own z (ez ∙ ap (ended i) w.result ∙ found_own node k w.stop (index t) i x.0 x.1 (el ∙ a) b none_inside left)
 
 -- ── leaves and stops: nothing is found, and so many visits are left ──
-missed : {o : Seen Trace} (i n j node k : ℕ) → o ≡ some (letters_trace n, j) → Finds o i node k (Passed j (i + n) k)
+missed : {o : Seen Trace} (i n j node k : ℕ) → o ≡ some (letters_trace n, j) → Finds o i node k (passed j (i + n) k)
 unfolding found_in
-missed i n j node k e = let z : k ≡ k - 0 = omega arith in record { trace = letters_trace n; stop = j; is = e; result = ap (Passed j (i + n)) z }
+missed i n j node k e = let z : k ≡ k - 0 = omega arith in record { trace = letters_trace n; stop = j; is = e; result = ap (passed j (i + n)) z }
 
 module _ (code : List ℕ) (count : ℕ) (fit : count ≤ length code * 8) where
   -- a leaf that is there: its bits are in the code, its letters on the tape
@@ -185,7 +186,7 @@ module _ (code : List ℕ) (count : ℕ) (fit : count ≤ length code * 8) where
     pub leaf_letters : i + s.letters ≤ letter_limit
     leaf_letters = omega (arith, r.room, ap (λ z. (z i).1) (same_seen (sym r.is ∙ passes.1)).0)
 
-    pub leaf_missed : {node k : ℕ} → Finds (inside_at code count t at) i node k (Passed (at + s.bits) (i + s.letters) k)
+    pub leaf_missed : {node k : ℕ} → Finds (inside_at code count t at) i node k (passed (at + s.bits) (i + s.letters) k)
     leaf_missed {node} {k} = missed i s.letters (at + s.bits) node k passes.1
 
   -- a pair is its first part and then its second
@@ -199,10 +200,10 @@ module _ (code : List ℕ) (count : ℕ) (fit : count ≤ length code * 8) where
       let h : count ≤ at → ⊥ = λ h. not_none r.is (inside_alt_none code count fit e at h) in
       omega arith
 
-  pub found_stays : (t : Tree) {at i node k : ℕ} {r : Found} → Finds (trace_at code count t at) i node k r → at ≤ count → {a b c : ℕ} → r ≡ Passed a b c
-      → (at ≤ a) × (a ≤ count)
-  found_stays t {at} w le {a} {b} {c} h =
-      let (e, _) = passed_stop w a b c h in
+  pub found_stays : (t : Tree) {at i node k : ℕ} {r : Found} → Finds (trace_at code count t at) i node k r → at ≤ count → {p : Passed} → r ≡ Continue p
+      → (at ≤ p.at) × (p.at ≤ count)
+  found_stays t {at} w le {p} h =
+      let (e, _) = passed_stop w p h in
       let s = trace_stays code count fit t at le w.trace w.stop w.is in
       (omega arith, omega arith)
 
@@ -225,11 +226,11 @@ module _ {code : List ℕ} {count : ℕ} (fit : count ≤ length code * 8) {t u 
       omega arith
 
   module _ {s : Bool} (es : s ≡ stops again (bit_at 8 code here)) where
-    pub turns_stop : s ≡ true → Finds (inside_at code count t at) i node k (Passed (here + 1) position left)
+    pub turns_stop : s ≡ true → Finds (inside_at code count t at) i node k (passed (here + 1) position left)
     turns_stop f =
         let same : position + 0 ≡ position = omega arith in
-        z.finish (Passed (here + 1) position left)
-        (as_found (ap (λ n. Passed (here + 1) n left) (sym same))
+        z.finish (passed (here + 1) position left)
+        (as_found (ap (λ n. passed (here + 1) n left) (sym same))
         (missed position 0 (here + 1) node left (rounds_stop code count fit e here turns_in s es f)))
 
     module _ (on : s ≡ false) where
@@ -240,14 +241,14 @@ module _ {code : List ℕ} {count : ℕ} (fit : count ≤ length code * 8) {t u 
       turns_round = first_seeking next z.ready
 
       module _ {one : Found} (w : Finds (trace_at code count u (here + 1)) position node left one) where
-        pub turns_found : {b n : ℕ} → one ≡ Hit b n → Finds (inside_at code count t at) i node k one
+        pub turns_found : {s : Span} → one ≡ Break s → Finds (inside_at code count t at) i node k one
         turns_found h = z.finish one (first_found next z.ready w h)
 
-        module _ {a b c : ℕ} (h : one ≡ Passed a b c) where
-          pub turns_less : (here + 1 ≤ a) × (a ≤ count)
+        module _ {p : Passed} (h : one ≡ Continue p) where
+          pub turns_less : (here + 1 ≤ p.at) × (p.at ≤ count)
           turns_less = let l = turns_in in found_stays code count fit u w (omega arith) h
 
-          pub turns_more : Turns code count t at i node k a b c
+          pub turns_more : Turns code count t at i node k p.at p.letter p.left
           turns_more =
               let l = turns_less in
               record {

@@ -1,22 +1,21 @@
 -- Spans of a whole code: one law for each way of the service.
-use Rattle.std.specs.Prelude.{◌≡◌, Bool, List, ◌++◌, ℕ, ◌+◌, ◌*◌, ◌-◌, ◌≤◌, ◌<◌, ltb}
+use Rattle.std.specs.Prelude.{◌≡◌, Bool, List, ◌++◌, ℕ, ◌+◌, ◌*◌, ◌-◌, ◌≤◌, Err}
 use Rattle.std.proofs.Math.Path.{refl, sym, ap}
 use Rattle.std.proofs.Common.{subst, ◌∙◌, true≢false, arith}
 use Rattle.std.proofs.Math.Bool.{true, false, not, cond}
-use Rattle.std.proofs.lemmas.Bool.{false≢true}
 use Rattle.std.proofs.Math.Option.{Option, none, some, none-ne-some}
 use Rattle.std.proofs.Math.Dec.{eqb}
-use borrow.Author.Tests.{lt-ltb, le-ltb, eqb-true, ne_eqb}
+use borrow.Author.Tests.{eqb-true, ne_eqb}
 use Rattle.std.proofs.Math.ListN.{length}
 use Rattle.syntax.specs.declared.Pattern.{Pattern}
 use Rattle.refusals.specs.declared.Refusal.{Refusal}
-use Rattle.refusals.specs.declared.Refusal.TheVariants.{Tree as TreeFault, TapeTooLong, TapeByte, NotACode, NoSuchVisit}
+use Rattle.refusals.specs.declared.Refusal.TheVariants.{NotACode, NoSuchVisit}
 use Rattle.refusals.specs.Refusals.{answer, number}
 use Rattle.refusals.specs.RefusalLaws.{number_positive}
 use Rattle.refusals.specs.Checks.{Check, First, here, past, Clear}
 use Rattle.refusals.specs.CheckLaws.{first_behind, clear_both, first_answered, clear_success, zero_clear}
 use Rattle.syntax.specs.Bools.{and_fst, and_snd}
-use Rattle.syntax.specs.Letter.{first_bad, letter_limit}
+use Rattle.syntax.specs.Letter.{letter_limit}
 use Rattle.syntax.specs.Tree.{Tree}
 use Rattle.syntax.specs.Trees.{root}
 use Rattle.syntax.specs.Table.{obeys}
@@ -34,13 +33,11 @@ use Rattle.codes.specs.Spells.{same, code_of_tape}
 use Rattle.codes.specs.SpellLaws.{same_length}
 use Rattle.checks.specs.TapeOrder.{tape_order}
 use Rattle.checks.specs.TapeLaws.{IsTaken, taken_clear}
-use Rattle.spans.specs.declared.SpanOutcome.TheVariants.{Shown}
-use Rattle.spans.specs.declared.Spanned.{Spanned}
-use Rattle.spans.specs.declared.find.Found.{Found}
-use Rattle.spans.specs.declared.find.Found.TheVariants.{Hit, Passed}
+use Rattle.std.specs.ControlFlow.{break_value}
+use Rattle.std.specs.Option.{ok_or}
 use Rattle.spans.specs.Spans.{visit_by, span_visit, unvisited, visit_order, span_order, span_answer}
-use Rattle.spans.specs.Spans.{start_of, size_of, span_shown, span_outcome, refused_span, Spans}
-use Rattle.spans.specs.Traces.{trace, trace-visits, trace_at, found_by, found_in, numbers}
+use Rattle.spans.specs.Spans.{start_of, size_of, span_shown, Spans}
+use Rattle.spans.specs.Traces.{Found, trace, trace-visits, trace_at, found_by, found_in}
 use Rattle.spans.specs.Seeks.{Seeking, Finds}
 
 -- ── what is known of a code of the tape ──
@@ -85,19 +82,19 @@ module _ (p : Pattern) (table : List ℕ) (o : obeys p ≡ true) (h : Holds p ta
 -- ── one law for each way of the service ──
 module _ (p : Pattern) (tape code : List ℕ) (count l k : ℕ) where
   abbrev Refuses : Refusal → Type 0
-  Refuses why = (s : Spanned) → s ≡ refused_span why → Spans p tape code count l k s
+  Refuses why = Spans p tape code count l k (Err why)
 
   -- the first cause that holds is answered, and the piece is empty
   pub span_refused : (why : Refusal) → First why (span_order p tape code count l k) → Refuses why
   unfolding span_answer span_shown
-  span_refused why f s es =
+  span_refused why f =
       let e = first_answered f (answer 0 0) in
       let z = ne_eqb (number why) 0 (λ q. omega (arith, q, number_positive why)) in
       let q = ap (λ b. cond b (span_visit p code count l k) none) (ap (λ x. eqb x.number 0) e ∙ z) in
       record {
-        answers = ap (λ x. span_outcome x.outcome) es ∙ sym e;
-        starts = ap (λ x. x.start) es ∙ sym (ap start_of q);
-        lengths = ap (λ x. x.length) es ∙ sym (ap size_of q);
+        answers = sym e;
+        starts = sym (ap start_of q);
+        lengths = sym (ap size_of q);
       }
 
   shown_at : (x : Visit) → span_answer p tape code count l k ≡ answer 0 0 → span_visit p code count l k ≡ some x
@@ -148,28 +145,16 @@ module _ (p : Pattern) (tape code : List ℕ) (count l k : ℕ) where
                   ∙ ap (λ z. found_by n j i (visit_by (root p) l k z)) (sym e),
             )
 
-        pub span_none : (a b c : ℕ) → r ≡ Passed a b c → Refuses NoSuchVisit
-        span_none a b c t = go (span_visit p code count l k) refl
+        -- the visit that was found is shown, and where none was, there is none
+        pub span_found : Spans p tape code count l k (ok_or (break_value r) NoSuchVisit)
+        span_found = go (span_visit p code count l k) refl
           where
-            go : (x : Option Visit) → span_visit p code count l k ≡ x → Refuses NoSuchVisit
+            go : (x : Option Visit) → span_visit p code count l k ≡ x → Spans p tape code count l k (ok_or (break_value r) NoSuchVisit)
             go none e =
-                span_refused NoSuchVisit (behind-tape (past (ap not w) (here (ap unvisited e))))
+                let (j, n, i, q) = found_visit in
+                rw (q ∙ ap (found_by n j i) e) (span_refused NoSuchVisit (behind-tape (past (ap not w) (here (ap unvisited e)))))
             go (some x) e =
                 let (j, n, i, q) = found_visit in
-                absurd (false≢true (ap (λ z. (numbers z).0) (sym t ∙ q ∙ ap (found_by n j i) e)))
-
-        pub span_found : (a b : ℕ) → r ≡ Hit a b → Spans p tape code count l k (record { outcome = Shown; start = a; length = b })
-        span_found a b t = go (span_visit p code count l k) refl
-          where
-            go : (x : Option Visit) → span_visit p code count l k ≡ x → Spans p tape code count l k (record { outcome = Shown; start = a; length = b })
-            go none e = let (j, n, i, q) = found_visit in absurd (true≢false (ap (λ z. (numbers z).0) (sym t ∙ q ∙ ap (found_by n j i) e)))
-            go (some x) e =
-                let (j, n, i, q) = found_visit in
-                let g = sym t ∙ q ∙ ap (found_by n j i) e in
                 let a = given x e in
                 let s = shown_at x a e in
-                record {
-                  answers = sym a;
-                  starts = ap (λ z. (numbers z).1.0) g ∙ sym (ap start_of s);
-                  lengths = ap (λ z. (numbers z).1.1.0) g ∙ sym (ap size_of s);
-                }
+                rw (q ∙ ap (found_by n j i) e) (record { answers = sym a; starts = sym (ap start_of s); lengths = sym (ap size_of s) })

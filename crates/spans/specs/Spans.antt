@@ -1,5 +1,5 @@
 -- Showing the piece of a visit: the answer, start and length, for every input. Definitions only.
-use Rattle.std.specs.Prelude.{◌≡◌, Bool, true, false, not, cond, List, [], ◌∷◌, ◌++◌, ℕ, eqb, take, drop}
+use Rattle.std.specs.Prelude.{◌≡◌, Bool, true, false, not, cond, List, [], ◌∷◌, ◌++◌, ℕ, eqb, take, drop, Err, Ok, Result}
 use Rattle.std.proofs.Math.Option.{Option, none, some}
 use Rattle.syntax.specs.declared.Pattern.{Pattern}
 use Rattle.refusals.specs.declared.Refusal.{Refusal}
@@ -13,9 +13,7 @@ use Rattle.bits.specs.Bits.{held}
 use Rattle.semantics.specs.Value.{Value}
 use Rattle.semantics.specs.Visits.{Visit, visit}
 use Rattle.semantics.specs.Decode.{value_of}
-use Rattle.spans.specs.declared.SpanOutcome.{SpanOutcome}
-use Rattle.spans.specs.declared.SpanOutcome.TheVariants.{Shown, Refused}
-use Rattle.spans.specs.declared.Spanned.{Spanned}
+use Rattle.spans.specs.declared.find.Span.{Span}
 use Rattle.codes.specs.Spells.{code_of_tape}
 
 abbrev pub visit_by : (t : Tree) → (node k : ℕ) → Option (Value t) → Option Visit
@@ -54,18 +52,20 @@ size_of (some x) = x.size
 unfoldable pub span_shown : Pattern → (tape code : List ℕ) → (count node k : ℕ) → Option Visit
 span_shown p tape code count l k = cond (eqb (span_answer p tape code count l k).number 0) (span_visit p code count l k) none
 
-abbrev pub span_outcome : SpanOutcome → Answer
-span_outcome Shown = answer 0 0
-span_outcome (Refused r) = refused r
+abbrev pub span_outcome : Result Span Refusal → Answer
+span_outcome (Ok s) = answer 0 0
+span_outcome (Err why) = refused why
 
-abbrev pub refused_span : Refusal → Spanned
-refused_span r = record { outcome = Refused r; start = 0; length = 0 }
+-- the span of the piece; refused, it is the empty one at the tape's start
+abbrev pub span_given : Result Span Refusal → Span
+span_given (Ok s) = s
+span_given (Err why) = record { start = 0; length = 0 }
 
 -- THE PROMISE of spans, for every input
-pub record Spans (p : Pattern) (tape code : List ℕ) (count node k : ℕ) (r : Spanned) : Type 0 where
-  pub answers : span_outcome r.outcome ≡ span_answer p tape code count node k
-  pub starts : r.start ≡ start_of (span_shown p tape code count node k)
-  pub lengths : r.length ≡ size_of (span_shown p tape code count node k)
+pub record Spans (p : Pattern) (tape code : List ℕ) (count node k : ℕ) (r : Result Span Refusal) : Type 0 where
+  pub answers : span_outcome r ≡ span_answer p tape code count node k
+  pub starts : (span_given r).start ≡ start_of (span_shown p tape code count node k)
+  pub lengths : (span_given r).length ≡ size_of (span_shown p tape code count node k)
 
 -- 01: "The piece is a part of the caller's tape"; "a refused piece is empty"
 abbrev pub piece_of : Option Visit → List ℕ → List ℕ

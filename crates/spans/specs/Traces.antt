@@ -15,8 +15,10 @@ use Rattle.bits.specs.Bits.{held}
 use Rattle.semantics.specs.Value.{Value, flat, flat_rounds}
 use Rattle.semantics.specs.Visits.{Visit, visits, along, visits_at, nth}
 use Rattle.semantics.specs.Positions.{Seen, see}
-use Rattle.spans.specs.declared.find.Found.{Found}
-use Rattle.spans.specs.declared.find.Found.TheVariants.{Hit, Passed}
+use Rattle.std.specs.declared.ops.ControlFlow.{ControlFlow}
+use Rattle.std.specs.declared.ops.ControlFlow.TheVariants.{Continue, Break}
+use Rattle.spans.specs.declared.find.Passed.{Passed}
+use Rattle.spans.specs.declared.find.Span.{Span}
 
 -- the visits passed, and the position behind them
 abbrev pub Visited : Type 0
@@ -127,9 +129,20 @@ own_seen l none = none
 own_seen l (some p) = some (own l p.0, p.1)
 
 -- ── searching ──
+abbrev pub Found : Type 0
+Found = ControlFlow Span Passed
+
+-- a visit that is found, by its start and size
+abbrev pub hit : (start size : ℕ) → Found
+hit a n = Break (record { start = a; length = n })
+
+-- visits that are passed: the search goes on at bit j and letter i, and k visits are left to pass
+abbrev pub passed : (j i k : ℕ) → Found
+passed j i k = Continue (record { at = j; letter = i; left = k })
+
 abbrev pub found_by : (left stop position : ℕ) → Option Visit → Found
-found_by k j i none = Passed j i k
-found_by k j i (some x) = Hit x.start x.size
+found_by k j i none = passed j i k
+found_by k j i (some x) = hit x.start x.size
 
 -- visit k of a node among some visits; where there are too few, how many are still to be passed
 unfoldable pub found_in : (node k stop : ℕ) → Visited → Found
@@ -137,17 +150,17 @@ found_in node k j x = found_by (k - length (visits_at node x.0)) j x.1 (nth k (v
 
 -- a visit that starts at letter i ends where the search of its parts ends
 abbrev pub ended : (start : ℕ) → Found → Found
-ended i (Hit a n) = Hit a n
-ended i (Passed j e k) = Hit i (e - i)
+ended i (Break s) = Break s
+ended i (Continue p) = hit i (p.letter - i)
 
 abbrev pub end_of : (start : ℕ) → Found → ℕ
-end_of i (Hit a n) = i
-end_of i (Passed j e k) = e
+end_of i (Break s) = i
+end_of i (Continue p) = p.letter
 
 -- what was found, in numbers
 abbrev pub numbers : Found → Bool × (ℕ × (ℕ × ℕ))
-numbers (Hit a n) = (true, (a, (n, 0)))
-numbers (Passed j i k) = (false, (j, (i, k)))
+numbers (Break s) = (true, (s.start, (s.length, 0)))
+numbers (Continue p) = (false, (p.at, (p.letter, p.left)))
 
 pub at_append : (l : ℕ) (xs ys : List Visit) → visits_at l (xs ++ ys) ≡ visits_at l xs ++ visits_at l ys
 at_append l [] ys = refl
@@ -182,31 +195,31 @@ module _ (node k : ℕ) (vs ws : List Visit) (j j' i i' : ℕ) where
   Both = visits_at node (vs ++ ws)
 
   -- found among the first
-  pub found_first : (a n : ℕ) → Hit a n ≡ found_in node k j (vs, i) → Hit a n ≡ found_in node k j' (vs ++ ws, i')
+  pub found_first : (s : Span) → Break s ≡ found_in node k j (vs, i) → Break s ≡ found_in node k j' (vs ++ ws, i')
   unfolding found_in
-  found_first a n er = go (nth k As) refl
+  found_first s er = go (nth k As) refl
     where
-      go : (o : Option Visit) → nth k As ≡ o → Hit a n ≡ found_by (k - length Both) j' i' (nth k Both)
+      go : (o : Option Visit) → nth k As ≡ o → Break s ≡ found_by (k - length Both) j' i' (nth k Both)
       go none e = absurd (true≢false (ap (λ x. (numbers x).0) (er ∙ ap (found_by (k - length As) j i) e)))
       go (some x) e =
           er ∙ ap (found_by (k - length As) j i) e
           ∙ sym (ap (found_by (k - length Both) j' i') (ap (nth k) (at_append node vs ws) ∙ nth_hit k As Bs x e))
 
   -- or it goes on where that stopped
-  pub found_second : (a b c : ℕ) → Passed a b c ≡ found_in node k j (vs, i)
-      → (a ≡ j) × (b ≡ i) × (found_in node c j' (ws, i') ≡ found_in node k j' (vs ++ ws, i'))
+  pub found_second : (p : Passed) → Continue p ≡ found_in node k j (vs, i)
+      → (p.at ≡ j) × (p.letter ≡ i) × (found_in node p.left j' (ws, i') ≡ found_in node k j' (vs ++ ws, i'))
   unfolding found_in
-  found_second a b c er = go (nth k As) refl
+  found_second p er = go (nth k As) refl
     where
       go : (o : Option Visit) → nth k As ≡ o
-          → (a ≡ j) × (b ≡ i) × (found_by (c - length Bs) j' i' (nth c Bs) ≡ found_by (k - length Both) j' i' (nth k Both))
+          → (p.at ≡ j) × (p.letter ≡ i) × (found_by (p.left - length Bs) j' i' (nth p.left Bs) ≡ found_by (k - length Both) j' i' (nth k Both))
       go (some x) e = absurd (false≢true (ap (λ x. (numbers x).0) (er ∙ ap (found_by (k - length As) j i) e)))
       go none e =
           let q = er ∙ ap (found_by (k - length As) j i) e in
-          let f : c ≡ k - length As = ap (λ x. (numbers x).1.1.1) q in
+          let f : p.left ≡ k - length As = ap (λ x. (numbers x).1.1.1) q in
           let (_, g) = nth_miss k As Bs e in
           let both = at_append node vs ws in
-          let z : c - length Bs ≡ k - length Both = omega (arith, f, ap length both, length-append As Bs) in (
+          let z : p.left - length Bs ≡ k - length Both = omega (arith, f, ap length both, length-append As Bs) in (
             ap (λ x. (numbers x).1.0) q,
             ap (λ x. (numbers x).1.1.0) q,
             ap₂ (λ a b. found_by a j' i' b) z (ap (λ n. nth n Bs) f ∙ sym g ∙ ap (nth k) (sym both)),

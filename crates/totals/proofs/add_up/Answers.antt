@@ -1,8 +1,7 @@
 -- `totals::add_up` meets its contract.
-use Rattle.std.proofs.Common.{◌≡◌, ℕ, ◌+◌, ◌<◌, length, get_or, set, take, sym, ap, ap₂, ◌∙◌, arith, rules}
+use Rattle.std.proofs.Common.{◌≡◌, ◌+◌, ◌<◌, length, get_or, set, take, ap, ap₂, ◌∙◌, arith, rules}
 use Rattle.std.proofs.lemmas.List.{get_or-take, length-take, length_push}
 use Rattle.std.proofs.lemmas.Slice.Zip.{zip_turn, zip_end}
-use Rattle.semantics.specs.Accounts.{litres}
 use Rattle.totals.specs.Sums.{charge_one, entries_summed_room, entries_summed_next, entries_summed_end}
 use Rattle.totals.proofs.add_up.Goals as goal
 

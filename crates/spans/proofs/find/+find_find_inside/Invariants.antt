@@ -10,8 +10,9 @@ decreases-find l = ((l.count - l.at) * 64 + l.l) * 2 + 1
 abbrev pub decreases-find_inside : goal.decreases-find_inside
 decreases-find_inside l = ((l.count - l.at) * 64 + l.l) * 2
 
-abbrev pub invariant-find_inside-loop-l : goal.invariant-find_inside-loop-l
-invariant-find_inside-loop-l l = Turns l.code l.count (tree_in l.table l.l) l.at l.i l.node l.k l.here l.j l.left
+abbrev pub invariant-find_inside-loop-here : goal.invariant-find_inside-loop-here
+invariant-find_inside-loop-here l =
+    Turns l.code l.count (tree_in l.table l.l) l.at l.i l.node l.k l.here.at l.here.letter l.here.left
 
-abbrev pub decreases-find_inside-loop-l : goal.decreases-find_inside-loop-l
-decreases-find_inside-loop-l l = l.count - l.here
+abbrev pub decreases-find_inside-loop-here : goal.decreases-find_inside-loop-here
+decreases-find_inside-loop-here l = l.count - l.here.at
