@@ -78,14 +78,16 @@ pub fn bytes_for(count: u32) -> usize
 }
 
 // Whether bytes and a bit count can be a code at all: exactly enough bytes, at most 65,536, and the unused bits 0.
+#[tactic(auto, using(binary::specs::Handed::handed_over))]
 pub fn handed_good(code: &[u8], count: u32) -> bool
     ensures { result ≡ handed_good code.now count }
 {
+    if code.len() > Pattern::MAX_CODE_BYTES {
+        return false;
+    }
     let q = (count / 8) as usize;
     let r = count % 8;
-    code.len() <= Pattern::MAX_CODE_BYTES
-        && code.len() == bytes_for(count)
-        && (r == 0 || high_bits(code[q], r) == code[q])
+    code.len() == bytes_for(count) && (r == 0 || high_bits(code[q], r) == code[q])
 }
 
 // How many nodes are open in a state set: the language's count of ones.

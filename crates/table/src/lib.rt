@@ -3,12 +3,13 @@
 // reference, where a table by value would be copied at each call.
 // Every kind's number from 6 on means a lazy star, so that each cell has a node and no reader needs a fault case. Followers are handed down from the
 // last line to the first, by one law (specs/HandDown) that also gives the follow sets of crate masks.
+// Kept: numbers packed in one word, and kinds as numbers, since sweeps read a cell at each step: one word a line is fast to read, and lent whole.
 #![tactic(auto)]
 
 ghost use Rattle.std.specs.Prelude.{◌≡◌, ◌-◌, ◌≤◌, ◌<◌, ◌/◌, ◌%◌, length, replicate};
 ghost use Rattle.syntax.specs.TreeLaws.{Rules};
 ghost use Rattle.table.specs.HandDown.{first_part, second_part, Rooted};
-ghost use Rattle.table.specs.Cells.{row, leaf_row, star_kind, row_of, node_from, cell_line, line_in, node_in, account_in, Holds};
+ghost use Rattle.table.specs.Cells.{row, row_of, node_from, cell_line, line_in, node_in, account_in, Holds};
 ghost use Rattle.table.specs.Cells.{field, first_place, second_place, account_place, half};
 ghost use Rattle.table.specs.Cells.{cell_follower, cell_follower_in, follower_in, loops_in};
 ghost use Rattle.table.specs.CellLaws.{Filled, FollowerPut, first_follower, Follows};
@@ -63,55 +64,33 @@ fn row(kind: u8, first: u8, second: u8) -> Numbers
     }
 }
 
-fn leaf_row(leaf: Leaf) -> Numbers
-    ensures { result ≡ leaf_row leaf }
-{
-    match leaf {
-        Leaf::Nothing => row(Numbers::NOTHING, 0, 0),
-        Leaf::Letter(c) => row(Numbers::LETTER, c, 0),
-        Leaf::Range(a, b) => row(Numbers::RANGE, a, b),
-    }
-}
-
-// The number of a star's kind, by the bit that means another round.
-fn star_kind(again: bool) -> u8
-    ensures { result ≡ star_kind again }
-{
-    if again {
-        Numbers::LAZY_STAR
-    } else {
-        Numbers::STAR
-    }
-}
-
 fn row_of(node: Node) -> Numbers
     ensures { result ≡ row_of node }
 {
     match node {
-        Node::Leaf(leaf) => leaf_row(leaf),
+        Node::Leaf(Leaf::Nothing) => row(Numbers::NOTHING, 0, 0),
+        Node::Leaf(Leaf::Letter(c)) => row(Numbers::LETTER, c, 0),
+        Node::Leaf(Leaf::Range(a, b)) => row(Numbers::RANGE, a, b),
         Node::Sequence(p, q) => row(Numbers::SEQUENCE, p, q),
         Node::Alternative(p, q) => row(Numbers::ALTERNATIVE, p, q),
-        Node::Star(again, p) => row(star_kind(again), p, 0),
+        Node::Star(false, p) => row(Numbers::STAR, p, 0),
+        Node::Star(true, p) => row(Numbers::LAZY_STAR, p, 0),
     }
-}
-
-fn wide(x: u8) -> u64
-    ensures { (result ≡ x) × (result < field) }
-{
-    x as u64
 }
 
 fn pack(kind: u8, first: u8, second: u8, account: u8) -> u64
     ensures { (result % field ≡ kind) × (result / first_place % field ≡ first) × (result / second_place % field ≡ second) × (result / account_place % field ≡ account) }
 {
-    wide(kind) + wide(first) * FIRST + wide(second) * SECOND + wide(account) * ACCOUNT
+    u64::from(kind)
+        + u64::from(first) * FIRST
+        + u64::from(second) * SECOND
+        + u64::from(account) * ACCOUNT
 }
 
 fn cell_of(line: Line) -> u64
     ensures { cell_line result ≡ line }
 {
-    let node = line.node;
-    let row = row_of(node);
+    let row = row_of(line.node);
     pack(row.kind, row.first, row.second, line.account)
 }
 
@@ -120,37 +99,23 @@ fn put_lines(p: Pattern, table: &mut [u64])
     requires { (p.count ≤ 64) × (table.old ≡ replicate 64 0) }
     ensures { Filled p table.new p.count }
 {
-    let mut i = 0;
-    while i < p.count {
-        let line = p.lines[i];
-        let cell = cell_of(line);
-        table[i] = cell;
-        i += 1;
+    for (i, line) in p.lines[..p.count].iter().enumerate() {
+        table[i] = cell_of(*line);
     }
 }
 
 fn node_of(kind: u8, first: u8, second: u8) -> Node
     ensures { result ≡ node_from kind first second }
 {
-    if kind == Numbers::NOTHING {
-        return Node::Leaf(Leaf::Nothing);
+    match kind {
+        Numbers::NOTHING => Node::Leaf(Leaf::Nothing),
+        Numbers::LETTER => Node::Leaf(Leaf::Letter(first)),
+        Numbers::RANGE => Node::Leaf(Leaf::Range(first, second)),
+        Numbers::SEQUENCE => Node::Sequence(first, second),
+        Numbers::ALTERNATIVE => Node::Alternative(first, second),
+        Numbers::STAR => Node::Star(false, first),
+        _ => Node::Star(true, first),
     }
-    if kind == Numbers::LETTER {
-        return Node::Leaf(Leaf::Letter(first));
-    }
-    if kind == Numbers::RANGE {
-        return Node::Leaf(Leaf::Range(first, second));
-    }
-    if kind == Numbers::SEQUENCE {
-        return Node::Sequence(first, second);
-    }
-    if kind == Numbers::ALTERNATIVE {
-        return Node::Alternative(first, second);
-    }
-    if kind == Numbers::STAR {
-        return Node::Star(false, first);
-    }
-    Node::Star(true, first)
 }
 
 // The node of a line, so that a walk over a packed table is a match on the node.
@@ -195,9 +160,7 @@ pub fn first_part(node: Node, i: usize) -> usize
 {
     match node {
         Node::Leaf(_) => i,
-        Node::Sequence(p, _) => p as usize,
-        Node::Alternative(p, _) => p as usize,
-        Node::Star(_, p) => p as usize,
+        Node::Sequence(p, _) | Node::Alternative(p, _) | Node::Star(_, p) => usize::from(p),
     }
 }
 
@@ -206,9 +169,7 @@ pub fn second_part(node: Node, i: usize) -> usize
 {
     match node {
         Node::Leaf(_) => i,
-        Node::Sequence(_, q) => q as usize,
-        Node::Alternative(_, q) => q as usize,
-        Node::Star(_, p) => p as usize,
+        Node::Sequence(_, q) | Node::Alternative(_, q) | Node::Star(_, q) => usize::from(q),
     }
 }
 
@@ -225,10 +186,9 @@ fn first_follower(node: Node, i: usize, line: u64) -> u64
     ensures { (result ≡ first_follower i node line) × (result < half) }
 {
     match node {
-        Node::Leaf(_) => line,
-        Node::Sequence(_, q) => wide(q),
-        Node::Alternative(_, _) => line,
-        Node::Star(_, _) => i as u64 + ABOVE,
+        Node::Leaf(_) | Node::Alternative(..) => line,
+        Node::Sequence(_, q) => u64::from(q),
+        Node::Star(..) => i as u64 + ABOVE,
     }
 }
 
@@ -244,9 +204,7 @@ fn put_followers(table: &mut [u64; 64], count: usize)
     requires { Rooted (line_in table.old) count × (length table.old ≡ 64) × (cell_follower_in table.old (count - 1) ≡ 64) }
     ensures { Follows table.old count table.new }
 {
-    let mut i = count;
-    while 0 < i {
-        i -= 1;
+    for i in (0..count).rev() {
         let node = node_at(table, i);
         let line = follower(table[i]);
         put_follower(table, second_part(node, i), line);

@@ -6,6 +6,3 @@ use Rattle.table.proofs.put_followers.Given as goal
 
 abbrev pub invariant-loop-i : goal.invariant-loop-i
 invariant-loop-i l = Rooted (line_in l.initial.table) l.count × Following l.initial.table l.count l.i l.table
-
-abbrev pub decreases-loop-i : goal.decreases-loop-i
-decreases-loop-i l = l.i
