@@ -34,11 +34,11 @@ row-node (Alternative p q) = refl
 row-node (Star false p) = refl
 row-node (Star true p) = refl
 
-pub cell-packed :
+pub cell_packed :
     (x : Line) (r : Numbers) (c : ℕ) → r ≡ row_of x.node → c % field ≡ r.kind → c / first_place % field ≡ r.first → c / second_place % field ≡ r.second
     → c / account_place % field ≡ x.account → cell_line c ≡ x
 unfolding cell_node cell_account
-cell-packed x r c er ek ea eb eo = rw (ek, ea, eb, eo, er, row-node x.node)
+cell_packed x r c er ek ea eb eo = rw (ek, ea, eb, eo, er, row-node x.node)
 
 -- ── filling ──
 -- the lines below i are filled in
@@ -65,9 +65,9 @@ pub record FollowerPut (table : List ℕ) (l v : ℕ) (now : List ℕ) : Type 0 
   pub lines : (k : ℕ) → line_in now k ≡ line_in table k
   pub stores : Stores (cell_follower_in table) l v (cell_follower_in now)
 
-pub follower-put : (table : List ℕ) (l v : ℕ) → l < length table → FollowerPut table l v (set table l (get_or table l 0 % half + v * half))
+pub follower_put : (table : List ℕ) (l v : ℕ) → l < length table → FollowerPut table l v (set table l (get_or table l 0 % half + v * half))
 unfolding cell_node cell_account cell_follower
-follower-put table l v h = record {
+follower_put table l v h = record {
   long = length-set table l cell;
   lines = λ k. line k (equal k l);
   stores = record {

@@ -87,6 +87,7 @@ fn pack(kind: u8, first: u8, second: u8, account: u8) -> u64
         + u64::from(account) * ACCOUNT
 }
 
+#[tactic(auto, using(crate::specs::CellLaws::cell_packed))]
 fn cell_of(line: Line) -> u64
     ensures { cell_line result ≡ line }
 {
@@ -119,6 +120,7 @@ fn node_of(kind: u8, first: u8, second: u8) -> Node
 }
 
 // The node of a line, so that a walk over a packed table is a match on the node.
+#[tactic(auto, unfolding(crate::specs::Cells::cell_node))]
 pub fn node_at(table: &[u64; 64], l: usize) -> Node
     requires { l < 64 }
     ensures { result ≡ node_in table.now l }
@@ -131,6 +133,7 @@ pub fn node_at(table: &[u64; 64], l: usize) -> Node
 }
 
 // The account of a line, 0 for none.
+#[tactic(auto, unfolding(crate::specs::Cells::cell_account))]
 pub fn account_at(table: &[u64; 64], l: usize) -> u8
     requires { l < 64 }
     ensures { result ≡ account_in table.now l }
@@ -139,6 +142,7 @@ pub fn account_at(table: &[u64; 64], l: usize) -> u8
 }
 
 // The node that follows a line (01: its follower), 64 for the end.
+#[tactic(auto, unfolding(crate::specs::Cells::cell_follower))]
 pub fn follower_at(table: &[u64; 64], l: usize) -> u8
     requires { l < 64 }
     ensures { result ≡ follower_in table.now l }
@@ -147,6 +151,7 @@ pub fn follower_at(table: &[u64; 64], l: usize) -> u8
 }
 
 // Whether the node that follows a line is a star above it.
+#[tactic(auto, unfolding(crate::specs::Cells::cell_follower))]
 pub fn loops_at(table: &[u64; 64], l: usize) -> bool
     requires { l < 64 }
     ensures { result ≡ loops_in table.now l }
@@ -174,6 +179,7 @@ pub fn second_part(node: Node, i: usize) -> usize
 }
 
 // What a cell says of the follower: its number, and 256 more where it is a star above.
+#[tactic(auto, unfolding(crate::specs::Cells::cell_follower))]
 fn follower(cell: u64) -> u64
     ensures { (result ≡ cell_follower cell) × (result < half) }
 {

@@ -1,8 +1,0 @@
--- `table::follower_at` meets its contract.
-use borrow.Author.Rules.{rules}
-use Rattle.table.specs.Cells.{cell_follower}
-use Rattle.table.proofs.follower_at.Goals as goal
-
-pub returns : goal.returns
-unfolding cell_follower
-returns c = search rules
