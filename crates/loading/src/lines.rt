@@ -22,7 +22,7 @@ pub(crate) fn read_lines(text: &[u8]) -> Result<Pattern, Refusal>
             return Err(Refusal::LineForm(i as u32));
         };
         p.lines[i] = line;
-        p.count = i + 1;
+        p.count += 1;
         at = next;
     }
     Ok(p)

@@ -42,7 +42,7 @@ pub struct Line {
 #[derive(Clone, Copy)]
 pub struct Pattern {
     pub count: usize,
-    pub lines: [Line; 64],
+    pub lines: [Line; Pattern::MAX_LINES],
 }
 
 impl Pattern {

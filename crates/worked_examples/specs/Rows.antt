@@ -4,8 +4,8 @@ use Rattle.std.specs.Prelude.{◌≡◌, List, [], ◌∷◌, ℕ, ◌+◌, ◌*
 use Rattle.refusals.specs.declared.Refusal.{Refusal}
 use Rattle.refusals.specs.Refusals.{Answer, answer}
 use Rattle.bits.specs.Bits.{in_front}
-use Rattle.loading.specs.declared.Loaded.{Loaded}
-use Rattle.loading.specs.Load.{outcome_answer, Loads}
+use Rattle.syntax.specs.declared.Pattern.{Pattern}
+use Rattle.loading.specs.Load.{loaded_answer, pattern_or_none, Loads}
 use Rattle.parser.specs.Parse.{parsed_answer, Parses}
 use Rattle.canonical.specs.Canonicalize.{canonicalized_answer, Canonicalizes}
 use Rattle.worked_examples.specs.Texts.{P1, P2, P3, P4, P5, Listing, Z1, Z2, Z3, Z4, Z5, Z6, Z7, H1, d, a, b, W}
@@ -31,20 +31,20 @@ pub record Row : Type 0 where
 -- that table the answer and the bytes in front of the code buffer are the row's. 01: "Buffer cells past the written ones never change."
 abbrev pub Says : Asked → (text tape : List ℕ) → Answer → (written : List ℕ) → Type 0
 Says reading text tape answered written =
-    (l : Loaded) → Loads text l
-    → (words words_now code code_now : List ℕ) (r : Result ℕ Refusal) → Parses l.pattern tape words words_now code code_now r
+    (l : Result Pattern Refusal) → Loads text l
+    → (words words_now code code_now : List ℕ) (r : Result ℕ Refusal) → Parses (pattern_or_none l) tape words words_now code code_now r
     → 2 * (length tape + 1) ≤ length words → length written ≤ length code
     → (parsed_answer r ≡ answered) × (code_now ≡ in_front written code)
 -- 01: "buffers suffice with at least n tape cells, 2 × (n + 1) mark words, and as many code bytes as the code [..] fills"
 Says (settling handed count) text tape answered written =
-    (l : Loaded) → Loads text l
+    (l : Result Pattern Refusal) → Loads text l
     → (cells cells_now words words_now code code_now : List ℕ) (r : Result ℕ Refusal)
-    → Canonicalizes l.pattern handed count cells cells_now words words_now code code_now r
+    → Canonicalizes (pattern_or_none l) handed count cells cells_now words words_now code code_now r
     → length tape ≤ length cells → 2 * (length tape + 1) ≤ length words → length written ≤ length code
     → (canonicalized_answer r ≡ answered) × (cells_now ≡ in_front tape cells) × (code_now ≡ in_front written code)
 
 pub record Holds (r : Row) : Type 0 where
-  pub loads : (l : Loaded) → Loads r.text l → outcome_answer l.outcome ≡ answer 0 r.lines
+  pub loads : (l : Result Pattern Refusal) → Loads r.text l → loaded_answer l ≡ answer 0 r.lines
   pub says : Says r.asked r.text r.tape r.answered r.written
 
 -- a row of reading, and one of settling
