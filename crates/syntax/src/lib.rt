@@ -72,7 +72,7 @@ impl Pattern {
 
     pub const LAST_HOT_LETTER: u8 = 254;
 
-    // A table of no lines, which obeys no pattern rules: what a refused load gives.
+    // A table of no lines, which obeys no pattern rules: what callers of a refused load go on with.
     #[tactic(auto, unfolding(crate::specs::Table::no_lines))]
     pub fn new() -> Pattern
         ensures { result ≡ no_lines }
