@@ -9,21 +9,8 @@ use Rattle.syntax.specs.Trees.{root}
 use Rattle.bits.specs.Bits.{cell_count, pack, in_front}
 use Rattle.semantics.specs.Code.{Canonical}
 use Rattle.steps.specs.StateSets.{words as state_sets}
-use Rattle.agree.specs.declared.Agreement.{Agreement}
-use Rattle.agree.specs.declared.Agreement.TheVariants.{Same, Different, Refused as NotSettled}
 use Rattle.canonical.specs.Canonicalize.{Canonicalizes}
 use Rattle.canonical.specs.Demand.{tape_of, Code, spells, Run, Equal, Demand}
-
--- why a call of settling refused: what a run passes on
-abbrev pub Unsettled : Result ℕ Refusal → Refusal → Type 0
-Unsettled a why = a ≡ Err why
-
--- what the three comparisons come to: each code came back as it was, and the two are equal
-abbrev pub concluded : (first second both : Bool) → Agreement
-concluded true true true = Same
-concluded true true false = Different
-concluded true false both = Different
-concluded false second both = Different
 
 -- ── two settled codes, each settled again ──
 
@@ -40,9 +27,9 @@ pub record IsSettled (p : Pattern) (code : List ℕ) (count tape words : ℕ) : 
   pub word_room : 2 * (length letters + 1) ≤ words
 
 -- 01: "Codes are equal if their bit counts and all their bytes are."
-pub record Compares (one : List ℕ) (n : ℕ) (two : List ℕ) (m : ℕ) (r : Agreement) : Type 0 where
-  pub same : (r ≡ Same) ↔ Equal one two n m
-  pub different : (r ≡ Different) ↔ (Equal one two n m → ⊥)
+pub record Compares (one : List ℕ) (n : ℕ) (two : List ℕ) (m : ℕ) (r : Result Bool Refusal) : Type 0 where
+  pub same : (r ≡ Ok true) ↔ Equal one two n m
+  pub different : (r ≡ Ok false) ↔ (Equal one two n m → ⊥)
 
 -- the buffers that are worked in: tape, mark words, and the one for a code that is settled again
 pub record Worked : Type 0 where
@@ -63,14 +50,14 @@ written p code count lent = worked (filled p code count lent).tape (filled p cod
 
 -- each comes back as itself, the first before the second; a buffer that is too short for it is 7, with the bytes needed. Then the two are
 -- compared.
-pub record SettlesAgain (p : Pattern) (one : List ℕ) (n : ℕ) (two : List ℕ) (m : ℕ) (lent left : Worked) (r : Agreement) : Type 0 where
-  pub first_short : length lent.again < length one → (r ≡ NotSettled (CodeTooShort (length one))) × (left ≡ filled p one n lent)
+pub record SettlesAgain (p : Pattern) (one : List ℕ) (n : ℕ) (two : List ℕ) (m : ℕ) (lent left : Worked) (r : Result Bool Refusal) : Type 0 where
+  pub first_short : length lent.again < length one → (r ≡ Err (CodeTooShort (length one))) × (left ≡ filled p one n lent)
   pub second_short : length one ≤ length lent.again → length lent.again < length two
-      → (r ≡ NotSettled (CodeTooShort (length two))) × (left ≡ filled p two m (written p one n lent))
+      → (r ≡ Err (CodeTooShort (length two))) × (left ≡ filled p two m (written p one n lent))
   pub compares : length one ≤ length lent.again → length two ≤ length lent.again
       → Compares one n two m r × (left ≡ written p two m (written p one n lent))
 
-abbrev pub ComesBack : Pattern → (one : List ℕ) → (n : ℕ) → (two : List ℕ) → (m : ℕ) → (lent left : Worked) → Agreement → Type 0
+abbrev pub ComesBack : Pattern → (one : List ℕ) → (n : ℕ) → (two : List ℕ) → (m : ℕ) → (lent left : Worked) → Result Bool Refusal → Type 0
 ComesBack p one n two m lent left r =
     IsSettled p one n (length lent.tape) (length lent.words) → IsSettled p two m (length lent.tape) (length lent.words)
     → SettlesAgain p one n two m lent left r
@@ -89,9 +76,9 @@ abbrev pub front : (buffer : List ℕ) → (count : ℕ) → List ℕ
 front buffer n = take (cell_count 8 n) buffer
 
 -- the answer and the buffers worked in, by what the two calls answered: of refusals the first is passed on
-pub record Verdict (first second : Result ℕ Refusal) (p : Pattern) (a_now b_now : List ℕ) (lent left : Worked) (r : Agreement) : Type 0 where
-  pub first_refused : (why : Refusal) → first ≡ Err why → (r ≡ NotSettled why) × (left ≡ lent)
-  pub second_refused : (k : ℕ) → (why : Refusal) → first ≡ Ok k → second ≡ Err why → (r ≡ NotSettled why) × (left ≡ lent)
+pub record Verdict (first second : Result ℕ Refusal) (p : Pattern) (a_now b_now : List ℕ) (lent left : Worked) (r : Result Bool Refusal) : Type 0 where
+  pub first_refused : (why : Refusal) → first ≡ Err why → (r ≡ Err why) × (left ≡ lent)
+  pub second_refused : (k : ℕ) → (why : Refusal) → first ≡ Ok k → second ≡ Err why → (r ≡ Err why) × (left ≡ lent)
   pub both : (k l : ℕ) → first ≡ Ok k → second ≡ Ok l → SettlesAgain p (front a_now k) k (front b_now l) l lent left r
 
 -- 01: "buffers suffice with at least n tape cells, 2 × (n + 1) mark words, and as many code bytes as the code of the greedy reading of those
@@ -102,17 +89,17 @@ pub record Suffice (p : Pattern) (letters : List ℕ) (tape words out : ℕ) : T
   pub code-room : (bits : List Bool) → Canonical (root p) letters bits → cell_count 8 (length bits) ≤ out
 
 -- the demand on a run: a-now and b-now are what the two calls of settling left, and the answer says whether the codes spell the same tape
-pub record OnRun (p : Pattern) (c d : Code p) (a_now b_now : List ℕ) (r : Agreement) : Type 0 where
+pub record OnRun (p : Pattern) (c d : Code p) (a_now b_now : List ℕ) (r : Result Bool Refusal) : Type 0 where
   pub x : Run p c
   pub y : Run p d
   pub x_left : x.out_now ≡ a_now
   pub y_left : y.out_now ≡ b_now
   pub demand : Demand p c d x y
-  pub same : (r ≡ Same) ↔ (spells c ≡ spells d)
-  pub different : (r ≡ Different) ↔ (spells c ≡ spells d → ⊥)
+  pub same : (r ≡ Ok true) ↔ (spells c ≡ spells d)
+  pub different : (r ≡ Ok false) ↔ (spells c ≡ spells d → ⊥)
 
 -- where both are codes of the pattern, in lent buffers that suffice for each and for each again
-abbrev pub Demands : Pattern → (one : List ℕ) → (n : ℕ) → (two : List ℕ) → (m : ℕ) → (tape words a b again : ℕ) → (a_now b_now : List ℕ) → Agreement → Type 0
+abbrev pub Demands : Pattern → (one : List ℕ) → (n : ℕ) → (two : List ℕ) → (m : ℕ) → (tape words a b again : ℕ) → (a_now b_now : List ℕ) → Result Bool Refusal → Type 0
 Demands p one n two m tape words a b again a_now b_now r =
     obeys p ≡ true → (c d : Code p) → c.bytes ≡ one → c.count ≡ n → d.bytes ≡ two → d.count ≡ m
     → Suffice p (spells c) tape words a → Suffice p (spells d) tape words b → Suffice p (spells c) tape words again → Suffice p (spells d) tape words again
@@ -120,7 +107,7 @@ Demands p one n two m tape words a b again a_now b_now r =
 
 -- THE PROMISE of running the demand: two calls of settling, one after the other, then the answer and all buffers for every input, and the
 -- demand on this run
-pub record Agrees (p : Pattern) (one : List ℕ) (n : ℕ) (two : List ℕ) (m : ℕ) (lent left : Worked) (a a_now b b_now : List ℕ) (r : Agreement) : Type 0 where
+pub record Agrees (p : Pattern) (one : List ℕ) (n : ℕ) (two : List ℕ) (m : ℕ) (lent left : Worked) (a a_now b b_now : List ℕ) (r : Result Bool Refusal) : Type 0 where
   pub first : Call p one n lent.tape lent.words a a_now
   pub second : Call p two m first.tape_now first.words_now b b_now
   pub answers : Verdict first.result second.result p a_now b_now (worked second.tape_now second.words_now lent.again) left r

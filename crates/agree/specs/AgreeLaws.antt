@@ -1,13 +1,13 @@
 -- Laws of running the third demand: what a call of settling that is not refused left, and one law for each way of the code.
-use Rattle.std.specs.Prelude.{◌≡◌, refl, Bool, true, false, ◌↔◌, List, ℕ, ◌+◌, ◌*◌, ◌≤◌, ◌<◌, length, take, Err, Ok, Result}
+use Rattle.std.specs.Prelude.{◌≡◌, refl, Bool, true, false, ◌&&◌, ◌↔◌, List, ℕ, ◌+◌, ◌*◌, ◌≤◌, ◌<◌, length, take, Err, Ok, Result}
 use Rattle.std.proofs.Common.{sym, ap, ap₂, subst, ◌∙◌, arith}
-use Rattle.std.proofs.lemmas.Bool.{false≢true}
+use Rattle.std.proofs.lemmas.Bool.{false≢true, true≢false}
 use Rattle.std.proofs.Math.Decide.{dec_le}
 use Rattle.syntax.specs.declared.Pattern.{Pattern}
 use Rattle.refusals.specs.declared.Refusal.{Refusal}
 use Rattle.refusals.specs.declared.Refusal.TheVariants.{CodeTooShort}
 use Rattle.refusals.specs.Refusals.{answer, refused}
-use Rattle.refusals.specs.RefusalLaws.{number_positive}
+use Rattle.refusals.specs.RefusalLaws.{ok≢err}
 use Rattle.syntax.specs.Table.{obeys}
 use Rattle.syntax.specs.Trees.{root}
 use Rattle.bits.specs.Bits.{cell_count, pack, in_front}
@@ -21,23 +21,14 @@ use Rattle.first_sweep.specs.Meaning.{words-length}
 use Rattle.walks.specs.Whole.{whole_code, letters_of}
 use Rattle.codes.specs.FlattenLaws.{flatten_fills}
 use Rattle.parser.specs.Parse.{ReadsGreedily}
-use Rattle.agree.specs.declared.Agreement.{Agreement}
-use Rattle.agree.specs.declared.Agreement.TheVariants.{Same, Different, Refused as NotSettled}
 use Rattle.canonical.specs.Canonicalize.{canonicalized_answer, settle_early, Canonicalizes}
 use Rattle.canonical.specs.CanonicalLaws.{Spelled, spelled_clear, settle_passed, settles}
 use Rattle.canonical.specs.Unique.{canonicalized_same}
 use Rattle.canonical.specs.RoundTrip.{canonical_whole, canonical_spells, letters-readable}
 use Rattle.canonical.specs.Demand.{tape_of, Code, spells, Run, Settled, Equal, ThirdDemand}
 use Rattle.canonical.proofs.Demanded.{third_demand}
-use Rattle.agree.specs.Agree.{concluded, IsSettled, Compares, Worked, worked, filled, written}
+use Rattle.agree.specs.Agree.{IsSettled, Compares, Worked, worked, filled, written}
 use Rattle.agree.specs.Agree.{SettlesAgain, ComesBack, front, Verdict, Suffice, OnRun, Agrees}
-
--- ── an answer that is a refusal, and one that is not ──
-pub refusal_canonicalized : (a : Result ℕ Refusal) (why : Refusal) → a ≡ Err why → 1 ≤ (canonicalized_answer a).number
-refusal_canonicalized a why e = subst (λ b. 1 ≤ (canonicalized_answer b).number) (sym e) (number_positive why)
-
-pub settled_no_refusal : (a : Result ℕ Refusal) (n : ℕ) → a ≡ Ok n → 1 ≤ (canonicalized_answer a).number → ⊥
-settled_no_refusal a n e h = let z : 1 ≤ 0 = subst (λ b. 1 ≤ (canonicalized_answer b).number) e h in omega arith
 
 -- ── a call of settling that is not refused ──
 
@@ -187,16 +178,13 @@ pub equal_bytes : (one two : List ℕ) (n m : ℕ) (b : Bool) → n ≡ m → (b
 equal_bytes one two n m b e h = (λ t. (e, h.0 t), λ f. h.1 f.1)
 
 -- both came back, so the answer is that of the last comparison
-apart : Same ≡ Different → ⊥
-apart e = let z : ◌≡◌ {A = ℕ} 0 1 = (cc) in omega arith
-
-concluded_by : (one two : List ℕ) (n m : ℕ) (b : Bool) → (b ≡ true) ↔ Equal one two n m → Compares one n two m (concluded true true b)
+concluded_by : (one two : List ℕ) (n m : ℕ) (b : Bool) → (b ≡ true) ↔ Equal one two n m → Compares one n two m (Ok b)
 concluded_by one two n m true h = record {
   same = (λ e. h.0 refl, λ e. refl);
-  different = (λ e. absurd (apart e), λ f. absurd (f (h.0 refl)));
+  different = (λ e. absurd (true≢false cc), λ f. absurd (f (h.0 refl)));
 }
 concluded_by one two n m false h = record {
-  same = (λ e. absurd (apart (sym e)), λ e. absurd (false≢true (h.1 e)));
+  same = (λ e. absurd (false≢true cc), λ e. absurd (false≢true (h.1 e)));
   different = (λ e q. false≢true (h.1 q), λ f. refl);
 }
 
@@ -212,7 +200,7 @@ settled-size p code count nt nw s = ap length s.bytes_are ∙ length-pack 8 s.bi
 
 -- ── settling two settled codes again ──
 refused-not : (r : Result ℕ Refusal) (why : Refusal) (n : ℕ) → r ≡ Err why → r ≡ Ok n → ⊥
-refused-not r why n e f = let z : ◌≡◌ {A = ℕ} 0 1 = (cc) in omega arith
+refused-not r why n e f = ok≢err (sym f ∙ e)
 
 same_refusal : (r : Result ℕ Refusal) (v w : Refusal) → r ≡ Err v → r ≡ Err w → v ≡ w
 same_refusal r v w e f = cc
@@ -230,11 +218,11 @@ module _
     (third : Result ℕ Refusal)
     (h : Canonicalizes p one n ts us ws vs gs hs third)
   where
-    pub again_first : (why : Refusal) → third ≡ Err why → ComesBack p one n two m (worked ts ws gs) (worked us vs hs) (NotSettled why)
+    pub again_first : (why : Refusal) → third ≡ Err why → ComesBack p one n two m (worked ts ws gs) (worked us vs hs) (Err why)
     again_first why e s t =
         let q = back p one n ts us ws vs gs hs third h s in
         record {
-          first_short = λ l. let a = q.short l in (ap NotSettled (same_refusal third why (CodeTooShort (length one)) e a.0), a.1);
+          first_short = λ l. let a = q.short l in (ap Err (same_refusal third why (CodeTooShort (length one)) e a.0), a.1);
           second_short = λ l j. absurd (refused-not third why n e (q.fits l).0);
           compares = λ l j. absurd (refused-not third why n e (q.fits l).0);
         }
@@ -266,7 +254,7 @@ module _
           } in
           back p two m us us' vs vs' hs is fourth f t'
 
-      pub again_second : (why : Refusal) → fourth ≡ Err why → ComesBack p one n two m (worked ts ws gs) (worked us' vs' is) (NotSettled why)
+      pub again_second : (why : Refusal) → fourth ≡ Err why → ComesBack p one n two m (worked ts ws gs) (worked us' vs' is) (Err why)
       again_second why d s t =
           let q = back p one n ts us ws vs gs hs third h s in
           let w = second_back s t in
@@ -275,15 +263,15 @@ module _
             first_short = λ l. absurd (refused-not third (CodeTooShort (length one)) k (q.short l).0 e);
             second_short = λ l j.
                 let a = w.short (omega (arith, same, j)) in
-                (ap NotSettled (same_refusal fourth why (CodeTooShort (length two)) d a.0), a.1 ∙ ap (filled p two m) (q.fits l).1);
+                (ap Err (same_refusal fourth why (CodeTooShort (length two)) d a.0), a.1 ∙ ap (filled p two m) (q.fits l).1);
             compares = λ l j. absurd (refused-not fourth why m d (w.fits (omega (arith, same, j))).0);
           }
 
       pub again-both :
-          (l i j : ℕ) → fourth ≡ Ok l → i ≡ cell_count 8 k → j ≡ cell_count 8 l → (x y z : Bool) → (x ≡ true) ↔ Equal one (take i hs) n k
+          (l i j : ℕ) → fourth ≡ Ok l → i ≡ cell_count 8 k → j ≡ cell_count 8 l → (x y r : Bool) → (x ≡ true) ↔ Equal one (take i hs) n k
           → (y ≡ true) ↔ Equal two (take j is) m l
-          → (z ≡ true) ↔ Equal one two n m → (r : Agreement) → r ≡ concluded x y z → ComesBack p one n two m (worked ts ws gs) (worked us' vs' is) r
-      again-both l i j d ei ej x y z ex ey ez r er s t =
+          → (x ≡ true → y ≡ true → (r ≡ true) ↔ Equal one two n m) → ComesBack p one n two m (worked ts ws gs) (worked us' vs' is) (Ok r)
+      again-both l i j d ei ej x y r ex ey er s t =
           let q = back p one n ts us ws vs gs hs third h s in
           let w = second_back s t in
           let same = kept-length s in
@@ -299,26 +287,25 @@ module _
                 let ty : y ≡ true =
                 back_equal two m l j hs is y (same_bits fourth l m d second.0) ej (settled-size p two m (length ts) (length ws) t)
                 (ap (λ v. v.again) second.1) ey in
-                let er' : r ≡ concluded true true z = er ∙ ap₂ (λ a b. concluded a b z) tx ty in
-                (subst (λ a. Compares one n two m a) (sym er') (concluded_by one two n m z ez), second.1 ∙ ap (written p two m) first.1);
+                (concluded_by one two n m r (er tx ty), second.1 ∙ ap (written p two m) first.1);
           }
 
 -- ── the answer of a run ──
 verdict-first :
     (first second : Result ℕ Refusal) (p : Pattern) (xs ys : List ℕ) (w : Worked) (why : Refusal) → first ≡ Err why
-    → Verdict first second p xs ys w w (NotSettled why)
+    → Verdict first second p xs ys w w (Err why)
 verdict-first first second p xs ys w why e = record {
-  first_refused = λ v q. (ap NotSettled (same_refusal first why v e q), refl);
+  first_refused = λ v q. (ap Err (same_refusal first why v e q), refl);
   second_refused = λ k v q d. absurd (refused-not first why k e q);
   both = λ k l q d. absurd (refused-not first why k e q);
 }
 
 verdict-second :
     (first second : Result ℕ Refusal) (p : Pattern) (xs ys : List ℕ) (w : Worked) (k : ℕ) (why : Refusal) → first ≡ Ok k → second ≡ Err why
-    → Verdict first second p xs ys w w (NotSettled why)
+    → Verdict first second p xs ys w w (Err why)
 verdict-second first second p xs ys w k why e d = record {
   first_refused = λ v q. absurd (refused-not first v k q e);
-  second_refused = λ j v q s. (ap NotSettled (same_refusal second why v d s), refl);
+  second_refused = λ j v q s. (ap Err (same_refusal second why v d s), refl);
   both = λ j l q s. absurd (refused-not second why l d s);
 }
 
@@ -335,7 +322,7 @@ module _
     (f : Canonicalizes p two m us us' vs vs' bs ys second)
   where
     verdict-both :
-        (k l i j : ℕ) → first ≡ Ok k → second ≡ Ok l → i ≡ cell_count 8 k → j ≡ cell_count 8 l → (r : Agreement)
+        (k l i j : ℕ) → first ≡ Ok k → second ≡ Ok l → i ≡ cell_count 8 k → j ≡ cell_count 8 l → (r : Result Bool Refusal)
         → ComesBack p (take i xs) k (take j ys) l (worked us' vs' gs) left_in r → Verdict first second p xs ys (worked us' vs' gs) left_in r
     verdict-both k l i j e d ei ej r w =
         let a : length us ≡ length ts = tape-length p one n k ts us ws vs os xs first h e in
@@ -365,7 +352,7 @@ module _
     (first second : Result ℕ Refusal)
     (h : Canonicalizes p c.bytes c.count ts us ws vs os xs first)
     (f : Canonicalizes p d.bytes d.count us us' vs vs' bs ys second)
-    (r : Agreement)
+    (r : Result Bool Refusal)
     (w : Verdict first second p xs ys (worked us' vs' gs) left_in r)
     (sc : Suffice p (spells c) (length ts) (length ws) (length os))
     (sd : Suffice p (spells d) (length ts) (length ws) (length bs))
@@ -444,7 +431,7 @@ module _
 -- THE PROMISE, from the two calls and the answer
 agrees :
     (p : Pattern) (one : List ℕ) (n : ℕ) (two : List ℕ) (m : ℕ) (ts us us' ws vs vs' os xs bs ys gs : List ℕ) (left_in : Worked) (first second : Result ℕ Refusal)
-    → Canonicalizes p one n ts us ws vs os xs first → Canonicalizes p two m us us' vs vs' bs ys second → (r : Agreement)
+    → Canonicalizes p one n ts us ws vs os xs first → Canonicalizes p two m us us' vs vs' bs ys second → (r : Result Bool Refusal)
     → Verdict first second p xs ys (worked us' vs' gs) left_in r
     → Agrees p one n two m (worked ts ws gs) left_in os xs bs ys r
 agrees p one n two m ts us us' ws vs vs' os xs bs ys gs left_in first second h f r w = record {
@@ -471,20 +458,20 @@ module _
     (h : Canonicalizes p one n ts us ws vs os xs first)
     (f : Canonicalizes p two m us us' vs vs' bs ys second)
   where
-    pub agrees_first : (why : Refusal) → first ≡ Err why → Agrees p one n two m (worked ts ws gs) (worked us' vs' gs) os xs bs ys (NotSettled why)
+    pub agrees_first : (why : Refusal) → first ≡ Err why → Agrees p one n two m (worked ts ws gs) (worked us' vs' gs) os xs bs ys (Err why)
     agrees_first why e =
-        agrees p one n two m ts us us' ws vs vs' os xs bs ys gs (worked us' vs' gs) first second h f (NotSettled why)
+        agrees p one n two m ts us us' ws vs vs' os xs bs ys gs (worked us' vs' gs) first second h f (Err why)
         (verdict-first first second p xs ys (worked us' vs' gs) why e)
 
     pub agrees-second :
         (k : ℕ) (why : Refusal) → first ≡ Ok k → second ≡ Err why
-        → Agrees p one n two m (worked ts ws gs) (worked us' vs' gs) os xs bs ys (NotSettled why)
+        → Agrees p one n two m (worked ts ws gs) (worked us' vs' gs) os xs bs ys (Err why)
     agrees-second k why e d =
-        agrees p one n two m ts us us' ws vs vs' os xs bs ys gs (worked us' vs' gs) first second h f (NotSettled why)
+        agrees p one n two m ts us us' ws vs vs' os xs bs ys gs (worked us' vs' gs) first second h f (Err why)
         (verdict-second first second p xs ys (worked us' vs' gs) k why e d)
 
     pub agrees-both :
-        (left_in : Worked) (k l i j : ℕ) → first ≡ Ok k → second ≡ Ok l → i ≡ cell_count 8 k → j ≡ cell_count 8 l → (r : Agreement)
+        (left_in : Worked) (k l i j : ℕ) → first ≡ Ok k → second ≡ Ok l → i ≡ cell_count 8 k → j ≡ cell_count 8 l → (r : Result Bool Refusal)
         → ComesBack p (take i xs) k (take j ys) l (worked us' vs' gs) left_in r → Agrees p one n two m (worked ts ws gs) left_in os xs bs ys r
     agrees-both left_in k l i j e d ei ej r w =
         agrees p one n two m ts us us' ws vs vs' os xs bs ys gs left_in first second h f r

@@ -1,20 +1,18 @@
 -- Running the demand: the first cause of the first call of settling is answered, whatever the second call answers; then the second's.
-use Rattle.std.specs.Prelude.{◌≡◌, List, ℕ, length, Ok}
+use Rattle.std.specs.Prelude.{◌≡◌, Bool, List, ℕ, length, Err, Ok, Result}
 use Rattle.std.proofs.Common.{sym, subst}
 use Rattle.syntax.specs.declared.Pattern.{Pattern}
 use Rattle.refusals.specs.declared.Refusal.{Refusal}
 use Rattle.refusals.specs.Checks.{First}
 use Rattle.canonical.specs.Canonicalize.{settle_order}
 use Rattle.canonical.specs.Orders.{only}
-use Rattle.agree.specs.declared.Agreement.{Agreement}
-use Rattle.agree.specs.declared.Agreement.TheVariants.{Refused as NotSettled}
 use Rattle.agree.specs.Agree.{Worked, Agrees}
 use Rattle.agree.specs.AgreeLaws.{tape-length, words-kept}
 
-module _ (p : Pattern) (one : List ℕ) (n : ℕ) (two : List ℕ) (m : ℕ) (lent left : Worked) (a a_now b b_now : List ℕ) (r : Agreement)
+module _ (p : Pattern) (one : List ℕ) (n : ℕ) (two : List ℕ) (m : ℕ) (lent left : Worked) (a a_now b b_now : List ℕ) (r : Result Bool Refusal)
     (h : Agrees p one n two m lent left a a_now b b_now r) where
   pub only_first : (why : Refusal) → First why (settle_order p one n (length lent.tape) (length lent.words))
-      → (r ≡ NotSettled why) × (a_now ≡ a)
+      → (r ≡ Err why) × (a_now ≡ a)
   only_first why f =
       let c = h.first in
       let q = only p one n lent.tape c.tape_now lent.words c.words_now a a_now c.result c.kept why f in
@@ -22,7 +20,7 @@ module _ (p : Pattern) (one : List ℕ) (n : ℕ) (two : List ℕ) (m : ℕ) (le
 
   -- the first call has left tape and words of the same lengths
   pub only_second : (k : ℕ) → h.first.result ≡ Ok k → (why : Refusal)
-      → First why (settle_order p two m (length lent.tape) (length lent.words)) → (r ≡ NotSettled why) × (b_now ≡ b)
+      → First why (settle_order p two m (length lent.tape) (length lent.words)) → (r ≡ Err why) × (b_now ≡ b)
   only_second k e why f =
       let c = h.first in
       let d = h.second in

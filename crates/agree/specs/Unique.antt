@@ -1,30 +1,22 @@
 -- The promise of running the demand fixes answer and buffers: two outcomes that it allows on one input are the same.
-use Rattle.std.specs.Prelude.{◌≡◌, refl, List, ℕ, ◌≤◌, length, Err, Ok, Result}
-use Rattle.std.proofs.Common.{sym, ap, subst, ◌∙◌, arith}
+use Rattle.std.specs.Prelude.{◌≡◌, refl, Bool, true, false, List, ℕ, ◌≤◌, length, Err, Ok, Result}
+use Rattle.std.proofs.Common.{sym, subst, ◌∙◌, arith}
 use Rattle.std.proofs.Math.Decide.{dec_le}
 use Rattle.refusals.specs.declared.Refusal.{Refusal}
 use Rattle.syntax.specs.declared.Pattern.{Pattern}
-use Rattle.agree.specs.declared.Agreement.{Agreement}
-use Rattle.agree.specs.declared.Agreement.TheVariants.{Same, Different, Refused as NotSettled}
+use Rattle.refusals.specs.RefusalLaws.{ok≢err}
 use Rattle.canonical.specs.Canonicalize.{Canonicalizes}
 use Rattle.canonical.specs.Unique.{canonicalizes_one}
 use Rattle.canonical.specs.Demand.{Equal}
 use Rattle.agree.specs.Agree.{Compares, Worked, worked, SettlesAgain, front, Verdict, Agrees}
 
-abbrev tag : Agreement → ℕ
-tag Same = 0
-tag Different = 1
-tag (NotSettled w) = 2
+compares_one : (one : List ℕ) (n : ℕ) (two : List ℕ) (m : ℕ) (r s : Result Bool Refusal) → Compares one n two m r → Compares one n two m s → r ≡ s
+compares_one one n two m (Ok true) s f g = sym (g.same.1 (f.same.0 refl))
+compares_one one n two m (Ok false) s f g = sym (g.different.1 (f.different.0 refl))
+compares_one one n two m (Err w) s f g =
+    let none : Equal one two n m → ⊥ = λ e. ok≢err (sym (f.same.1 e)) in absurd (ok≢err (sym (f.different.1 none)))
 
-compares_one : (one : List ℕ) (n : ℕ) (two : List ℕ) (m : ℕ) (r s : Agreement) → Compares one n two m r → Compares one n two m s → r ≡ s
-compares_one one n two m Same s f g = sym (g.same.1 (f.same.0 refl))
-compares_one one n two m Different s f g = sym (g.different.1 (f.different.0 refl))
-compares_one one n two m (NotSettled w) s f g =
-    let none : Equal one two n m → ⊥ = λ e. (let z : ◌≡◌ {A = ℕ} 2 0 = ap tag (f.same.1 e) in omega arith) in
-    let z : ◌≡◌ {A = ℕ} 2 1 = ap tag (f.different.1 none) in
-    absurd (omega arith)
-
-again_one : (p : Pattern) (one : List ℕ) (n : ℕ) (two : List ℕ) (m : ℕ) (lent left left_too : Worked) (r s : Agreement)
+again_one : (p : Pattern) (one : List ℕ) (n : ℕ) (two : List ℕ) (m : ℕ) (lent left left_too : Worked) (r s : Result Bool Refusal)
     → SettlesAgain p one n two m lent left r → SettlesAgain p one n two m lent left_too s → (r ≡ s) × (left ≡ left_too)
 again_one p one n two m lent left left_too r s f g = go (dec_le (length one) (length lent.again)) (dec_le (length two) (length lent.again))
   where
@@ -42,7 +34,7 @@ again_one p one n two m lent left left_too r s f g = go (dec_le (length one) (le
         let y = g.compares a b in
         (compares_one one n two m r s x.0 y.0, x.1 ∙ sym y.1)
 
-verdict_one : (x y : Result ℕ Refusal) (p : Pattern) (a b : List ℕ) (lent left left_too : Worked) (r s : Agreement)
+verdict_one : (x y : Result ℕ Refusal) (p : Pattern) (a b : List ℕ) (lent left left_too : Worked) (r s : Result Bool Refusal)
     → Verdict x y p a b lent left r → Verdict x y p a b lent left_too s → (r ≡ s) × (left ≡ left_too)
 verdict_one (Err why) y p a b lent left left_too r s f g =
     let x = f.first_refused why refl in
@@ -55,7 +47,7 @@ verdict_one (Ok k) (Err why) p a b lent left left_too r s f g =
 verdict_one (Ok k) (Ok l) p a b lent left left_too r s f g =
     again_one p (front a k) k (front b l) l lent left left_too r s (f.both k l refl refl) (g.both k l refl refl)
 
-module _ (p : Pattern) (one : List ℕ) (n : ℕ) (two : List ℕ) (m : ℕ) (lent left left_too : Worked) (a x x_too b y y_too : List ℕ) (r s : Agreement)
+module _ (p : Pattern) (one : List ℕ) (n : ℕ) (two : List ℕ) (m : ℕ) (lent left left_too : Worked) (a x x_too b y y_too : List ℕ) (r s : Result Bool Refusal)
     (f : Agrees p one n two m lent left a x b y r) (g : Agrees p one n two m lent left_too a x_too b y_too s) where
   pub agrees_one : (r ≡ s) × (left ≡ left_too) × (x ≡ x_too) × (y ≡ y_too)
   agrees_one =

@@ -8,6 +8,7 @@ use Rattle.syntax.specs.Letter.{first_bad, letter_limit}
 use Rattle.syntax.specs.Table.{obeys}
 use Rattle.refusals.specs.declared.Refusal.{Refusal}
 use Rattle.refusals.specs.declared.Refusal.TheVariants.{Tree as TreeFault, TapeTooLong, TapeByte}
+use Rattle.refusals.specs.RefusalLaws.{ok≢err}
 use Rattle.refusals.specs.Checks.{numbers, First, here, past, Clear}
 use Rattle.checks.specs.TapeOrder.{tape_order, ChecksTape}
 
@@ -47,7 +48,7 @@ module _ (p : Pattern) (tape : List ℕ) where
   refused-tape : (why : Refusal) → First why (tape_order p tape) → ChecksTape p tape (Err why)
   refused-tape why f = record {
     refuses = λ w e. let same : why ≡ w = cc in subst (λ v. First v (tape_order p tape)) same f;
-    takes = λ e. absurd (let z : ◌≡◌ {A = ℕ} 0 1 = (cc) in omega arith);
+    takes = λ e. absurd (ok≢err (sym e));
   }
 
   pub check_2 : obeys p ≡ false → ChecksTape p tape (Err (TreeFault 0))
@@ -63,7 +64,7 @@ module _ (p : Pattern) (tape : List ℕ) where
         (refused-tape (TapeByte (first_bad tape)) (tape_4 o f (omega (arith, e, l))))
 
   pub check_taken : IsTaken p tape → ChecksTape p tape (Ok tt)
-  check_taken t = record { refuses = λ w e. absurd (let z : ◌≡◌ {A = ℕ} 0 1 = (cc) in omega arith); takes = λ e. taken_clear t }
+  check_taken t = record { refuses = λ w e. absurd (ok≢err e); takes = λ e. taken_clear t }
 
   -- ── what the caller has ──
   pub is_taken : (r : Result ⊤ Refusal) → ChecksTape p tape r → r ≡ Ok tt → IsTaken p tape

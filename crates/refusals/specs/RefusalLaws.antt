@@ -6,6 +6,10 @@ use Rattle.refusals.specs.declared.Refusal.TheVariants.{LineForm, Tree, TapeTooL
 use Rattle.refusals.specs.declared.Refusal.TheVariants.{NotACode, TapeTooShort, NoSuchVisit}
 use Rattle.refusals.specs.Refusals.{number, Answer, answer_by, refused}
 
+-- an answer is no refusal
+pub ok≢err : {T E : Type 0} {x : T} {e : E} → Ok x ≡ Err e → ⊥
+ok≢err q = cc
+
 -- ── of any causes: number and value tell them apart, where a function takes each cause's number and value back to the cause ──
 pub said_same : {Cause : Type 0} (says : Cause → Answer) (back : Answer → Cause) → ((c : Cause) → back (says c) ≡ c) → (c d : Cause) → says c ≡ says d
     → c ≡ d

@@ -1,31 +1,37 @@
 -- `agree::settle_again` meets its contract.
+use Rattle.std.proofs.Common.{refl, sym, length-take-le, rules}
+use Rattle.std.proofs.lemmas.Result.{err_from_is_err_and}
 use Rattle.agree.specs.AgreeLaws.{left_end, again_first, again_second, again-both}
-use lib.Seq.{length-take-le}
-use mathlib.Core.Path.{sym}
 use Rattle.agree.proofs.settle_again.Goals as goal
+use Rattle.agree.proofs.settle_again.Goals.{then-one_back, else-one_back}
 
-pub returns-in_default : goal.returns-in_default
-returns-in_default c = again_first _ _ _ c.args.two.now c.args.m _ _ _ _ _ _ _ c.canonicalize-third.ensures _ c.why_unsettled.ensures
+pub returns-in_err-k : goal.returns-in_err-k
+returns-in_err-k c =
+    let p = err_from_is_err_and c.from_residual.result c.from_residual.ensures.1 in
+    rw (p.1, p.2) (again_first _ _ _ c.args.two.now c.args.m _ _ _ _ _ _ _ c.in_err-k.ensures _ refl)
 
 pub slice_bounds-equal-end : goal.slice_bounds-equal-end
-slice_bounds-equal-end c = left_end _ _ _ _ _ _ _ _ _ _ _ c.canonicalize-third.ensures c.in-Ok.is _ c.bytes_for-i.ensures
+slice_bounds-equal-end c = left_end _ _ _ _ _ _ _ _ _ _ _ c.in_ok-k.ensures refl _ c.bytes_for.ensures
 
 pub slice_bounds-equal-end-2 : goal.slice_bounds-equal-end-2
-slice_bounds-equal-end-2 c = sym (length-take-le _ _ (left_end _ _ _ _ _ _ _ _ _ _ _ c.canonicalize-third.ensures c.in-Ok.is _ c.bytes_for-i.ensures))
+slice_bounds-equal-end-2 c = sym (length-take-le _ _ (left_end _ _ _ _ _ _ _ _ _ _ _ c.in_ok-k.ensures refl _ c.bytes_for.ensures))
 
-pub returns-in_default-fourth : goal.returns-in_default-fourth
-returns-in_default-fourth c = again_second _ _ _ c.args.two.now c.args.m _ _ _ _ _ _ _ c.canonicalize-third.ensures _ c.in-Ok.is _ _ _ _
-    c.canonicalize-fourth.ensures _ c.why_unsettled-in_default-fourth.ensures
+pub returns-in_err-l : goal.returns-in_err-l
+returns-in_err-l c =
+    let p = err_from_is_err_and c.from_residual-in_err-l.result c.from_residual-in_err-l.ensures.1 in
+    rw (p.1, p.2)
+    (again_second _ _ _ c.args.two.now c.args.m _ _ _ _ _ _ _ c.in_ok-k.ensures _ refl _ _ _ _ c.in_err-l.ensures _ refl)
 
 pub slice_bounds-equal-end-3 : goal.slice_bounds-equal-end-3
-slice_bounds-equal-end-3 c = left_end _ _ _ _ _ _ _ _ _ _ _ c.canonicalize-fourth.ensures c.in-Ok-fourth.is _ c.bytes_for-j.ensures
+slice_bounds-equal-end-3 c = left_end _ _ _ _ _ _ _ _ _ _ _ c.in_ok-l.ensures refl _ c.bytes_for-2.ensures
 
 pub slice_bounds-equal-end-4 : goal.slice_bounds-equal-end-4
-slice_bounds-equal-end-4 c = sym (length-take-le _ _ (left_end _ _ _ _ _ _ _ _ _ _ _ c.canonicalize-fourth.ensures c.in-Ok-fourth.is _ c.bytes_for-j.ensures))
+slice_bounds-equal-end-4 c = sym (length-take-le _ _ (left_end _ _ _ _ _ _ _ _ _ _ _ c.in_ok-l.ensures refl _ c.bytes_for-2.ensures))
 
-pub returns : goal.returns
-returns c =
-    let c39 = c.before in
-    again-both _ _ _ c.args.two.now c.args.m _ _ _ _ _ _ _ c.canonicalize-third.ensures _ c.in-Ok.is _ _ _ _
-    c.canonicalize-fourth.ensures _ _ _ c.in-Ok-fourth.is c.bytes_for-i.ensures c.bytes_for-j.ensures _ _ _ c.equal-one_back.ensures
-    c.equal-two_back.ensures c.equal.ensures _ c.conclude.ensures
+pub returns-then-two_back : goal.returns-then-two_back
+returns-then-two_back c = again-both _ _ _ c.args.two.now c.args.m _ _ _ _ _ _ _ c.in_ok-k.ensures _ refl _ _ _ _ c.in_ok-l.ensures _ _ _ refl
+    c.bytes_for.ensures c.bytes_for-2.ensures _ _ _ c.equal-one_back.ensures c.equal-two_back.ensures (λ _ _. c.equal.ensures)
+
+pub returns-else-two_back : goal.returns-else-two_back
+returns-else-two_back c = again-both _ _ _ c.args.two.now c.args.m _ _ _ _ _ _ _ c.in_ok-k.ensures _ refl _ _ _ _ c.in_ok-l.ensures _ _ _ refl
+    c.bytes_for.ensures c.bytes_for-2.ensures _ _ _ c.equal-one_back.ensures c.equal-two_back.ensures (λ f g. search rules)
