@@ -1,19 +1,12 @@
--- Laws of the account that a field writes, and of the way it is read: digit by digit, and at most four bytes of it. No law here cites a case of
--- AccountCases; naming the file has its cases checked first.
-use Rattle.std.specs.Prelude.{◌≡◌, Bool, true, false, ◌&&◌, cond, ◌⊎◌, ltb, leb, length, get_or}
-use Rattle.std.proofs.Math.Path.{refl, sym}
-use Rattle.std.proofs.Common.{ap, ◌∙◌, inl, inr, arith}
-use Rattle.std.proofs.Math.Bool.{true≢false}
-use mathlib.Core.List.{List, [], ◌∷◌}
-use Prim.Native.Nat.{ℕ, zero, suc, ◌+◌, ◌*◌, ◌-◌, ◌≤◌, ◌<◌}
-use borrow.Author.Tests.{eq-eqb, ne_eqb, lt-ltb, le-ltb, le-leb, lt-leb, leb-true, leb-false}
+-- Laws of the account that a field writes, and of the way it is read: digit by digit. No law here cites a case of AccountCases; naming the file
+-- has its cases checked first.
+use Rattle.std.specs.Prelude.{◌≡◌, refl, Bool, true, false, ◌&&◌, cond, List, [], ◌∷◌, ℕ, ◌+◌, ◌*◌, ◌-◌, ◌≤◌, ◌<◌, ltb, leb, length, get_or, drop, Option, None, Some, option_and_then}
+use Rattle.std.proofs.Common.{sym, ◌∙◌, arith}
+use borrow.Author.Tests.{eq-eqb, ne_eqb, lt-ltb, le-leb, lt-leb, leb-true, leb-false}
 use Rattle.syntax.specs.Table.{account_limit}
-use Rattle.fields.specs.declared.Field.{Field}
-use Rattle.fields.specs.declared.AccountField.{AccountField}
-use Rattle.fields.specs.Text.{digit, all_digits, decimal, no_account, account_number, account}
+use Rattle.fields.specs.Text.{digit, all_digits, decimal, no_account, account_number, account, when}
 use Rattle.fields.specs.AccountCases as cases
-use Rattle.fields.specs.Fields.{stops, field_at, field_small, word_by, word, word_one, word_two, longer, account_made, account_behind, account_at}
-use Rattle.fields.specs.Fields.{inside_getD}
+use Rattle.fields.specs.Fields.{below, longer, number}
 
 pub digit_is : (b : ℕ) → 48 ≤ b → b ≤ 57 → digit b ≡ b - 48
 unfolding digit
@@ -59,163 +52,67 @@ account_long (a ∷ b ∷ c ∷ d ∷ more) h =
     number_none a (b ∷ c ∷ d ∷ more)
     (λ l u. omega (arith, digit_is a (omega arith) u, decimal_grows (10 * (10 * (10 * digit a + digit b) + digit c) + digit d) more))
 
--- ── digit by digit ──
--- the digits behind n, put behind it one after the other
-abbrev digits_behind : ℕ → List ℕ → ℕ
-digits_behind n [] = n
-digits_behind n (b ∷ bs) = digits_behind (longer n b) bs
-
--- what digits behind n write, if it is an account
-abbrev number_behind : ℕ → List ℕ → ℕ
-number_behind n bs = cond (all_digits bs && leb (decimal n bs) account_limit) (decimal n bs) no_account
-
-behind_big : (n : ℕ) (bs : List ℕ) → account_limit < n → number_behind n bs ≡ no_account
-behind_big n bs h = go (all_digits bs)
-  where
-    go : (z : Bool) → cond (z && leb (decimal n bs) account_limit) (decimal n bs) no_account ≡ no_account
-    go true = rw (lt-leb (decimal n bs) account_limit (omega (arith, decimal_grows n bs)))
-    go false = refl
-
-longer_small : (n b : ℕ) → longer n b ≤ no_account
-unfolding longer
-longer_small n b = go (ltb (digit b) 10) (leb (10 * n + digit b) account_limit) refl
-  where
-    go : (x y : Bool) → leb (10 * n + digit b) account_limit ≡ y → cond (x && y) (10 * n + digit b) no_account ≤ no_account
-    go true true e = omega (arith, leb-true (10 * n + digit b) account_limit e)
-    go true false e = omega arith
-    go false y e = omega arith
-
--- one test of the whole number is as good as one of each number on the way, since more digits never make it smaller
-one_by_one : (n : ℕ) (bs : List ℕ) → n ≤ no_account → digits_behind n bs ≡ number_behind n bs
-unfolding all_digits decimal longer
-one_by_one n [] h = go (leb n account_limit) refl
-  where
-    go : (x : Bool) → leb n account_limit ≡ x → n ≡ cond x n no_account
-    go true e = refl
-    go false e = omega (arith, leb-false n account_limit e)
-one_by_one n (b ∷ bs) h = one_by_one (longer n b) bs (longer_small n b) ∙ next (ltb (digit b) 10) (leb (10 * n + digit b) account_limit) refl
-  where
-    next : (x y : Bool) → leb (10 * n + digit b) account_limit ≡ y
-        → number_behind (cond (x && y) (10 * n + digit b) no_account) bs
-        ≡ cond ((x && all_digits bs) && leb (decimal (10 * n + digit b) bs) account_limit) (decimal (10 * n + digit b) bs) no_account
-    next true true q = refl
-    next true false q =
-        behind_big no_account bs (omega arith) ∙ sym (behind_big (10 * n + digit b) bs (leb-false (10 * n + digit b) account_limit q))
-    next false y q = behind_big no_account bs (omega arith)
-
--- a first digit from 1 to 9, and the digits behind it
-module _ (a : ℕ) (more : List ℕ) where
-  no_number : (digit a < 1) ⊎ (10 ≤ digit a) → account_number a more ≡ no_account
-  no_number h = number_none a more (λ l u. absurd (go (digit_is a (omega arith) u) l u h))
-    where
-      go : digit a ≡ a - 48 → 49 ≤ a → a ≤ 57 → (digit a < 1) ⊎ (10 ≤ digit a) → ⊥
-      go e l u (inl k) = omega arith
-      go e l u (inr k) = omega arith
-
-  number_is : 1 ≤ digit a → digit a < 10 → account_number a more ≡ digits_behind (digit a) more
-  unfolding account_number
-  number_is l u =
-      let (p, q) = digit_bytes a l u in
-      rw (le-leb 49 a p, le-leb a 57 q) (sym (one_by_one (digit a) more (omega arith)))
-
--- ── one law for each way of the code ──
--- a field of one byte
+-- ── a field of one byte ──
 pub byte_dash : (b : ℕ) → b ≡ 45 → 0 ≡ account (b ∷ [])
 unfolding account
 byte_dash b e = rw (eq-eqb b 45 e)
 
-module _ (b : ℕ) (h : b ≡ 45 → ⊥) {d : ℕ} (e : d ≡ digit b) where
-  pub byte_low : d < 1 → no_account ≡ account (b ∷ [])
-  unfolding account
-  byte_low l = rw (ne_eqb b 45 h) (sym (no_number b [] (inl (omega arith))))
+pub byte_digit : (b : ℕ) → (b ≡ 45 → ⊥) → {d : ℕ} → d ≡ digit b → 1 ≤ d → d < 10 → d ≡ account (b ∷ [])
+unfolding account account_number all_digits decimal
+byte_digit b h e l u =
+    let (p, q) = digit_bytes b (omega arith) (omega arith) in
+    rw (ne_eqb b 45 h, le-leb 49 b p, le-leb b 57 q, le-leb (digit b) account_limit (omega arith)) e
 
-  pub byte_no_digit : 10 ≤ d → no_account ≡ account (b ∷ [])
-  unfolding account
-  byte_no_digit l = rw (ne_eqb b 45 h) (sym (no_number b [] (inr (omega arith))))
-
-  pub byte_digit : 1 ≤ d → d < 10 → d ≡ account (b ∷ [])
-  unfolding account
-  byte_digit l u = rw (ne_eqb b 45 h) (e ∙ sym (number_is b [] (omega arith) (omega arith)))
-
--- one digit more
-module _ (n b : ℕ) {d : ℕ} (e : d ≡ digit b) where
-  pub longer_no_digit : 10 ≤ d → no_account ≡ longer n b
-  unfolding longer
-  longer_no_digit h = rw (← e, le-ltb d 10 h)
-
-  module _ (h : d < 10) where
-    pub longer_big : account_limit < 10 * n + d → no_account ≡ longer n b
-    unfolding longer
-    longer_big l = rw (← e, lt-ltb d 10 h, lt-leb (10 * n + d) account_limit l)
-
-    pub longer-good : 10 * n + d ≤ account_limit → 10 * n + d ≡ longer n b
-    unfolding longer
-    longer-good l = rw (← e, lt-ltb d 10 h, le-leb (10 * n + d) account_limit l)
-
--- a first byte and the field behind it
-pub account_one : (a : ℕ) (f : Field) → f.size ≡ 0 → account (a ∷ []) ≡ account (a ∷ word f)
-unfolding word
-account_one a f e = ap (λ n. account (a ∷ word_by n f.first f.second)) (sym e)
-
-module _ (a : ℕ) (f : Field) (h : 1 ≤ f.size) where
-  by_number : account_number a (word f) ≡ account (a ∷ word f)
-  unfolding word account
-  by_number = go f.size h
-    where
-      go : (n : ℕ) → 1 ≤ n → account_number a (word_by n f.first f.second) ≡ account (a ∷ word_by n f.first f.second)
-      go zero l = absurd (omega arith)
-      go (suc zero) l = refl
-      go (suc (suc zero)) l = refl
-      go (suc (suc (suc n))) l = refl
-
-  module _ {d : ℕ} (e : d ≡ digit a) where
-    pub account_low : d < 1 → no_account ≡ account (a ∷ word f)
-    account_low l = sym (no_number a (word f) (inl (omega arith))) ∙ by_number
-
-    pub account_no_digit : 10 ≤ d → no_account ≡ account (a ∷ word f)
-    account_no_digit l = sym (no_number a (word f) (inr (omega arith))) ∙ by_number
-
-    module _ (low : 1 ≤ d) (high : d < 10) where
-      by_digits : account (a ∷ word f) ≡ digits_behind d (word f)
-      by_digits = sym by_number ∙ number_is a (word f) (omega arith) (omega arith) ∙ ap (λ n. digits_behind n (word f)) (sym e)
-
-      pub account_two : f.size ≡ 1 → longer d f.first ≡ account (a ∷ word f)
-      account_two s = sym (by_digits ∙ ap (digits_behind d) (word_one f s))
-
-      pub account_three : f.size ≡ 2 → longer (longer d f.first) f.second ≡ account (a ∷ word f)
-      account_three s = sym (by_digits ∙ ap (digits_behind d) (word_two f s))
-
-  pub account_too_long : (f.size ≡ 1 → ⊥) → (f.size ≡ 2 → ⊥) → no_account ≡ account (a ∷ word f)
-  unfolding word
-  account_too_long p q = go f.size h p q
-    where
-      go : (n : ℕ) → 1 ≤ n → (n ≡ 1 → ⊥) → (n ≡ 2 → ⊥) → no_account ≡ account (a ∷ word_by n f.first f.second)
-      go zero l p q = absurd (omega arith)
-      go (suc zero) l p q = absurd (p refl)
-      go (suc (suc zero)) l p q = absurd (q refl)
-      go (suc (suc (suc n))) l p q = sym (account_long (a ∷ 0 ∷ 0 ∷ 0 ∷ []) (omega arith))
-
--- what is found from the first byte on
-module _ (s : List ℕ) (i : ℕ) {a : ℕ} (e : a ≡ get_or s i 256) where
-  pub account-empty : stops a ≡ true → account_made no_account 0 a ≡ account_at s i
-  unfolding account_at
-  account-empty h = rw (← e, h)
-
-  module _ (h : stops a ≡ false) where
-    -- a field that has a byte lies inside the text
-    pub account-inside : i < length s
-    unfolding stops
-    account-inside = inside_getD s i 256 (λ q. true≢false (sym (ap stops (e ∙ q)) ∙ h))
-
-    pub account_full : (f : Field) → f ≡ field_at s (i + 1) → (r : AccountField) → r ≡ account_behind a f → r ≡ account_at s i
-    unfolding account_at
-    account_full f q r k = k ∙ rw (← e, h, q)
-
--- at most four bytes of a field are looked at
-pub account_small : (s : List ℕ) (i : ℕ) (f : AccountField) → f ≡ account_at s i → f.size ≤ 4
-unfolding account_at
-account_small s i f e = rw e (go (stops (get_or s i 256)))
+-- ── digit by digit ──
+-- one test of the whole number is as good as one of each number on the way, since more digits never make it smaller
+number_is : (n : ℕ) (bs : List ℕ) → n ≤ account_limit → number n bs ≡ when (all_digits bs && leb (decimal n bs) account_limit) (decimal n bs)
+unfolding number longer all_digits decimal
+number_is n [] h = rw (le-leb n account_limit h)
+number_is n (b ∷ bs) h = go (ltb (digit b) 10) (leb (10 * n + digit b) account_limit) refl (number_is (10 * n + digit b) bs)
   where
-    go : (b : Bool) → (cond b (account_made no_account 0 (get_or s i 256)) (account_behind (get_or s i 256) (field_at s (i + 1)))).size ≤ 4
-    go true = omega arith
-    go false = omega (arith, field_small s (i + 1) _ refl)
+    big : account_limit < 10 * n + digit b → (z : Bool) → None ≡ when (z && leb (decimal (10 * n + digit b) bs) account_limit) (decimal (10 * n + digit b) bs)
+    big l true = rw (lt-leb (decimal (10 * n + digit b) bs) account_limit (omega (arith, decimal_grows (10 * n + digit b) bs)))
+    big l false = refl
+
+    go : (x y : Bool) → leb (10 * n + digit b) account_limit ≡ y
+        → (10 * n + digit b ≤ account_limit
+        → number (10 * n + digit b) bs ≡ when (all_digits bs && leb (decimal (10 * n + digit b) bs) account_limit) (decimal (10 * n + digit b) bs))
+        → option_and_then (λ m. number m bs) (when (x && y) (10 * n + digit b))
+        ≡ when ((x && all_digits bs) && leb (decimal (10 * n + digit b) bs) account_limit) (decimal (10 * n + digit b) bs)
+    go true true e next = next (leb-true (10 * n + digit b) account_limit e)
+    go true false e next = big (leb-false (10 * n + digit b) account_limit e) (all_digits bs)
+    go false y e next = refl
+
+-- the number of a first digit from 1 to 9 and the digits behind it
+number_from : (a : ℕ) (more : List ℕ) → 49 ≤ a → a ≤ 57 → number 0 (a ∷ more) ≡ below no_account (account_number a more)
+unfolding account_number all_digits decimal
+number_from a more l u =
+    let d : ltb (digit a) 10 ≡ true = lt-ltb (digit a) 10 (omega (arith, digit_is a (omega arith) u)) in
+    let z : 10 * 0 + digit a ≡ digit a = omega arith in
+    number_is 0 (a ∷ more) (omega arith) ∙ rw (d, z, le-leb 49 a l, le-leb a 57 u) (go (all_digits more) (leb (decimal (digit a) more) account_limit) refl)
+  where
+    go : (x y : Bool) → leb (decimal (digit a) more) account_limit ≡ y
+        → when (x && y) (decimal (digit a) more) ≡ below no_account (cond (x && y) (decimal (digit a) more) no_account)
+    go true true e = rw (lt-ltb (decimal (digit a) more) 201 (omega (arith, leb-true (decimal (digit a) more) account_limit e)))
+    go true false e = refl
+    go false y e = refl
+
+-- ── one law for each way of the code ──
+pub account_dash : (w : List ℕ) → length w ≡ 1 → get_or w 0 0 ≡ 45 → Some 0 ≡ below no_account (account w)
+unfolding account
+account_dash [] h e = absurd (omega arith)
+account_dash (a ∷ []) h e = rw (eq-eqb a 45 e)
+account_dash (a ∷ b ∷ w) h e = absurd (omega arith)
+
+pub account_digits : (w : List ℕ) → 1 ≤ length w → 49 ≤ get_or w 0 0 → get_or w 0 0 ≤ 57 → number 0 w ≡ below no_account (account w)
+unfolding account
+account_digits [] h l u = absurd (omega arith)
+account_digits (a ∷ []) h l u = number_from a [] l u ∙ rw (ne_eqb a 45 (λ e. omega arith))
+account_digits (a ∷ b ∷ w) h l u = number_from a (b ∷ w) l u
+
+pub account_none :
+    (w : List ℕ) → (length w ≡ 1 → get_or w 0 0 ≡ 45 → ⊥) → (1 ≤ length w → 49 ≤ get_or w 0 0 → get_or w 0 0 ≤ 57 → ⊥) → None ≡ below no_account (account w)
+unfolding account
+account_none [] h k = refl
+account_none (a ∷ []) h k = rw (ne_eqb a 45 (h refl), number_none a [] (λ l u. absurd (k (omega arith) l u)))
+account_none (a ∷ b ∷ w) h k = rw (number_none a (b ∷ w) (λ l u. absurd (k (omega arith) l u)))

@@ -1,147 +1,105 @@
 -- Laws of scanning: a field that was read, and what it leaves to scan or decides.
-use Rattle.std.proofs.Math.Path.{◌≡◌, refl, ap}
-use Rattle.std.proofs.Common.{◌∙◌, eq-eqb, ne_eqb, le-leb, length-drop}
-use Rattle.std.specs.Prelude.{Bool, ◌&&◌, eqb, ltb, length, Option, None, Some}
-use Rattle.std.proofs.Math.Bool.{true, false, cond}
-use mathlib.Core.List.{List, [], ◌∷◌}
-use Prim.Native.Nat.{ℕ, suc, ◌+◌, ◌≤◌, ◌<◌}
-use native.Mathlib.Omega.{arith}
+use Rattle.std.specs.Prelude.{◌≡◌, refl, Bool, true, false, ◌&&◌, cond, List, [], ◌∷◌, ℕ, zero, suc, ◌+◌, ◌≤◌, ◌<◌, ◌⊎◌, eqb, ltb, length, get_or, drop, Option, None, Some}
+use Rattle.std.proofs.Common.{sym, ap, ap₂, ◌∙◌, inl, inr, arith, eq-eqb, ne_eqb, le-leb}
 use Rattle.std.proofs.lemmas.Bool.{lt-leb}
-use Rattle.std.proofs.Math.ListN.{drop}
 use Rattle.std.proofs.Math.Seq.{drop-drop}
-use Rattle.fields.specs.declared.Field.{Field}
-use Rattle.fields.specs.declared.AccountField.{AccountField}
 use Rattle.syntax.specs.declared.Node.{Node}
 use Rattle.syntax.specs.declared.Line.{Line}
 use Rattle.syntax.specs.Letter.{is_letter}
 use Rattle.syntax.specs.Table.{account_limit}
-use Rattle.fields.specs.Text.{place, single, account, when, node_of_none, node_of_one, range_of, parts_of, node_of_two, node_of, with_account, line_of}
-use Rattle.fields.specs.Fields.{word}
+use Rattle.fields.specs.Text.{place, single, no_account, account, when, node_of_none, node_of_one, range_of, parts_of, node_of_two, node_of, with_account, line_of}
+use Rattle.fields.specs.Fields.{below, FieldAt, field_size, one_byte, below_none, below_some, single_none, single_some}
 use Rattle.fields.specs.AccountLaws.{account_long}
-use Rattle.scanning.specs.Scans.{first_fields, first_closed, first_size, finished, scan_of, scan_by, scanned}
-use Rattle.scanning.specs.Scans.{parts_say, account_says, parts_scanned, account_scanned}
-use Rattle.scanning.specs.Cuts.{tab, newline, unclosed, ReadsTo, cut, long, Reads, ReadsAccount, some-field}
+use Rattle.scanning.specs.Scans.{first_fields, first_closed, first_size, scan_of, scan_by, behind, scanned, parts_say, account_says}
+use Rattle.scanning.specs.Cuts.{Cut, tab, newline, NoCut, unclosed, long, cut, no_cut, some-field}
 
-abbrev pub Says : Type 0
-Says = List (List ℕ) → Option Line
+abbrev pub Says : Type 0 → Type 0
+Says A = List (List ℕ) → Option A
 
--- a field of k bytes or more decides against the line: 4 for an account, 3 for any other field
-abbrev pub NoLong : (k : ℕ) → Says → Type 0
+-- a field of k bytes or more decides against the line
+abbrev pub NoLong : {A : Type 0} → (k : ℕ) → Says A → Type 0
 NoLong k says = (y : List ℕ) (more : List (List ℕ)) → k ≤ length y → says (y ∷ more) ≡ None
 
-module _ (says : Says) (at : ℕ) (w : List ℕ) where
-  pub scan_unclosed : first_closed w ≡ false → None ≡ scan_by says at w
+module _ {A : Type 0} (says : Says A) (at : ℕ) (w : List ℕ) where
+  pub scan_unclosed : first_closed w ≡ false → scan_by says at w ≡ None
   unfolding scan_by
   scan_unclosed h = rw h
 
-  pub scan_none : says (first_fields w) ≡ None → None ≡ scan_by says at w
+  pub scan_none : says (first_fields w) ≡ None → scan_by says at w ≡ None
   unfolding scan_by
   scan_none h = go (first_closed w)
     where
-      go : (b : Bool) → None ≡ cond b (scan_of (says (first_fields w)) (at + suc (first_size w))) None
+      go : (b : Bool) → cond b (scan_of (says (first_fields w)) (at + suc (first_size w))) None ≡ None
       go true = rw h
       go false = refl
 
-pub scan_same : (f g : Says) (at : ℕ) (w : List ℕ) → ((fs : List (List ℕ)) → f fs ≡ g fs) → scan_by f at w ≡ scan_by g at w
-unfolding scan_by
-scan_same f g at w h = ap (λ o. cond (first_closed w) (scan_of o (at + suc (first_size w))) None) (h (first_fields w))
-
--- a field that ends before the text does lies inside it
-module _ (s : List ℕ) (at : ℕ) (x : List ℕ) {k n t : ℕ} (r : ReadsTo k (drop at s) x n t) where
-  pub room : t ≡ 9 → at + n < length s
-  room h = go r
+module _ {A : Type 0} (says : Says A) (s : List ℕ) where
+  -- no field of few bytes is there
+  pub scan_no_field : (at : ℕ) → field_size (drop at s) ≡ None → NoLong 4 says → scan_by says at (drop at s) ≡ None
+  scan_no_field at e nl = go (no_cut (drop at s) e)
     where
-      go : ReadsTo k (drop at s) x n t → at + n < length s
-      go (cut (newline e i c z l)) = absurd (omega arith)
-      go (cut (tab e i c z l)) = omega (arith, simp length-drop at l)
-      go (cut (unclosed e c)) = absurd (omega arith)
-      go (long e y more l i) = absurd (omega arith)
+      go : NoCut 4 (drop at s) → scan_by says at (drop at s) ≡ None
+      go (unclosed c) = scan_unclosed says at (drop at s) c
+      go (long y more l i) = scan_none says at (drop at s) (ap says i ∙ nl y more l)
 
-module _ (says : Says) (s : List ℕ) (at : ℕ) (x : List ℕ) {k n t : ℕ} (r : ReadsTo k (drop at s) x n t) where
-  scan_long : NoLong k says → (y : List ℕ) (more : List (List ℕ)) → k ≤ length y → first_fields (drop at s) ≡ y ∷ more
-      → None ≡ scan_by says at (drop at s)
-  scan_long nl y more l e = scan_none says at (drop at s) (ap says e ∙ nl y more l)
-
-  -- a field that byte 10 ends is the line's last
-  pub scan_newline : t ≡ 10 → scan_of (says (x ∷ [])) (at + n + 1) ≡ scan_by says at (drop at s)
-  unfolding scan_by
-  scan_newline h = go r
+  -- a field, and what stands behind it
+  pub scan_field : (at : ℕ) {x : List ℕ} {last : Bool} {next : ℕ} → FieldAt s at x last next
+      → scan_by says at (drop at s) ≡ behind (λ fs. says (x ∷ fs)) s last next
+  unfolding scan_by behind
+  scan_field at {x = x} {last = last} {next = next} f = go (cut (drop at s) (length x) f.size)
     where
-      go : ReadsTo k (drop at s) x n t → scan_of (says (x ∷ [])) (at + n + 1)
-          ≡ cond (first_closed (drop at s)) (scan_of (says (first_fields (drop at s))) (at + suc (first_size (drop at s)))) None
-      go (cut (newline e i c z l)) = let q : at + n + 1 ≡ at + suc (first_size (drop at s)) = omega arith in rw (c, i, q)
-      go (cut (tab e i c z l)) = absurd (omega arith)
-      go (cut (unclosed e c)) = absurd (omega arith)
-      go (long e y more l i) = absurd (omega arith)
+      go : Cut (drop at s) (length x)
+          → cond (first_closed (drop at s)) (scan_of (says (first_fields (drop at s))) (at + suc (first_size (drop at s)))) None
+          ≡ cond last (scan_of (says (x ∷ [])) next)
+          (cond (first_closed (drop next s)) (scan_of (says (x ∷ first_fields (drop next s))) (next + suc (first_size (drop next s)))) None)
+      go (newline e i c z) =
+          let t : last ≡ true = f.ends ∙ eq-eqb (get_or (drop at s) (length x) 0) 10 e in
+          let b : first_fields (drop at s) ≡ x ∷ [] = i ∙ ap (λ y. y ∷ []) (sym f.bytes) in
+          let q : at + suc (first_size (drop at s)) ≡ next = omega (arith, f.behind) in
+          rw (c, b, q, t)
+      go (tab e i c z) =
+          let t : last ≡ false = f.ends ∙ ne_eqb (get_or (drop at s) (length x) 0) 10 (λ k. omega arith) in
+          let m : at + suc (length x) ≡ next = omega (arith, f.behind) in
+          let d : drop (suc (length x)) (drop at s) ≡ drop next s = drop-drop (suc (length x)) at s ∙ ap (λ j. drop j s) m in
+          let z' : first_size (drop at s) ≡ suc (length x) + first_size (drop next s) = z ∙ ap (λ w. suc (length x) + first_size w) d in
+          let q : at + suc (first_size (drop at s)) ≡ next + suc (first_size (drop next s)) = omega (arith, f.behind) in
+          let b : first_fields (drop at s) ≡ x ∷ first_fields (drop next s) = i ∙ ap (λ y. y ∷ first_fields (drop (suc (length x)) (drop at s))) (sym f.bytes) ∙ ap (λ w. x ∷ first_fields w) d in
+          rw (c ∙ ap first_closed d, b, q, t)
 
-  -- after a field that a tab ends the line goes on
-  pub scan_tab : t ≡ 9 → scan_by (λ fs. says (x ∷ fs)) (at + n + 1) (drop (at + n + 1) s) ≡ scan_by says at (drop at s)
-  unfolding scan_by
-  scan_tab h = go r
-    where
-      go : ReadsTo k (drop at s) x n t
-          → cond (first_closed (drop (at + n + 1) s))
-          (scan_of (says (x ∷ first_fields (drop (at + n + 1) s))) (at + n + 1 + suc (first_size (drop (at + n + 1) s)))) None
-          ≡ cond (first_closed (drop at s)) (scan_of (says (first_fields (drop at s))) (at + suc (first_size (drop at s)))) None
-      go (cut (tab e i c z l)) =
-          let m : at + suc n ≡ at + n + 1 = omega arith in
-          let d : drop (suc n) (drop at s) ≡ drop (at + n + 1) s = drop-drop (suc n) at s ∙ ap (λ j. drop j s) m in
-          let z' : first_size (drop at s) ≡ suc n + first_size (drop (at + n + 1) s) = z ∙ ap (λ w. suc n + first_size w) d in
-          let q : at + n + 1 + suc (first_size (drop (at + n + 1) s)) ≡ at + suc (first_size (drop at s)) = omega arith in
-          rw (c ∙ ap first_closed d, i ∙ ap (λ w. x ∷ first_fields w) d, q)
-      go (cut (newline e i c z l)) = absurd (omega arith)
-      go (cut (unclosed e c)) = absurd (omega arith)
-      go (long e y more l i) = absurd (omega arith)
+  module _ (last : Bool) (next : ℕ) where
+    pub behind_none : (last ≡ true) ⊎ (field_size (drop next s) ≡ None) → says [] ≡ None → NoLong 4 says → behind says s last next ≡ None
+    unfolding behind
+    behind_none (inl t) e nl = rw (t, e)
+    behind_none (inr h) e nl = go last
+      where
+        go : (b : Bool) → cond b (scan_of (says []) next) (scan_by says next (drop next s)) ≡ None
+        go true = rw e
+        go false = scan_no_field next h nl
 
-  pub fault_not_tab : (t ≡ 9 → ⊥) → ((y : List ℕ) → says (y ∷ []) ≡ None) → NoLong k says → None ≡ scan_by says at (drop at s)
-  fault_not_tab h last nl = go r
-    where
-      go : ReadsTo k (drop at s) x n t → None ≡ scan_by says at (drop at s)
-      go (cut (tab e i c z l)) = absurd (h e)
-      go (cut (newline e i c z l)) = scan_none says at (drop at s) (ap says i ∙ last x)
-      go (cut (unclosed e c)) = scan_unclosed says at (drop at s) c
-      go (long e y more l i) = scan_long nl y more l i
+    pub behind_nothing : ((fs : List (List ℕ)) → says fs ≡ None) → behind says s last next ≡ None
+    unfolding behind
+    behind_nothing h = go last
+      where
+        go : (b : Bool) → cond b (scan_of (says []) next) (scan_by says next (drop next s)) ≡ None
+        go true = rw (h [])
+        go false = scan_none says next (drop next s) (h (first_fields (drop next s)))
 
-  pub fault_not_newline : (t ≡ 10 → ⊥) → ((y z : List ℕ) (more : List (List ℕ)) → says (y ∷ z ∷ more) ≡ None) → NoLong k says
-      → None ≡ scan_by says at (drop at s)
-  fault_not_newline h on nl = go r
-    where
-      go : ReadsTo k (drop at s) x n t → None ≡ scan_by says at (drop at s)
-      go (cut (tab e i c z l)) =
-          let y = some-field (drop (suc n) (drop at s)) in
-          scan_none says at (drop at s) (ap says (i ∙ ap (λ fs. x ∷ fs) y.is) ∙ on x y.front y.more)
-      go (cut (newline e i c z l)) = absurd (h e)
-      go (cut (unclosed e c)) = scan_unclosed says at (drop at s) c
-      go (long e y more l i) = scan_long nl y more l i
+    pub behind_field : last ≡ false → {x : List ℕ} {l : Bool} {n : ℕ} → FieldAt s next x l n → behind says s last next ≡ behind (λ fs. says (x ∷ fs)) s l n
+    unfolding behind
+    behind_field e f = rw e (scan_field next f)
 
-  pub fault_neither : (t ≡ 9 → ⊥) → (t ≡ 10 → ⊥) → NoLong k says → None ≡ scan_by says at (drop at s)
-  fault_neither h m nl = go r
-    where
-      go : ReadsTo k (drop at s) x n t → None ≡ scan_by says at (drop at s)
-      go (cut (tab e i c z l)) = absurd (h e)
-      go (cut (newline e i c z l)) = absurd (m e)
-      go (cut (unclosed e c)) = scan_unclosed says at (drop at s) c
-      go (long e y more l i) = scan_long nl y more l i
-
-  -- the field itself decides against the line, whatever follows
-  pub fault_field : ((fs : List (List ℕ)) → says (x ∷ fs) ≡ None) → NoLong k says → None ≡ scan_by says at (drop at s)
-  fault_field h nl = go r
-    where
-      go : ReadsTo k (drop at s) x n t → None ≡ scan_by says at (drop at s)
-      go (cut (tab e i c z l)) = scan_none says at (drop at s) (ap says i ∙ h (first_fields (drop (suc n) (drop at s))))
-      go (cut (newline e i c z l)) = scan_none says at (drop at s) (ap says i ∙ h [])
-      go (cut (unclosed e c)) = scan_unclosed says at (drop at s) c
-      go (long e y more l i) = scan_long nl y more l i
+behind_same : {A : Type 0} (f g : Says A) (s : List ℕ) (last : Bool) (next : ℕ) → ((fs : List (List ℕ)) → f fs ≡ g fs)
+    → behind f s last next ≡ behind g s last next
+unfolding behind scan_by
+behind_same f g s last next h =
+    ap₂ (λ o p. cond last (scan_of o next) (cond (first_closed (drop next s)) (scan_of p (next + suc (first_size (drop next s)))) None))
+    (h []) (h (first_fields (drop next s)))
 
 -- ── what the fields say ──
 -- what is above the limit is no account
 pub big_account : (a : ℕ) (o : Option Node) → account_limit < a → with_account a o ≡ None
 big_account a None h = refl
 big_account a (Some n) h = rw (lt-leb a account_limit h)
-
-pub finish_law : (a n : ℕ) (o : Option Node) → a ≤ account_limit → finished a o n ≡ scan_of (with_account a o) n
-finish_law a n None h = refl
-finish_law a n (Some x) h = rw (le-leb a account_limit h)
 
 -- a choice among nothings is nothing
 nothing_left : {A : Type 0} (p q r : Bool) (x y z : Option A) → x ≡ None → y ≡ None → z ≡ None → cond p x (cond q y (cond r z None)) ≡ None
@@ -186,16 +144,24 @@ two_long' k y z h =
     no_place true x = refl
     no_place false x = refl
 
+pub node_no_long : (k : ℕ) → NoLong 3 (node_of k)
+unfolding node_of
+node_no_long k y [] h = one_long k y h
+node_no_long k y (f ∷ []) h = two_long k y f h
+node_no_long k y (f ∷ g ∷ more) h = refl
+
+pub node_no_second : (k : ℕ) (x : List ℕ) → NoLong 3 (λ fs. node_of k (x ∷ fs))
+unfolding node_of
+node_no_second k x y [] h = two_long' k y x h
+node_no_second k x y (g ∷ more) h = refl
+
 pub parts_no_long : (a k : ℕ) → NoLong 3 (parts_say a k)
-unfolding parts_say node_of
-parts_no_long a k y [] h = rw (one_long k y h)
-parts_no_long a k y (f ∷ []) h = rw (two_long k y f h)
-parts_no_long a k y (f ∷ g ∷ more) h = refl
+unfolding parts_say
+parts_no_long a k y more h = ap (with_account a) (node_no_long k y more h)
 
 pub parts_no_second : (a k : ℕ) (x : List ℕ) → NoLong 3 (λ fs. parts_say a k (x ∷ fs))
-unfolding parts_say node_of
-parts_no_second a k f y [] h = rw (two_long' k y f h)
-parts_no_second a k f y (g ∷ more) h = refl
+unfolding parts_say
+parts_no_second a k x y more h = ap (with_account a) (node_no_second k x y more h)
 
 pub parts_no_more : (a k : ℕ) (x y z : List ℕ) (more : List (List ℕ)) → parts_say a k (x ∷ y ∷ z ∷ more) ≡ None
 unfolding parts_say node_of
@@ -250,69 +216,114 @@ module _ (i : ℕ) where
   line-account p k h (a ∷ more) = rw (eq-eqb (place p) i h)
 
 -- ── one law for each way of the code ──
-module _ (s : List ℕ) (at : ℕ) (f : AccountField) (r : ReadsAccount (drop at s) f) (k : ℕ) where
-  pub account_big : account_limit < f.account → None ≡ account_scanned k at (drop at s)
-  account_big h =
-      fault_field (account_says k) s at r.bytes r.read (account_no_big k r.bytes (omega (arith, r.says))) (account_no_long k)
+-- the node of the kind k, and its fields
+module _ (s : List ℕ) (k : ℕ) (last : Bool) (next : ℕ) where
+  pub node_alone : last ≡ true → behind (node_of k) s last next ≡ scan_of (node_of_none k) next
+  unfolding behind node_of
+  node_alone t = rw t
 
-  pub account-last :
-      f.account ≤ account_limit → f.stop ≡ 10
-      → finished f.account (node_of_none k) (at + f.size + 1) ≡ account_scanned k at (drop at s)
-  unfolding account_says parts_say node_of
-  account-last l h =
-      finish_law f.account (at + f.size + 1) (node_of_none k) l
-      ∙ ap (λ a. scan_of (with_account a (node_of_none k)) (at + f.size + 1)) r.says
-      ∙ scan_newline (account_says k) s at r.bytes r.read h
+  module _ (t : last ≡ false) where
+    pub node_no_field : field_size (drop next s) ≡ None → behind (node_of k) s last next ≡ None
+    unfolding behind
+    node_no_field e = rw t (scan_no_field (node_of k) s next e (λ y more h. node_no_long k y more (omega arith)))
 
-  pub account_neither : (f.stop ≡ 9 → ⊥) → (f.stop ≡ 10 → ⊥) → None ≡ account_scanned k at (drop at s)
-  account_neither h m = fault_neither (account_says k) s at r.bytes r.read h m (account_no_long k)
+    module _ {x : List ℕ} {l : Bool} {n : ℕ} (f : FieldAt s next x l n) where
+      pub node_one : l ≡ true → {r : Option Node} → r ≡ node_of_one k x → scan_of r n ≡ behind (node_of k) s last next
+      unfolding behind node_of
+      node_one e h = sym (behind_field (node_of k) s last next t f ∙ rw (e, h))
 
-  pub account_on : f.stop ≡ 9 → parts_scanned f.account k (at + f.size + 1) (drop (at + f.size + 1) s) ≡ account_scanned k at (drop at s)
-  unfolding account_says
-  account_on h =
-      ap (λ a. parts_scanned a k (at + f.size + 1) (drop (at + f.size + 1) s)) r.says ∙ scan_tab (account_says k) s at r.bytes r.read h
+      module _ (e : l ≡ false) where
+        pub node_no_second_field : field_size (drop n s) ≡ None → behind (node_of k) s last next ≡ None
+        unfolding behind
+        node_no_second_field h =
+            behind_field (node_of k) s last next t f
+            ∙ rw e (scan_no_field (λ fs. node_of k (x ∷ fs)) s n h (λ y more h. node_no_second k x y more (omega arith)))
 
-module _ (s : List ℕ) (at : ℕ) (f : Field) (r : Reads (drop at s) f) where
-  module _ (a k : ℕ) where
-    pub parts_one : a ≤ account_limit → f.stop ≡ 10 → finished a (node_of_one k (word f)) (at + f.size + 1) ≡ parts_scanned a k at (drop at s)
-    unfolding parts_say node_of
-    parts_one l h = finish_law a (at + f.size + 1) (node_of_one k (word f)) l ∙ scan_newline (parts_say a k) s at (word f) r h
+        module _ {y : List ℕ} {m : Bool} {j : ℕ} (g : FieldAt s n y m j) where
+          two : behind (node_of k) s last next ≡ behind (λ fs. node_of k (x ∷ y ∷ fs)) s m j
+          two = behind_field (node_of k) s last next t f ∙ behind_field (λ fs. node_of k (x ∷ fs)) s l n e g
 
-    pub parts_neither : (f.stop ≡ 9 → ⊥) → (f.stop ≡ 10 → ⊥) → None ≡ parts_scanned a k at (drop at s)
-    parts_neither h n = fault_neither (parts_say a k) s at (word f) r h n (parts_no_long a k)
+          pub node_two : m ≡ true → {r : Option Node} → r ≡ node_of_two k x y → scan_of r j ≡ behind (node_of k) s last next
+          unfolding behind node_of
+          node_two h u = sym (two ∙ rw (h, u))
 
-    module _ (t : f.stop ≡ 9) (g : Field) (q : Reads (drop (at + f.size + 1) s) g) where
-      pub parts_no_end : (g.stop ≡ 10 → ⊥) → None ≡ parts_scanned a k at (drop at s)
-      parts_no_end h =
-          fault_not_newline (λ fs. parts_say a k (word f ∷ fs)) s (at + f.size + 1) (word g) q h (λ x y more. parts_no_more a k (word f) x y more)
-          (parts_no_second a k (word f))
-          ∙ scan_tab (parts_say a k) s at (word f) r t
+          pub node_more : m ≡ false → behind (node_of k) s last next ≡ None
+          unfolding behind node_of
+          node_more h =
+              let f = some-field (drop j s) in
+              two ∙ rw h (scan_none (λ fs. node_of k (x ∷ y ∷ fs)) j (drop j s) (ap (λ fs. node_of k (x ∷ y ∷ fs)) f.is))
 
-      pub parts_two : a ≤ account_limit → g.stop ≡ 10 → finished a (node_of_two k (word f) (word g)) (at + f.size + 1 + g.size + 1)
-          ≡ parts_scanned a k at (drop at s)
-      unfolding parts_say node_of
-      parts_two l h =
-          finish_law a (at + f.size + 1 + g.size + 1) (node_of_two k (word f) (word g)) l
-          ∙ scan_newline (λ fs. parts_say a k (word f ∷ fs)) s (at + f.size + 1) (word g) q h ∙ scan_tab (parts_say a k) s at (word f) r t
+-- what an account's number makes of a node
+abbrev pub with_number : (account : ℕ) → Option (Node × ℕ) → Option (Line × ℕ)
+with_number a None = None
+with_number a (Some (node, next)) = scan_of (with_account a (Some node)) next
 
-  module _ (i : ℕ) (l : i < 64) where
-    pub line_no_tab : (f.stop ≡ 9 → ⊥) → None ≡ scanned i at (drop at s)
-    line_no_tab h = fault_not_tab (line_of i) s at (word f) r h (line_alone i) (line_no_long i l)
+number_no : (a : ℕ) (o : Option (Node × ℕ)) → account_limit < a → with_number a o ≡ None
+number_no a None h = refl
+number_no a (Some (n, next)) h = rw (lt-leb a account_limit h)
 
-    pub line_misplaced : (place (word f) ≡ i → ⊥) → None ≡ scanned i at (drop at s)
-    line_misplaced h = fault_field (line_of i) s at (word f) r (line_no_place i (word f) h) (line_no_long i l)
+with_account-scan : (a : ℕ) (o : Option Node) (next : ℕ) → scan_of (with_account a o) next ≡ with_number a (scan_of o next)
+with_account-scan a None next = refl
+with_account-scan a (Some n) next = refl
 
-    module _ (t : f.stop ≡ 9) (g : Field) (q : Reads (drop (at + f.size + 1) s) g) where
-      pub line-no_account : (g.stop ≡ 9 → ⊥) → None ≡ scanned i at (drop at s)
-      line-no_account h =
-          fault_not_tab (λ fs. line_of i (word f ∷ fs)) s (at + f.size + 1) (word g) q h (line_short i (word f)) (line_no_kind i (word f))
-          ∙ scan_tab (line_of i) s at (word f) r t
+with_account_behind : (a : ℕ) (says : Says Node) (s : List ℕ) (last : Bool) (next : ℕ)
+    → behind (λ fs. with_account a (says fs)) s last next ≡ with_number a (behind says s last next)
+unfolding behind scan_by
+with_account_behind a says s last next = go last
+  where
+    rest : (c : Bool) (o : Option Node) (n : ℕ) → cond c (scan_of (with_account a o) n) None ≡ with_number a (cond c (scan_of o n) None)
+    rest true o n = with_account-scan a o n
+    rest false o n = refl
 
-      pub line_on :
-          place (word f) ≡ i → g.stop ≡ 9
-          → account_scanned (single (word g)) (at + f.size + 1 + g.size + 1) (drop (at + f.size + 1 + g.size + 1) s) ≡ scanned i at (drop at s)
-      line_on e h =
-          scan_same (account_says (single (word g))) (λ fs. line_of i (word f ∷ word g ∷ fs)) (at + f.size + 1 + g.size + 1)
-          (drop (at + f.size + 1 + g.size + 1) s)
-          (line-account i (word f) (word g) e)
-          ∙ scan_tab (λ fs. line_of i (word f ∷ fs)) s (at + f.size + 1) (word g) q h ∙ scan_tab (line_of i) s at (word f) r t
+    go : (b : Bool) → cond b (scan_of (with_account a (says [])) next)
+        (cond (first_closed (drop next s)) (scan_of (with_account a (says (first_fields (drop next s)))) (next + suc (first_size (drop next s)))) None)
+        ≡ with_number a (cond b (scan_of (says []) next)
+        (cond (first_closed (drop next s)) (scan_of (says (first_fields (drop next s))) (next + suc (first_size (drop next s)))) None))
+    go true = with_account-scan a (says []) next
+    go false = rest (first_closed (drop next s)) (says (first_fields (drop next s))) (next + suc (first_size (drop next s)))
+
+-- line i: its place, its kind, its account, and what the kind needs
+module _ (s : List ℕ) (at i : ℕ) where
+  pub line_no_field : i < 64 → field_size (drop at s) ≡ None → scanned i at (drop at s) ≡ None
+  line_no_field l e = scan_no_field (line_of i) s at e (λ y more h. line_no_long i l y more (omega arith))
+
+  module _ {p : List ℕ} {l : Bool} {n : ℕ} (f : FieldAt s at p l n) where
+    pub line_misplaced : (place p ≡ i → ⊥) → scanned i at (drop at s) ≡ None
+    line_misplaced h = scan_field (line_of i) s at f ∙ behind_nothing (λ fs. line_of i (p ∷ fs)) s l n (line_no_place i p h)
+
+    pub line_no_kind_field : (l ≡ true) ⊎ (field_size (drop n s) ≡ None) → scanned i at (drop at s) ≡ None
+    line_no_kind_field h =
+        scan_field (line_of i) s at f
+        ∙ behind_none (λ fs. line_of i (p ∷ fs)) s l n h (line_alone i p) (λ y more h. line_no_kind i p y more (omega arith))
+
+    module _ (h : place p ≡ i) (e : l ≡ false) {k : List ℕ} {m : Bool} {j : ℕ} (g : FieldAt s n k m j) where
+      second : scanned i at (drop at s) ≡ behind (account_says (single k)) s m j
+      second =
+          scan_field (line_of i) s at f ∙ behind_field (λ fs. line_of i (p ∷ fs)) s l n e g
+          ∙ behind_same (λ fs. line_of i (p ∷ k ∷ fs)) (account_says (single k)) s m j (λ fs. sym (line-account i p k h fs))
+
+      pub line_no_account_field : (m ≡ true) ⊎ (field_size (drop j s) ≡ None) → scanned i at (drop at s) ≡ None
+      unfolding account_says
+      line_no_account_field d = second ∙ behind_none (account_says (single k)) s m j d refl (account_no_long (single k))
+
+      module _ (d : m ≡ false) {a : List ℕ} {q : Bool} {z : ℕ} (o : FieldAt s j a q z) where
+        pub line_is : scanned i at (drop at s) ≡ with_number (account a) (behind (node_of (single k)) s q z)
+        unfolding account_says parts_say
+        line_is = second ∙ behind_field (account_says (single k)) s m j d o ∙ with_account_behind (account a) (node_of (single k)) s q z
+
+        pub line_no_account : below no_account (account a) ≡ None → scanned i at (drop at s) ≡ None
+        line_no_account e = line_is ∙ number_no (account a) (behind (node_of (single k)) s q z) (below_none no_account (account a) e)
+
+        pub line_no_single : one_byte k ≡ None → scanned i at (drop at s) ≡ None
+        line_no_single e =
+            line_is ∙ rw (single_none k e, behind_nothing (node_of 0) s q z no_kind)
+
+        module _ {c : ℕ} (w : one_byte k ≡ Some c) where
+          pub line_no_node : behind (node_of c) s q z ≡ None → scanned i at (drop at s) ≡ None
+          line_no_node e = line_is ∙ rw (single_some k c w, e)
+
+          pub line_good : {b : ℕ} {node : Node} {next : ℕ} → below no_account (account a) ≡ Some b → behind (node_of c) s q z ≡ Some (node, next)
+              → scanned i at (drop at s) ≡ Some (record { account = b; node = node }, next)
+          line_good {b = b} {node = node} {next = next} v e =
+              let (x, y) = below_some no_account (account a) b v in
+              line_is ∙ rw (single_some k c w, e, x, le-leb b account_limit (omega arith))

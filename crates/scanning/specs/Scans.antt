@@ -1,6 +1,5 @@
 -- The first line of a text, read field by field: what each scanning function answers.
-use Rattle.std.specs.Prelude.{Bool, true, false, cond, List, [], ◌∷◌, ℕ, suc, ◌+◌, eqb, None, Some, Option}
-use Rattle.syntax.specs.declared.Node.{Node}
+use Rattle.std.specs.Prelude.{Bool, true, false, cond, List, [], ◌∷◌, ℕ, suc, ◌+◌, eqb, drop, None, Some, Option}
 use Rattle.syntax.specs.declared.Line.{Line}
 use Rattle.fields.specs.Text.{byte_front, account, node_of, with_account, line_of}
 
@@ -17,18 +16,18 @@ unfoldable pub first_size : List ℕ → ℕ
 first_size [] = 0
 first_size (b ∷ bs) = cond (eqb b 10) 0 (suc (first_size bs))
 
-abbrev pub finished : ℕ → Option Node → ℕ → Option (Line × ℕ)
-finished a None next = None
-finished a (Some n) next = Some (record { account = a; node = n }, next)
-
--- the line with the position behind it
-abbrev pub scan_of : Option Line → ℕ → Option (Line × ℕ)
+-- what is read with the position behind its line
+abbrev pub scan_of : {A : Type 0} → Option A → ℕ → Option (A × ℕ)
 scan_of None next = None
 scan_of (Some x) next = Some (x, next)
 
 -- the scan of a line that begins at `at`, w being the text from there on, by what its fields say
-unfoldable pub scan_by : (List (List ℕ) → Option Line) → (at : ℕ) → List ℕ → Option (Line × ℕ)
+unfoldable pub scan_by : {A : Type 0} → (List (List ℕ) → Option A) → (at : ℕ) → List ℕ → Option (A × ℕ)
 scan_by says at w = cond (first_closed w) (scan_of (says (first_fields w)) (at + suc (first_size w))) None
+
+-- the scan of what stands behind a field: nothing where it is its line's last
+unfoldable pub behind : {A : Type 0} → (List (List ℕ) → Option A) → (text : List ℕ) → (last : Bool) → (next : ℕ) → Option (A × ℕ)
+behind says s last next = cond last (scan_of (says []) next) (scan_by says next (drop next s))
 
 unfoldable pub parts_say : (account kind : ℕ) → List (List ℕ) → Option Line
 parts_say a k fs = with_account a (node_of k fs)
@@ -36,12 +35,6 @@ parts_say a k fs = with_account a (node_of k fs)
 unfoldable pub account_says : (kind : ℕ) → List (List ℕ) → Option Line
 account_says k [] = None
 account_says k (a ∷ more) = parts_say (account a) k more
-
-abbrev pub parts_scanned : (account kind at : ℕ) → List ℕ → Option (Line × ℕ)
-parts_scanned a k at w = scan_by (parts_say a k) at w
-
-abbrev pub account_scanned : (kind at : ℕ) → List ℕ → Option (Line × ℕ)
-account_scanned k at w = scan_by (account_says k) at w
 
 abbrev pub scanned : (i at : ℕ) → List ℕ → Option (Line × ℕ)
 scanned i at w = scan_by (line_of i) at w

@@ -1,183 +1,128 @@
 // One line of a pattern text, read field by field. A line is refused as soon as a field decides it.
 #![tactic(auto)]
 
-ghost use Rattle.std.specs.Prelude.{◌≡◌, ◌≤◌, ◌<◌, length, drop};
+ghost use Rattle.std.specs.Prelude.{◌≡◌, ◌≤◌, ◌<◌, ◌⊎◌, length, drop, MatchOption, true, false};
 ghost use Rattle.syntax.specs.Letter.{is_letter};
-ghost use Rattle.syntax.specs.Table.{account_limit};
-ghost use Rattle.fields.specs.Text.{place, node_of_none, star_of, node_of_one, range_of, node_of_two};
-ghost use Rattle.fields.specs.Fields.{word};
-ghost use Rattle.scanning.specs.Scans.{finished, parts_scanned, account_scanned, scanned};
+ghost use Rattle.fields.specs.Text.{single, when, node_of_none, node_of_one, range_of, node_of_two, node_of};
+ghost use Rattle.fields.specs.Fields.{FieldAt, field_size};
+ghost use Rattle.scanning.specs.Scans.{behind, scanned};
 
-use fields::{Field, NEWLINE, NO_PLACE, TAB, account_from, field_from, place_of, single_of};
-use syntax::{Leaf, Line, Node, Pattern, is_letter};
+use fields::{Field, account_of, field_from, place_of, single_of};
+use syntax::{Leaf, Line, Node, is_letter};
 
-// The kinds of nodes, as a text writes them.
-const NOTHING: u16 = b'E' as u16;
-
-const LETTER: u16 = b'L' as u16;
-
-const RANGE: u16 = b'R' as u16;
-
-const SEQUENCE: u16 = b'S' as u16;
-
-const ALTERNATIVE: u16 = b'A' as u16;
-
-const STAR: u16 = b'K' as u16;
-
-const LAZY_STAR: u16 = b'Z' as u16;
-
-// Whether what a field holds is a letter.
-fn is_field_letter(b: u16) -> bool
-    ensures { result ≡ is_letter b }
+// The letter that a field holds.
+#[tactic(auto, using(crate::specs::Parsing::letter_none, crate::specs::Parsing::letter_some))]
+fn letter_of(field: &[u8]) -> Option<u8>
+    ensures { result ≡ when (is_letter (single field.now)) (single field.now) }
 {
-    if 255 < b {
-        return false;
-    }
-    is_letter(b as u8)
+    let c = single_of(field)?;
+    is_letter(c).then_some(c)
 }
 
-fn parse_none(kind: u16) -> Option<Node>
+// The node of a kind that needs no field.
+#[tactic(auto, unfolding(fields::specs::Text::node_of_none))]
+fn parse_none(kind: u8) -> Option<Node>
     ensures { result ≡ node_of_none kind }
 {
-    if kind == NOTHING {
-        return Some(Node::Leaf(Leaf::Nothing));
+    match kind {
+        b'E' => Some(Node::Leaf(Leaf::Nothing)),
+        _ => None,
     }
-    None
 }
 
-// A star that takes another round for the bit `again`, and its part.
-fn parse_star(again: bool, x: Field) -> Option<Node>
-    ensures { result ≡ star_of again (place (word x)) }
+// The node of a kind and the one field that it needs: a letter, or a star of either kind, which takes another round for the bit that it has.
+#[tactic(auto, unfolding(fields::specs::Text::node_of_one))]
+fn parse_one(kind: u8, x: &[u8]) -> Option<Node>
+    ensures { result ≡ node_of_one kind x.now }
 {
-    let p = place_of(x);
-    if p < NO_PLACE {
-        return Some(Node::Star(again, p as u8));
+    match kind {
+        b'L' => Some(Node::Leaf(Leaf::Letter(letter_of(x)?))),
+        b'K' => Some(Node::Star(false, place_of(x)?)),
+        b'Z' => Some(Node::Star(true, place_of(x)?)),
+        _ => None,
     }
-    None
 }
 
-fn parse_one(kind: u16, x: Field) -> Option<Node>
-    ensures { result ≡ node_of_one kind (word x) }
+// The range of two fields, the first letter not above the second.
+#[tactic(auto, unfolding(fields::specs::Text::range_of))]
+fn parse_range(x: &[u8], y: &[u8]) -> Option<Node>
+    ensures { result ≡ range_of (single x.now) (single y.now) }
 {
-    if kind == LETTER {
-        let c = single_of(x);
-        if is_field_letter(c) {
-            return Some(Node::Leaf(Leaf::Letter(c as u8)));
-        }
-        return None;
-    }
-    if kind == STAR {
-        return parse_star(false, x);
-    }
-    if kind == LAZY_STAR {
-        return parse_star(true, x);
-    }
-    None
-}
-
-fn parse_range(a: u16, b: u16) -> Option<Node>
-    ensures { result ≡ range_of a b }
-{
-    if !is_field_letter(a) {
-        return None;
-    }
-    if !is_field_letter(b) {
-        return None;
-    }
+    let a = letter_of(x)?;
+    let b = letter_of(y)?;
     if a <= b {
-        return Some(Node::Leaf(Leaf::Range(a as u8, b as u8)));
+        Some(Node::Leaf(Leaf::Range(a, b)))
+    } else {
+        None
+    }
+}
+
+// The node of a kind and the two fields that it needs: a range, a sequence or a choice.
+#[tactic(auto, unfolding(fields::specs::Text::node_of_two, fields::specs::Text::parts_of))]
+fn parse_two(kind: u8, x: &[u8], y: &[u8]) -> Option<Node>
+    ensures { result ≡ node_of_two kind x.now y.now }
+{
+    match kind {
+        b'R' => parse_range(x, y),
+        b'S' => Some(Node::Sequence(place_of(x)?, place_of(y)?)),
+        b'A' => Some(Node::Alternative(place_of(x)?, place_of(y)?)),
+        _ => None,
+    }
+}
+
+// The field behind another, none where that is its line's last.
+fn field_behind<'a>(text: &'a [u8], field: Field) -> Option<Field<'a>>
+    requires { field.next ≤ length text.now }
+    ensures { MatchOption result
+        ((field.entry.last ≡ true) ⊎ (field_size (drop field.entry.next text.now) ≡ None))
+        (λ f. (field.entry.last ≡ false) × FieldAt text.now field.entry.next f.bytes.now f.last f.next) }
+{
+    if field.last {
+        None
+    } else {
+        field_from(text, field.next)
+    }
+}
+
+// The node that a kind and the fields behind the account's write, with the position behind the line.
+#[tactic(auto, using(fields::specs::Fields::next_inside, crate::specs::Scanning::node_alone, crate::specs::Scanning::node_no_field, crate::specs::Scanning::node_no_second_field, crate::specs::Scanning::node_more))]
+fn scan_node(text: &[u8], kind: u8, account: Field) -> Option<(Node, usize)>
+    requires { account.next ≤ length text.now }
+    ensures { result ≡ behind (node_of kind) text.now account.entry.last account.entry.next }
+{
+    if account.last {
+        return Some((parse_none(kind)?, account.next));
+    }
+    let x = field_from(text, account.next)?;
+    if x.last {
+        return Some((parse_one(kind, x.bytes)?, x.next));
+    }
+    let y = field_from(text, x.next)?;
+    if y.last {
+        return Some((parse_two(kind, x.bytes, y.bytes)?, y.next));
     }
     None
 }
 
-fn parse_two(kind: u16, x: Field, y: Field) -> Option<Node>
-    ensures { result ≡ node_of_two kind (word x) (word y) }
-{
-    if kind == RANGE {
-        return parse_range(single_of(x), single_of(y));
-    }
-    let p = place_of(x);
-    let q = place_of(y);
-    if NO_PLACE <= p {
-        return None;
-    }
-    if NO_PLACE <= q {
-        return None;
-    }
-    if kind == SEQUENCE {
-        return Some(Node::Sequence(p as u8, q as u8));
-    }
-    if kind == ALTERNATIVE {
-        return Some(Node::Alternative(p as u8, q as u8));
-    }
-    None
-}
-
-fn finish(account: u8, what: Option<Node>, next: usize) -> Option<(Line, usize)>
-    ensures { result ≡ finished account what next }
-{
-    match what {
-        Some(node) => Some((Line { account, node }, next)),
-        None => None,
-    }
-}
-
-// The fields from position `at` on are those that the kind needs.
-fn scan_parts(text: &[u8], at: usize, kind: u16, account: u8) -> Option<(Line, usize)>
-    requires { (at ≤ length text.now) × (account ≤ account_limit) }
-    ensures { result ≡ parts_scanned account kind at (drop at text.now) }
-{
-    let x = field_from(text, at);
-    let end = at + x.size;
-    if x.stop == NEWLINE {
-        return finish(account, parse_one(kind, x), end + 1);
-    }
-    if x.stop != TAB {
-        return None;
-    }
-    let y = field_from(text, end + 1);
-    if y.stop != NEWLINE {
-        return None;
-    }
-    finish(account, parse_two(kind, x, y), end + 1 + y.size + 1)
-}
-
-// The field at position `at` is the account's.
-fn scan_account(text: &[u8], at: usize, kind: u16) -> Option<(Line, usize)>
-    requires { at ≤ length text.now }
-    ensures { result ≡ account_scanned kind at (drop at text.now) }
-{
-    let a = account_from(text, at);
-    let account = a.account;
-    if Pattern::MAX_ACCOUNT < account {
-        return None;
-    }
-    let end = at + a.size;
-    if a.stop == NEWLINE {
-        return finish(account, parse_none(kind), end + 1);
-    }
-    if a.stop != TAB {
-        return None;
-    }
-    scan_parts(text, end + 1, kind, account)
-}
-
-// Line i of the text, which begins at position `at`, with the position behind it, none where the line's form is at fault.
+// Line i of the text, which begins at position `at`, with the position behind it. None where the line's form is at fault.
+#[tactic(auto, using(fields::specs::Fields::next_inside, fields::specs::Fields::below_none, fields::specs::Fields::below_some, crate::specs::Scanning::line_no_field, crate::specs::Scanning::line_misplaced, crate::specs::Scanning::line_good))]
 pub fn scan_line(text: &[u8], at: usize, i: usize) -> Option<(Line, usize)>
     requires { (at ≤ length text.now) × (i < 64) }
     ensures { result ≡ scanned i at (drop at text.now) }
 {
-    let p = field_from(text, at);
-    if p.stop != TAB {
+    let place = field_from(text, at)?;
+    if usize::from(place_of(place.bytes)?) != i {
         return None;
     }
-    if place_of(p) as usize != i {
-        return None;
-    }
-    let end = at + p.size;
-    let k = field_from(text, end + 1);
-    if k.stop != TAB {
-        return None;
-    }
-    scan_account(text, end + 1 + k.size + 1, single_of(k))
+    let kind = field_behind(text, place)?;
+    let account = field_behind(text, kind)?;
+    let number = account_of(account.bytes)?;
+    let (node, next) = scan_node(text, single_of(kind.bytes)?, account)?;
+    Some((
+        Line {
+            account: number,
+            node,
+        },
+        next,
+    ))
 }

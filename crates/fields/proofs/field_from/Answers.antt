@@ -1,21 +1,28 @@
--- `fields::field_from` meets its contract.
-use mathlib.Core.Path.{sym, ◌∙◌}
-use Rattle.fields.specs.Fields.{field-empty, field_one, field_two, field_long}
+use Rattle.std.proofs.Common.{◌≡◌, ◌≤◌, ◌+◌, sym, ap, ◌∙◌, arith, Some, length, take, drop, get_or, length-take-le, length-drop}
+use Rattle.std.proofs.lemmas.List.{take_rest}
+use Rattle.fields.specs.Fields.{field_size, size_inside, field_found}
 use Rattle.fields.proofs.field_from.Goals as goal
+use Rattle.fields.proofs.field_from.Goals.{In_ok-size}
 
-pub returns-then-ends : goal.returns-then-ends
-returns-then-ends c = field-empty c.args.text.now _ c.peek-a.ensures (sym c.ends.ensures ∙ c.if-ends.true)
+-- the size that is found, told of the text
+size : (c : In_ok-size) → field_size (drop c.args.at c.args.text.now) ≡ Some c.in_ok-size.size
+size c = rw take_rest at (sym c.size_of_field.ensures ∙ c.in_ok-size.was)
 
-pub returns-then-ends-2 : goal.returns-then-ends-2
-returns-then-ends-2 c = field_one c.args.text.now _ c.peek-a.ensures
-    (sym c.ends.ensures ∙ c.if-ends.false) c.peek-b.ensures (sym c.ends-2.ensures ∙ c.if-ends-2.true)
+inside : (c : In_ok-size) → c.in_ok-size.size + 1 ≤ length (drop c.args.at c.args.text.now)
+inside c = size_inside (drop c.args.at c.args.text.now) c.in_ok-size.size (size c)
 
-pub returns-then-ends-3 : goal.returns-then-ends-3
-returns-then-ends-3 c = field_two c.args.text.now _ c.peek-a.ensures (sym c.ends.ensures ∙ c.if-ends.false)
-    c.peek-b.ensures (sym c.ends-2.ensures ∙ c.if-ends-2.false) c.peek-c.ensures
-    (sym c.ends-3.ensures ∙ c.if-ends-3.true)
+pub slice_bounds-result-end : goal.slice_bounds-result-end
+slice_bounds-result-end c = rw take_rest (sym (length-take-le c.in_ok-size.size (drop c.args.at c.args.text.now) (omega (arith, inside c))))
+
+pub bounds-rest-size : goal.bounds-rest-size
+bounds-rest-size c = rw take_rest (omega (arith, inside (goal.at.bounds-rest-size c).In_ok-size))
+
+pub overflow_add-result : goal.overflow_add-result
+overflow_add-result c = omega (arith, inside (goal.at.overflow_add-result c).In_ok-size, length-drop c.args.at c.args.text.now)
+
+pub overflow_add-result-2 : goal.overflow_add-result-2
+overflow_add-result-2 c = omega (arith, inside (goal.at.overflow_add-result-2 c).In_ok-size, length-drop c.args.at c.args.text.now)
 
 pub returns : goal.returns
-returns c = field_long c.args.text.now _ c.peek-a.ensures (sym c.ends.ensures ∙ c.if-ends.false)
-    c.peek-b.ensures (sym c.ends-2.ensures ∙ c.if-ends-2.false) c.peek-c.ensures
-    (sym c.ends-3.ensures ∙ c.if-ends-3.false)
+returns c = rw take_rest
+    (field_found c.args.text.now c.args.at _ (size (goal.at.returns c).In_ok-size))
