@@ -1,11 +1,10 @@
 -- Laws of the account that a field writes, and of the way it is read: digit by digit. No law here cites a case of AccountCases; naming the file
 -- has its cases checked first.
-use Rattle.std.specs.Prelude.{◌≡◌, refl, Bool, true, false, ◌&&◌, cond, List, [], ◌∷◌, ℕ, ◌+◌, ◌*◌, ◌-◌, ◌≤◌, ◌<◌, ltb, leb, length, get_or, drop, Option, None, Some, option_and_then}
-use Rattle.std.proofs.Common.{sym, ◌∙◌, arith}
+use Rattle.std.specs.Prelude.{◌≡◌, refl, Bool, true, false, ◌&&◌, cond, List, [], ◌∷◌, ℕ, ◌+◌, ◌*◌, ◌-◌, ◌≤◌, ◌<◌, ltb, leb, length, get_or, None, Some, option_and_then}
+use Rattle.std.proofs.Common.{◌∙◌, arith}
 use borrow.Author.Tests.{eq-eqb, ne_eqb, lt-ltb, le-leb, lt-leb, leb-true, leb-false}
 use Rattle.syntax.specs.Table.{account_limit}
 use Rattle.fields.specs.Text.{digit, all_digits, decimal, no_account, account_number, account, when}
-use Rattle.fields.specs.AccountCases as cases
 use Rattle.fields.specs.Fields.{below, longer, number}
 
 pub digit_is : (b : ℕ) → 48 ≤ b → b ≤ 57 → digit b ≡ b - 48

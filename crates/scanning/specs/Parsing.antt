@@ -1,5 +1,5 @@
 -- Laws of parsing: the letter that a field holds.
-use Rattle.std.specs.Prelude.{◌≡◌, refl, List, ℕ, None, Some}
+use Rattle.std.specs.Prelude.{◌≡◌, List, ℕ, None, Some}
 use Rattle.syntax.specs.Letter.{is_letter}
 use Rattle.fields.specs.Text.{single, when}
 use Rattle.fields.specs.Fields.{one_byte, single_none, single_some}

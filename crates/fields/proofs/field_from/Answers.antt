@@ -1,4 +1,4 @@
-use Rattle.std.proofs.Common.{◌≡◌, ◌≤◌, ◌+◌, sym, ap, ◌∙◌, arith, Some, length, take, drop, get_or, length-take-le, length-drop}
+use Rattle.std.proofs.Common.{◌≡◌, ◌≤◌, ◌+◌, sym, ◌∙◌, arith, Some, length, drop, length-take-le, length-drop}
 use Rattle.std.proofs.lemmas.List.{take_rest}
 use Rattle.fields.specs.Fields.{field_size, size_inside, field_found}
 use Rattle.fields.proofs.field_from.Goals as goal
