@@ -1,7 +1,7 @@
 -- THE FILL: what is asked of a caller, that a sweep which counts from the tape's start writes the words in order, and that the masks which the
 -- fill makes are those of the pattern.
 use Rattle.std.specs.Prelude.{◌≡◌, refl, true, false, List, [], ◌∷◌, ◌++◌, ℕ, zero, suc, ◌+◌, ◌*◌, ◌≤◌, ◌<◌, get_or, set}
-use Rattle.std.proofs.Common.{sym, ap₂, subst, ◌∙◌, add-one, add-zero, arith, drop-set-lt}
+use Rattle.std.proofs.Common.{ap₂, subst, ◌∙◌, add-one, add-zero, arith}
 use Rattle.std.proofs.Math.Path.{ap}
 use Rattle.std.proofs.Math.ListN.{length, drop}
 use Rattle.syntax.specs.declared.Pattern.{Pattern}
@@ -15,7 +15,6 @@ use Rattle.semantics.specs.Sweeps.{at_end}
 use Rattle.table.specs.Cells.{Holds}
 use Rattle.masks.specs.Leaves.{letter_cells, letter_cell}
 use Rattle.masks.specs.Masks.{MasksOf}
-use Rattle.first_sweep.specs.declared.Start.{Start}
 use Rattle.first_sweep.specs.Sweep.{stored_step, next_of, put_at, PutsWords, puts_length, Sweepable, laid, laid-length, Sweeps}
 use Rattle.first_sweep.specs.SweepWords.{first_one, sweep_of, sweep_length, AllLetters, sweep_words}
 

@@ -8,14 +8,12 @@ use Rattle.syntax.specs.Trees.{root}
 use Rattle.syntax.specs.TreeLaws.{Rules}
 use Rattle.semantics.specs.Sweeps.{at_end}
 use Rattle.table.specs.Cells.{Holds}
-use Rattle.masks.specs.Leaves.{entry}
 use Rattle.masks.specs.Masks.{MasksOf}
-use Rattle.steps.specs.declared.Words.{Words}
 use Rattle.steps.specs.StateSets.{state_set}
-use Rattle.steps.specs.Steps.{stepped, stepped-right, step_of, step-stepped}
+use Rattle.steps.specs.Steps.{stepped, stepped-right, step-stepped}
 use Rattle.first_sweep.specs.Sweep.{Step, stored_step, next_of, put, end_append}
 use Rattle.first_sweep.specs.SweepWords.{AllLetters}
-use Rattle.first_sweep.specs.Tail.{two_words, tail_words}
+use Rattle.first_sweep.specs.Tail.{tail_words}
 
 -- the words of a page's letters, those of its last letter first
 abbrev pub grown_by : Step → (next : ℕ) → (last : Bool) → (page : List ℕ) → List ℕ

@@ -1,7 +1,6 @@
 -- Writing the words of a page: what is asked of a caller, and that a sweep which counts from the tape's end writes them.
-use Rattle.std.specs.Prelude.{◌≡◌, refl, Bool, true, false, List, [], ◌∷◌, ◌++◌, ℕ, suc, ◌+◌, ◌-◌, ◌*◌, ◌≤◌, ◌<◌, eqb, length, get_or, drop, set}
-use Rattle.std.proofs.Common.{sym, ap, ap₂, subst, ◌∙◌, add-one, add-zero, arith, length-drop, length-set, drop-cons}
-use Rattle.std.proofs.Math.Seq.{drop-length, length-sets}
+use Rattle.std.specs.Prelude.{◌≡◌, refl, Bool, true, false, List, [], ◌∷◌, ◌++◌, ℕ, suc, ◌+◌, ◌-◌, ◌*◌, ◌≤◌, ◌<◌, eqb, length, get_or, set}
+use Rattle.std.proofs.Common.{sym, ap, ap₂, ◌∙◌, add-one, add-zero, arith}
 use Rattle.std.proofs.lemmas.List.Edits.{sets}
 use Rattle.syntax.specs.declared.Pattern.{Pattern}
 use Rattle.syntax.specs.Letter.{is_letter, letter_limit}
@@ -11,14 +10,12 @@ use Rattle.bits.specs.Bits.{in_front}
 use Rattle.semantics.specs.Sweeps.{at_end}
 use Rattle.table.specs.Cells.{line_in, tree_in, Holds}
 use Rattle.table.specs.CellLaws.{holds_tree}
-use Rattle.masks.specs.Leaves.{letter_cells, entry}
 use Rattle.masks.specs.Closure.{end_mask}
 use Rattle.masks.specs.Masks.{LeafMasks, MasksOf}
 use Rattle.steps.specs.declared.Words.{Words}
 use Rattle.steps.specs.StateSets.{state_set}
-use Rattle.steps.specs.Steps.{state_end, step_of}
+use Rattle.steps.specs.Steps.{state_end}
 use Rattle.first_sweep.specs.Fill.{small_letters, all_letters}
-use Rattle.first_sweep.specs.declared.Start.{Start}
 use Rattle.first_sweep.specs.Sweep.{Step, stored_step, next_of, put, put_at, PutsWords, Sweepable, laid, Sweeps}
 use Rattle.first_sweep.specs.Tail.{tail_words}
 use Rattle.first_sweep.specs.Grow.{grown_by, grown, grown-length, grown-stored}

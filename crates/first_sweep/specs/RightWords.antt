@@ -1,6 +1,6 @@
 -- WORDS THAT ARE RIGHT STAY SO. 02, Job 6: "If before a call the marks are those of the joined letters under its table, they are so after it".
 -- One law for each way in which the letters held change: none are held, a page is put before them, the last page put is withdrawn.
-use Rattle.std.specs.Prelude.{◌≡◌, refl, Bool, true, List, [], ◌∷◌, ◌++◌, ℕ, suc, ◌+◌, ◌-◌, ◌*◌, ◌≤◌, eqb, length, get_or, take, drop}
+use Rattle.std.specs.Prelude.{◌≡◌, refl, true, List, [], ◌∷◌, ◌++◌, ℕ, suc, ◌+◌, ◌-◌, ◌*◌, ◌≤◌, eqb, length, get_or, take, drop}
 use Rattle.std.proofs.Common.{sym, ap₂, ◌∙◌, arith, ne_eqb, length-append, length-take-le, take_at, take-take, get_or-take}
 use Rattle.std.proofs.Math.Path.{ap}
 use Rattle.std.proofs.lemmas.List.Edits.{sets, sets-eq}

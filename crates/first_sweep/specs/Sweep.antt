@@ -1,7 +1,7 @@
 -- THE FIRST SWEEP over masks as they are stored: the two words of each letter, from the last letter to the first, into the cells of its position.
 -- A fill counts positions from the tape's start, a page desk from the tape's end; all else is the same.
-use Rattle.std.specs.Prelude.{◌≡◌, refl, Bool, true, false, cond, List, [], ◌∷◌, ◌++◌, ℕ, zero, suc, ◌+◌, ◌-◌, ◌*◌, ◌≤◌, ◌<◌, length, get_or, take, drop, set}
-use Rattle.std.proofs.Common.{sym, ap, ap₂, subst, ◌∙◌, add-zero, arith, length-set, take-append-drop, drop-cons, length-take-le, get_or-take}
+use Rattle.std.specs.Prelude.{◌≡◌, refl, Bool, true, false, cond, List, [], ◌∷◌, ◌++◌, ℕ, zero, suc, ◌+◌, ◌-◌, ◌*◌, ◌≤◌, ◌<◌, length, get_or, drop, set}
+use Rattle.std.proofs.Common.{sym, ap, ap₂, ◌∙◌, arith, length-set, drop-cons}
 use Rattle.std.proofs.Math.Seq.{drop-length}
 use Rattle.syntax.specs.Letter.{letter_limit}
 use Rattle.semantics.specs.Sweeps.{at_end}
@@ -49,18 +49,6 @@ pub record Sweepable (letters : List ℕ) (count : ℕ) (words : List ℕ) : Typ
   pub small : (i : ℕ) → i < length letters → get_or letters i 0 < letter_cells
   pub room : 2 * (count + 1) ≤ length words
 
--- the letters up to some position
-pub sweepable_front : (letters : List ℕ) (count : ℕ) (words words_now : List ℕ) (i : ℕ) → i ≤ length letters → length words_now ≡ length words
-    → Sweepable letters count words → Sweepable (take i letters) count words_now
-sweepable_front letters count words now i h e s =
-    let k : length (take i letters) ≡ i = length-take-le i letters h in
-    record {
-      inside = omega (arith, s.inside);
-      few = s.few;
-      small = λ j l. subst (λ c. c < letter_cells) (sym (get_or-take i letters j 0 (omega arith))) (s.small j (omega arith));
-      room = omega (arith, s.room);
-    }
-
 -- a position's cells lie in the buffer
 cell_room : (letters : List ℕ) (count : ℕ) (words : List ℕ) (turned : Bool) (i : ℕ) → Sweepable letters count words
     → i < length letters → cell_at count turned i + 1 < length words
@@ -82,20 +70,6 @@ module _ (f : Step) (count : ℕ) (turned : Bool) where
   laid-length next last i [] old = refl
   laid-length next last i (c ∷ w) old = simp length-set (laid-length next last (suc i) w old)
 
-  -- ---- letters in two parts: first those of the second part, then, from the word of its first letter, those of the first
-  next_append : (next : ℕ) (last : Bool) (u v : List ℕ) → next_of f next last (u ++ v) ≡ next_of f (next_of f next last v) (at_end last v) u
-  next_append next last [] v = refl
-  next_append next last (c ∷ u) v = ap₂ (λ x y. (f c x y).one) (next_append next last u v) (end_append last u v)
-
-  laid-append : (next : ℕ) (last : Bool) (i : ℕ) (u v old : List ℕ)
-      → laid next last i (u ++ v) old ≡ laid (next_of f next last v) (at_end last v) i u (laid next last (i + length u) v old)
-  laid-append next last i [] v old = ap (λ k. laid next last k v old) (sym (add-zero i))
-  laid-append next last i (c ∷ u) v old =
-      let e : suc i + length u ≡ i + suc (length u) = omega arith in
-      ap₂ (λ r ws. put_at r (cell_at count turned i) ws) (ap₂ (f c) (next_append next last u v) (end_append last u v))
-      (laid-append next last (suc i) u v old
-      ∙ ap (λ k. laid (next_of f next last v) (at_end last v) (suc i) u (laid next last k v old)) e)
-
   module _ (first : ℕ) (final : Bool) (letters old : List ℕ) where
     -- on the way, at position i: the words from there on are laid
     pub record Sweeping (i next : ℕ) (last : Bool) (words : List ℕ) : Type 0 where
@@ -111,11 +85,6 @@ module _ (f : Step) (count : ℕ) (turned : Bool) where
 
     pub sweeping_same : (i next : ℕ) (last : Bool) (words : List ℕ) → Sweeping i next last words → length words ≡ length old
     sweeping_same i next last words g = ap length g.wrote ∙ laid-length first final i (drop i letters) old
-
-    pub sweeping_room : (i next at : ℕ) (last : Bool) (words : List ℕ) → Sweepable letters count old → 0 < i → Sweeping i next last words
-        → at ≡ cell_at count turned (i - 1) → at + 1 < length words
-    sweeping_room i next at last words s h g a =
-        omega (arith, cell_room letters count old turned (i - 1) s (omega (arith, g.inside)), sweeping_same i next last words g)
 
     -- counting down; z and o are what is written
     pub sweeping_down : (i next c at : ℕ) (last : Bool) (words now : List ℕ) (r : Words) (z o : ℕ) → 0 < i → Sweeping i next last words
@@ -136,15 +105,6 @@ module _ (f : Step) (count : ℕ) (turned : Bool) where
           ahead = rw d (ap (λ x. x.one) from);
           ends = rw d refl;
         }
-
-    -- what is left is laid from here
-    pub sweeping_rest : (i next : ℕ) (last : Bool) (words now : List ℕ) → Sweeping i next last words
-        → now ≡ laid next last 0 (take i letters) words → now ≡ laid first final 0 letters old
-    sweeping_rest i next last words now g e =
-        let k : i ≡ 0 + length (take i letters) = omega (arith, length-take-le i letters g.inside) in
-        e ∙ ap (λ ws. laid next last 0 (take i letters) ws) (g.wrote ∙ ap (λ j. laid first final j (drop i letters) old) k)
-        ∙ ap₂ (λ x y. laid x y 0 (take i letters) (laid first final (0 + length (take i letters)) (drop i letters) old)) g.ahead g.ends
-        ∙ sym (laid-append first final 0 (take i letters) (drop i letters) old) ∙ ap (λ w. laid first final 0 w old) (take-append-drop i letters)
 
 -- THE WORDS OF SOME LETTERS ARE LAID, from a start
 pub record Sweeps (f : Step) (s : Start) (letters words words_now : List ℕ) : Type 0 where

@@ -17,7 +17,8 @@ ghost use Rattle.first_sweep.specs.Growing.{Growable};
 
 use masks::scatter::put_takers;
 use masks::{LETTER_CELLS, put_masks};
-use steps::{COLUMNS, PAIR_CELLS, WAY_CELLS, column_of, goes_on, known, learn, step};
+use steps::memory::Memo;
+use steps::step;
 use syntax::Pattern;
 
 // How many steps of a fill are noted at most, and how many of a page. Tapes of readings need fewer; a tape with more new steps would pay more for
@@ -44,10 +45,7 @@ fn cell_of(count: usize, turned: bool, i: usize) -> usize
     requires { (i ≤ count) × (count ≤ letter_limit) }
     ensures { result ≡ cell_at count turned i }
 {
-    if turned {
-        return 2 * (count - i);
-    }
-    2 * i
+    if turned { 2 * (count - i) } else { 2 * i }
 }
 
 // The two words of a position, that of flag 0 first.
@@ -59,37 +57,8 @@ fn put_words(words: &mut [u64], at: usize, zero: u64, one: u64)
     words[at + 1] = one;
 }
 
-// The state sets of some letters, over the masks of a pattern, from the last letter to the first.
-fn sweep_on(
-    zero: &[u64; 64],
-    one: &[u64; 64],
-    table: &[u64; 64],
-    takers: &[u64; LETTER_CELLS],
-    letters: &[u8],
-    start: Start,
-    words: &mut [u64],
-)
-    requires { Sweepable letters.now start.count words.old }
-    ensures { Sweeps (stored_step zero.now one.now table.now takers.now) start
-        letters.now words.old words.new }
-{
-    let count = start.count;
-    let turned = start.turned;
-    let mut next = start.next;
-    let mut last = start.last;
-    let mut i = letters.len();
-    while 0 < i {
-        i -= 1;
-        let c = letters[i] as usize;
-        let r = step(zero, one, table, takers[c], next, last);
-        put_words(words, cell_of(count, turned, i), r.zero, r.one);
-        next = r.one;
-        last = false;
-    }
-}
-
-// The same, by noted steps as long as pairs are numbered. Tapes and pages share this loop. The cell of a position is computed for each letter, and
-// that cannot be seen in the time of either (measured).
+// The state sets of some letters, over the masks of a pattern, from the last letter to the first, by noted steps as long as pairs are numbered. Tapes
+// and pages share this loop. The cell of a position is computed for each letter, and that cannot be seen in the time of either (measured).
 fn sweep(
     zero: &[u64; 64],
     one: &[u64; 64],
@@ -103,43 +72,27 @@ fn sweep(
     ensures { Sweeps (stored_step zero.now one.now table.now takers.now) start
         letters.now words.old words.new }
 {
-    let count = start.count;
-    let turned = start.turned;
-    let notes = start.notes;
-    let mut owners = [0u64; COLUMNS];
-    let mut pairs = [0u64; PAIR_CELLS];
-    let mut ways = [0u8; WAY_CELLS];
+    let mut memo = Memo::new(start.notes);
     let mut next = start.next;
     let mut last = start.last;
-    let mut pair = 0;
-    let mut i = letters.len();
-    while goes_on(i, pair) {
-        i -= 1;
-        let c = letters[i] as usize;
-        let k = takers[c];
-        let at = cell_of(count, turned, i);
-        let n = known(&owners, &ways, k, column_of(k), pair);
-        if n != 0 {
-            next = pairs[2 * n + 1];
-            put_words(words, at, pairs[2 * n], next);
-            last = false;
-            pair = n;
-            continue;
-        }
-        let r = step(zero, one, table, k, next, last);
-        pair = learn(&mut owners, &mut pairs, &mut ways, k, pair, notes, r);
-        put_words(words, at, r.zero, r.one);
-        next = r.one;
+    let mut pair = None;
+    for i in (0..letters.len()).rev() {
+        let k = takers[letters[i] as usize];
+        let w = match memo.known(k, pair) {
+            Some(n) => {
+                pair = Some(n);
+                memo.pairs[n]
+            }
+            None => {
+                let w = step(zero, one, table, k, next, last);
+                pair = memo.learn(k, pair, w);
+                w
+            }
+        };
+        put_words(words, cell_of(start.count, start.turned, i), w.zero, w.one);
+        next = w.one;
         last = false;
     }
-    let rest = Start {
-        next: next,
-        last: last,
-        count: count,
-        turned: turned,
-        notes: notes,
-    };
-    sweep_on(zero, one, table, takers, &letters[..i], rest, words);
 }
 
 // THE FIRST SWEEP: fills words 2i and 2i + 1 with the state sets of position i, flag 0 and flag 1, for each position of the tape, its end
