@@ -22,6 +22,14 @@ pub fn canonicalize(
     ensures { Canonicalizes p code.now count tape.old tape.new
         words.old words.new canonical.old canonical.new result }
 {
-    let n = flatten(p, code, count, tape)? as usize;
-    parse(p, &tape[..n], words, canonical)
+    // Kept: the scope has each stage's answer taken apart by `let .. else`, which passes its refusal on.
+    let flattened = flatten(p, code, count, tape);
+    let Ok(n) = flattened else {
+        return flattened;
+    };
+    let parsed = parse(p, &tape[..n as usize], words, canonical);
+    let Ok(bits) = parsed else {
+        return parsed;
+    };
+    Ok(bits)
 }
