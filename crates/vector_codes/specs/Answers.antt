@@ -1,37 +1,18 @@
--- Parts of a case's line: what a service answers, in numbers, the piece of a visit, and the dates that a case hands over.
+-- Parts of a case's line: the totals of a code, the piece of a visit, and the dates that a case hands over.
 use Rattle.std.specs.Prelude.{◌≡◌, cond, List, [], ◌∷◌, ◌++◌, ℕ, ◌+◌, ◌-◌, ◌≤◌, ◌<◌, min, eqb, length, take, drop, get_or}
 use Rattle.std.proofs.Common.{sym, ap, ap₂, subst, ◌∙◌, arith}
 use Rattle.std.proofs.Math.Decide.{dec_le}
-use Rattle.refusals.specs.Refusals.{Answer}
 use Rattle.calendar.specs.declared.Date.{Date}
 use Rattle.calendar.specs.Dates.{date}
 use Rattle.std.proofs.Math.ListN.{get_or-eq_default}
 use Rattle.syntax.specs.Table.{one_digit_limit}
-use Rattle.text.specs.Text.{Puts, parted, field, pair}
-use Rattle.text.specs.Putting.{drop_next, drop_done}
-use Rattle.vector_text.specs.Cases.{part, bytes_digest, shown_text, left_text, number_of_text, before_byte, behind_byte}
+use Rattle.text.specs.Text.{Puts, field}
+use Rattle.vector_text.specs.Cases.{part, bytes_digest, shown_text, left_text, numbers_text, number_of_text, before_byte, behind_byte}
 use Rattle.vector_codes.specs.declared.code_cases.Lent.{Lent}
-
--- number and value, parted by a tab
-abbrev pub answer_text : Answer → List ℕ
-answer_text a = pair a.number a.value
 
 -- start and length of a piece, the length of what is returned, and its letters, each behind a tab
 abbrev pub piece_text : (start size : ℕ) → (piece : List ℕ) → List ℕ
 piece_text start size piece = field start ++ field size ++ field (length piece) ++ shown_text (length piece) piece
-
--- totals from account i on: a tab stands before the first number, commas before the others
-abbrev pub litres_text : (i : ℕ) → (litres : List ℕ) → List ℕ
-litres_text i [] = []
-litres_text i (n ∷ ns) = parted (cond (eqb i 0) 9 44) n ++ litres_text (i + 1) ns
-
-pub litres_turn : (i : ℕ) (xs : List ℕ) (by n : ℕ) → i < length xs → by ≡ cond (eqb i 0) 9 44 → n ≡ get_or xs i 0
-    → litres_text i (drop i xs) ≡ parted by n ++ litres_text (i + 1) (drop (i + 1) xs)
-litres_turn i xs by n h e f =
-    ap (litres_text i) (drop_next i xs h) ∙ ap₂ (λ b k. parted b k ++ litres_text (i + 1) (drop (i + 1) xs)) (sym e) (sym f)
-
-pub litres_over : (i : ℕ) (xs : List ℕ) → length xs ≤ i → litres_text i (drop i xs) ≡ []
-litres_over i xs h = ap (litres_text i) (drop_done i xs h)
 
 -- so many totals a line has at least: those of 01's accounts
 abbrev pub first_totals : ℕ
@@ -48,7 +29,7 @@ pub record Shown (litres : List ℕ) (n : ℕ) : Type 0 where
 pub record PutsTotals (litres out : List ℕ) (at : ℕ) (after : List ℕ) (r : ℕ) : Type 0 where
   pub n : ℕ
   pub shown : Shown litres n
-  pub puts : Puts out at (litres_text 0 (take n litres)) after r
+  pub puts : Puts out at (numbers_text 0 (take n litres)) after r
 
 -- from the end on, before it is known that the last is none
 pub record LeftOut (litres : List ℕ) (n : ℕ) : Type 0 where
@@ -106,7 +87,3 @@ date-made line {d = d} from-month from-day at-year year at-month month at-day da
     let m = month ∙ ap number_of_text (at-month ∙ ap (before_byte 32) from-month) in
     let e = day ∙ ap number_of_text (at-day ∙ ap (before_byte 32) (from-day ∙ ap (behind_byte 32) from-month)) in
     ap₂ (λ x z. date x z d) (year ∙ ap number_of_text at-year) m ∙ ap (date _ _) e
-
--- one law for every way of answering
-pub puts_answer : {out after : List ℕ} {r : ℕ} (a b : Answer) → b ≡ a → Puts out 0 (answer_text b) after r → Puts out 0 (answer_text a) after r
-puts_answer {out} {after} {r} a b e h = subst (λ x. Puts out 0 (answer_text x) after r) e h

@@ -2,44 +2,25 @@
 // pattern's text a case has the code's bytes in hexadecimal, and in decimal the code's bit count and nine numbers: year,
 // month and day of the tape's start, of the term's first date and of its last.
 ghost use Rattle.std.specs.Prelude.{◌≡◌};
-ghost use Rattle.terms.specs.Terms.{term_refused, term_outcome};
-ghost use Rattle.text.specs.Text.{Puts};
-ghost use Rattle.vector_codes.specs.Answers.{answer_text, date_read, behind_date};
+ghost use Rattle.vector_codes.specs.Answers.{date_read, behind_date};
 
 use crate::code_cases::put_totals;
 use calendar::Date;
 use std::io;
 use syntax::Pattern;
-use terms::{
-    Term, TermOutcome, TermRefusal, TermTotalled, term_number_of, term_totals, term_value_of,
-};
-use text::put_pair;
-use vector_text::{MAX_CODE, decode, field, number, print_line, rest, say_bad};
+use terms::{Term, TermRefusal, term_totals};
+use text::put_answer;
+use vector_text::{MAX_CODE, decode_all, field, number, print_line, rest, say_bad};
 
-// Number and value, from the start of `out`.
-fn put_cause(out: &mut [u8], why: TermRefusal) -> usize
-    ensures { Puts out.old 0 (answer_text (term_refused why)) out.new result }
-{
-    let number = term_number_of(why) as u64;
-    let value = term_value_of(why) as u64;
-    put_pair(out, 0, number, value)
-}
-
-fn put_outcome(out: &mut [u8], outcome: TermOutcome) -> usize
-    ensures { Puts out.old 0 (answer_text (term_outcome outcome)) out.new result }
-{
-    match outcome {
-        TermOutcome::Added => put_pair(out, 0, 0, 0),
-        TermOutcome::Refused(why) => put_cause(out, why),
-    }
-}
-
-// Prints the line of a case, which takes less than 1,024 bytes: number, value, and the totals that are shown.
-fn print_totalled(rt: &impl Print, totalled: TermTotalled) -> io::Result<()> {
-    let outcome = totalled.outcome;
-    let litres = totalled.litres;
+// Prints the line of a case, which takes less than 1,024 bytes: number, value, and the totals that are shown. A refusal
+// has no litres, and 0 as the value of what is accepted.
+fn print_totalled(
+    rt: &impl Print,
+    totalled: Result<[u32; Pattern::ACCOUNTS], TermRefusal>,
+) -> io::Result<()> {
     let mut out = [0u8; 1024];
-    let a = put_outcome(&mut out, outcome);
+    let a = put_answer(&mut out, 0, totalled.map(|_| 0));
+    let litres = totalled.unwrap_or([0; Pattern::ACCOUNTS]);
     let b = put_totals(&mut out, a, &litres);
     print_line(rt, &mut out, b)
 }
@@ -68,7 +49,7 @@ fn after_date(line: &[u8]) -> &[u8]
 fn run_dates(rt: &impl Print, p: Pattern, code: &[u8], count: u32, line: &[u8]) -> io::Result<()> {
     let first = after_date(line);
     let last = after_date(first);
-    if rest(rest(last)).len() == 0 {
+    if rest(rest(last)).is_empty() {
         return say_bad(rt);
     }
     let term = Term {
@@ -79,12 +60,10 @@ fn run_dates(rt: &impl Print, p: Pattern, code: &[u8], count: u32, line: &[u8]) 
 }
 
 pub fn run_term(rt: &impl Print, p: Pattern, line: &[u8]) -> io::Result<()> {
-    let digits = field(line);
     let mut code = [0u8; MAX_CODE];
-    let size = decode(digits, &mut code);
-    if size + size != digits.len() {
+    let Some(size) = decode_all(field(line), &mut code) else {
         return say_bad(rt);
-    }
+    };
     let second = rest(line);
     run_dates(rt, p, &code[..size], number(field(second)), rest(second))
 }

@@ -43,3 +43,16 @@ pub fn decode(digits: &[u8], text: &mut [u8]) -> usize
     }
     text.len()
 }
+
+// The same, where all of the digits write bytes that fit: nothing else.
+pub fn decode_all(digits: &[u8], text: &mut [u8]) -> Option<usize>
+    ensures puts { IfSome result (λ size. Puts text.old 0 (hex_bytes digits.now) text.new size) }
+    ensures prefix_len { IfSome result (λ size. IsPrefixLen size text.new) }
+{
+    let size = decode(digits, text);
+    if size + size == digits.len() {
+        Some(size)
+    } else {
+        None
+    }
+}

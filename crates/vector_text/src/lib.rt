@@ -14,7 +14,7 @@ mod report; // report.rt: lines printed, and cells lent
 pub use cells::{put_digest, put_left, put_numbers, put_shown};
 pub use digest::{Cell, START, digest_of};
 pub use fields::{field, number, rest};
-pub use hex::decode;
+pub use hex::{decode, decode_all};
 pub use lines::{Input, Step, advance};
 pub use report::{
     ALL_BYTES, ALL_WORDS, BYTE_BEFORE, MAX_CODE, MAX_TAPE, MAX_TEXT, WORD_BEFORE, print_line,

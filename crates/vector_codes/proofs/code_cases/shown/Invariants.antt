@@ -1,9 +1,6 @@
--- `vector_codes::code_cases::shown` meets its contract. The invariant: what is left out is 0. The measure is how many are left.
+-- `vector_codes::code_cases::shown` meets its contract. The invariant: what is left out is 0.
 use Rattle.vector_codes.specs.Answers.{LeftOut}
 use Rattle.vector_codes.proofs.code_cases.shown.Given as goal
 
 abbrev pub invariant-loop-n : goal.invariant-loop-n
 invariant-loop-n l = LeftOut l.litres l.n
-
-abbrev pub decreases-loop-n : goal.decreases-loop-n
-decreases-loop-n l = l.n
