@@ -95,7 +95,7 @@ fn run_spelling(
     print_line(rt, &mut out, b)
 }
 
-// The line of totalling. A refusal has no litres, and 0 as the value of what is accepted.
+// The line of totalling. An accepted call has value 0, and a refused one 0 litres for each account.
 fn print_totals(
     rt: &impl Print,
     totalled: Result<[u32; Pattern::ACCOUNTS], Refusal>,

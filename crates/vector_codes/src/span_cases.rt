@@ -24,7 +24,7 @@ fn put_piece(out: &mut [u8], at: usize, start: u32, length: u32, piece: &[u8]) -
 }
 
 // Prints the line of a case, which takes less than 1,024 bytes: number, value, start, length, and the piece with its own
-// length. A refusal has no span, and 0 as the value of what is accepted.
+// length. An accepted call has value 0, and a refused one start and length 0.
 fn print_spanned(rt: &impl Print, spanned: Result<Span, Refusal>, piece: &[u8]) -> io::Result<()> {
     let mut out = [0u8; 1024];
     let a = put_answer(&mut out, 0, spanned.map(|_| 0));

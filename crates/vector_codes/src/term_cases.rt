@@ -12,8 +12,8 @@ use terms::{Term, TermRefusal, term_totals};
 use text::put_answer;
 use vector_text::{MAX_CODE, decode_all, field, number, print_line, rest, say_bad};
 
-// Prints the line of a case, which takes less than 1,024 bytes: number, value, and the totals that are shown. A refusal
-// has no litres, and 0 as the value of what is accepted.
+// Prints the line of a case, which takes less than 1,024 bytes: number, value, and the totals that are shown. An
+// accepted call has value 0, and a refused one 0 litres for each account.
 fn print_totalled(
     rt: &impl Print,
     totalled: Result<[u32; Pattern::ACCOUNTS], TermRefusal>,
