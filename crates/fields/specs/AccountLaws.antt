@@ -5,6 +5,7 @@ use Rattle.std.proofs.Common.{◌∙◌, arith}
 use borrow.Author.Tests.{eq-eqb, ne_eqb, lt-ltb, le-leb, lt-leb, leb-true, leb-false}
 use Rattle.syntax.specs.Table.{account_limit}
 use Rattle.fields.specs.Text.{digit, all_digits, decimal, no_account, account_number, account, when}
+use Rattle.fields.specs.AccountCases as cases
 use Rattle.fields.specs.Fields.{below, longer, number}
 
 pub digit_is : (b : ℕ) → 48 ≤ b → b ≤ 57 → digit b ≡ b - 48
