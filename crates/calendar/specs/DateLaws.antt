@@ -21,16 +21,13 @@ abbrev Between : (low high : ℕ) → List ℕ → Type 0
 Between a b [] = Unit {0}
 Between a b (x ∷ xs) = (a ≤ x) × (x ≤ b) × Between a b xs
 
-entry-between : (a b : ℕ) (xs : List ℕ) → Between a b xs → (k : ℕ) → k < length xs → (a ≤ get_or xs k 0) × (get_or xs k 0 ≤ b)
+pub entry-between : (a b : ℕ) (xs : List ℕ) → Between a b xs → (k : ℕ) → k < length xs → (a ≤ get_or xs k 0) × (get_or xs k 0 ≤ b)
 entry-between a b [] h k s = absurd (omega arith)
 entry-between a b (x ∷ xs) h zero s = (h.0, h.1)
 entry-between a b (x ∷ xs) h (suc k) s = entry-between a b xs h.2 k (omega arith)
 
 lengths_between : Between 28 31 month_lengths
 lengths_between = omega arith
-
-pub length_small : (k : ℕ) → k < 12 → get_or month_lengths k 0 ≤ 31
-length_small k h = (entry-between 28 31 month_lengths lengths_between k h).1
 
 pub leap_day_small : (y m : ℕ) → leap_day y m ≤ 1
 unfolding leap_day

@@ -1,4 +1,3 @@
 pub mod Dates
 pub mod DateLaws
 pub mod DateTable
-pub mod DateWays

@@ -1,26 +1,12 @@
--- `calendar::month_length` meets its contract.
+-- `calendar::month_length` meets its contract: no month has so many days that a leap day more would not fit.
 use Prim.Native.Nat.{◌-◌}
 use native.Mathlib.Omega.{arith}
-use Rattle.calendar.specs.DateWays.{month_zero, month_past, month_days}
-use Rattle.calendar.specs.DateLaws.{length_small, leap_day_small}
+use Rattle.calendar.specs.DateLaws.{entry-between, leap_day_small}
+use Rattle.calendar.specs.declared.TheConstants.{MONTH_LENGTHS}
 use Rattle.calendar.proofs.month_length.Goals as goal
-
-pub returns-then-month-lt1 : goal.returns-then-month-lt1
-returns-then-month-lt1 c = month_zero _ _ c.if-month-lt1.true
-
-pub returns-then-month-gt-MONTHS : goal.returns-then-month-gt-MONTHS
-returns-then-month-gt-MONTHS c = month_past _ _ c.if-month-lt1.false c.if-month-gt-MONTHS.true
 
 pub overflow_add-result : goal.overflow_add-result
 overflow_add-result c =
     let m = c.args.month in
-    omega (
-      arith,
-      c.leap_day.ensures,
-      c.table_length.ensures,
-      leap_day_small c.args.year m,
-      length_small (m - 1) (omega (arith, c.if-month-lt1.false, c.if-month-gt-MONTHS.false)),
-    )
-
-pub returns : goal.returns
-returns c = month_days _ _ c.if-month-lt1.false c.if-month-gt-MONTHS.false _ _ c.table_length.ensures c.leap_day.ensures
+    let days = entry-between 28 31 MONTH_LENGTHS (omega arith) (m - 1) (omega (arith, c.in-1-to-12)) in
+    omega (arith, c.leap_day.ensures, leap_day_small c.args.year m, days.1)
