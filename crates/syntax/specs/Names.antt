@@ -1,15 +1,15 @@
 -- Laws of naming: the flags say what the tree rules say.
-use Rattle.std.specs.Prelude.{◌≡◌, Bool, ◌&&◌, ◌||◌, List, [], ◌∷◌, ◌++◌, ℕ, ◌+◌, ◌-◌, ◌≤◌, ◌<◌, eqb, ltb, length, get_or, set, replicate, Option, None, Some, option_and_then, Ok, Err, position, take}
+use Rattle.std.specs.Prelude.{◌≡◌, Bool, ◌&&◌, ◌||◌, List, [], ◌∷◌, ◌++◌, ℕ, ◌+◌, ◌-◌, ◌≤◌, ◌<◌, eqb, ltb, length, get_or, set, replicate, Option, None, Some, option_and_then, Ok, Err}
 use Rattle.std.proofs.Math.Path.{refl, sym, ap}
 use Rattle.std.proofs.Common.{◌∙◌, add-one, arith, le-ltb, ltb-true, eqb-true, length-set, get_or-set_same, get_or-set_other}
 use Rattle.std.proofs.Math.Bool.{true, false, not, cond}
 use Rattle.std.proofs.lemmas.Bool.{eqb-false}
 use Rattle.std.proofs.Math.Decide.{dec_lt}
-use Rattle.std.proofs.lemmas.List.{get_or-replicate, get_or-take}
+use Rattle.std.proofs.lemmas.List.{get_or-replicate}
 use Rattle.syntax.specs.declared.Pattern.{Pattern}
-use Rattle.syntax.specs.Table.{blank, line_at, node_at, parts, named_below, member, rightly_named, wrongly_names, unnamed, tree_fault}
+use Rattle.syntax.specs.Table.{node_at, parts, named_below, member, rightly_named, wrongly_names, unnamed, tree_fault}
 use Rattle.syntax.specs.Bools.{and_fst}
-use Rattle.syntax.specs.Lowest.{lowest_same, searched_start, searched_end, searched_here, searched_on, lowest_position}
+use Rattle.syntax.specs.Lowest.{lowest_same, searched_start, searched_end, searched_here, searched_on}
 use Rattle.syntax.specs.Naming.{name_one, name_all, Flags, NamedSoFar, NamesWrongly, not_flagged, first_unnamed}
 
 -- ── flags and the places named ──
@@ -73,11 +73,10 @@ module _ (p : Pattern) (named : List Bool) (i : ℕ) (s : NamedSoFar p named i) 
 
   module _ (l : i < p.count) (few : p.count ≤ 64) where
     abbrev named_next : Option (List Bool)
-    named_next = name_all i named (parts (get_or (take p.count p.lines) i blank).node)
+    named_next = name_all i named (parts (node_at p i))
 
     tells : Told i (named_below p i) (parts (node_at p i)) named_next
-    tells = let e : get_or (take p.count p.lines) i blank ≡ line_at p i = get_or-take p.count p.lines i blank l in
-        rw e (told (parts (node_at p i)) i named (named_below p i) (omega arith) s.flags)
+    tells = told (parts (node_at p i)) i named (named_below p i) (omega arith) s.flags
 
     pub names_wrong : named_next ≡ None → NamesWrongly p (Err i)
     unfolding wrongly_names
@@ -90,9 +89,6 @@ module _ (p : Pattern) (named : List Bool) (i : ℕ) (s : NamedSoFar p named i) 
         record { flags = rw add-one t.1; search = searched_on (wrongly_names p) p.count i s.search l (ap not t.0) }
 
 -- ── the tree fault ──
-pub first_unnamed_is : (named : List Bool) (count : ℕ) → length named ≡ 64 → count ≤ 64 → first_unnamed named count ≡ position not (take (count - 1) named)
-first_unnamed_is named count l few = lowest_position not false (not_flagged named) named (count - 1) (omega (arith, l)) (λ j h. refl)
-
 module _ (p : Pattern) where
   pub fault_wrong : (line : ℕ) → NamesWrongly p (Err line) → Some line ≡ tree_fault p
   unfolding tree_fault

@@ -40,10 +40,22 @@ fn names_of(p: Pattern) -> Result<Flags, usize>
     ensures { NamesWrongly p result }
 {
     let mut named = [false; Pattern::MAX_LINES];
-    for (i, line) in p.lines[..p.count].iter().enumerate() {
-        named = name_parts(named, i, line.node).ok_or(i)?;
+    let mut i = 0;
+    // Kept: the scope has the scan over lines as a loop that yields the faulty line by break.
+    let fault = loop {
+        if p.count <= i {
+            break None;
+        }
+        let Some(next) = name_parts(named, i, p.lines[i].node) else {
+            break Some(i);
+        };
+        named = next;
+        i += 1;
+    };
+    match fault {
+        Some(line) => Err(line),
+        None => Ok(named),
     }
-    Ok(named)
 }
 
 // The lowest node but the last that is not named.
@@ -51,9 +63,17 @@ fn unnamed_of(named: Flags, count: usize) -> Option<usize>
     requires { count ≤ 64 }
     ensures { result ≡ first_unnamed named count }
 {
-    named[..count.saturating_sub(1)]
-        .iter()
-        .position(|named| !*named)
+    let mut l = 0;
+    // Kept: the scope has the scan over lines as a loop that yields the faulty line by break.
+    loop {
+        if count <= l + 1 {
+            break None;
+        }
+        if !named[l] {
+            break Some(l);
+        }
+        l += 1;
+    }
 }
 
 // The line of the first tree fault: the first with a wrongly named part, or else the lowest but the last that no line names.

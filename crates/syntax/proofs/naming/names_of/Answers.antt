@@ -1,17 +1,19 @@
 -- `syntax::naming::names_of` meets its contract.
-use Rattle.std.proofs.Common.{rules, arith, sym, ap, ◌∙◌, ◌≡◌, Err}
-use Rattle.std.specs.Result.{result_ok}
+use Rattle.std.proofs.Common.{sym, ◌∙◌}
+use Rattle.std.proofs.lemmas.Option.{none-some}
 use Rattle.syntax.specs.Names.{names_start, names_wrong, names_on}
+use Rattle.syntax.proofs.naming.names_of.Goals.{then-p-i, else-p-i+in_default}
 use Rattle.syntax.proofs.naming.names_of.Goals as goal
 
 pub loop-i-init : goal.loop-i-init
 loop-i-init c = names_start _
 
 pub loop-i-preserved : goal.loop-i-preserved
-loop-i-preserved c = names_on _ _ _ c.loop-i.invariant (omega arith) c.requires _
-    (sym c.name_parts.ensures ∙ c.ok_or.ensures.ok_part ∙ ap result_ok c.in_ok-named.was)
+loop-i-preserved c = names_on _ _ _ c.loop-i.invariant c.if-p-i.false c.requires _ (sym c.name_parts.ensures ∙ c.in-Some.is)
 
-pub returns-in_err-named : goal.returns-in_err-named
-returns-in_err-named c = let e : c.from_residual.result ≡ Err c.loop-i.i = search rules in
-    rw e (names_wrong _ _ _ c.loop-i.invariant (omega arith) c.requires
-    (sym c.name_parts.ensures ∙ c.ok_or.ensures.ok_part ∙ ap result_ok c.in_err-named.was))
+pub returns-in-Some-fault : goal.returns-in-Some-fault
+returns-in-Some-fault c = elim c.if-p-i.branch [
+  | then-p-i w ↦ absurd (none-some _ (sym w.fault-is ∙ c.in-Some-fault.is))
+  | else-p-i+in_default w ↦
+      names_wrong _ _ _ c.loop-i.invariant w.if-p-i.false c.requires (sym w.name_parts.ensures ∙ w.in_default.is) ∙ (sym w.fault-is ∙ c.in-Some-fault.is)
+]

@@ -1,10 +1,10 @@
 -- `syntax::naming::unnamed_of` meets its contract.
-use Rattle.std.proofs.Common.{rules, tests, sym, ◌∙◌, ◌-◌, arith, take, not}
-use Rattle.std.proofs.lemmas.Iterator.{YieldsList-from_slice}
-use Rattle.std.proofs.lemmas.Iterator.Search.{position_from_yields_List}
-use Rattle.syntax.specs.Names.{first_unnamed_is}
+use Rattle.std.proofs.Common.{arith, sym, ap, not}
+use Rattle.syntax.specs.Lowest.{searched_end, searched_on}
 use Rattle.syntax.proofs.naming.unnamed_of.Goals as goal
 
-pub returns : goal.returns
-returns c = position_from_yields_List not _ _ _ c.position.ensures.ran (YieldsList-from_slice (take (c.args.count - 1) c.args.named) cc) (λ x b q k. search (rules, tests))
-    ∙ sym (first_unnamed_is c.args.named c.args.count (omega arith) c.requires)
+pub loop-l-preserved : goal.loop-l-preserved
+loop-l-preserved c = (omega arith, searched_on _ _ _ c.loop-l.invariant.1 (omega arith) (ap not c.if-not-named-l.false))
+
+pub returns-then-count-l : goal.returns-then-count-l
+returns-then-count-l c = sym (searched_end _ _ _ c.loop-l.invariant.1 (omega arith))
