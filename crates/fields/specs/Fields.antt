@@ -1,7 +1,9 @@
 -- A text read field by field: what each function of the code answers.
 use Rattle.std.specs.Prelude.{◌≡◌, refl, Bool, true, false, ◌&&◌, ◌||◌, List, [], ◌∷◌, ℕ, ◌+◌, ◌*◌, ◌≤◌, ◌<◌, eqb, ltb, leb, length, get_or, drop, take, Option, None, Some, position, unwrap_or, option_and_then}
-use Rattle.std.proofs.Common.{sym, ap, ◌∙◌, arith, ltb-true, ltb-false, length-take, length-take-le, length-drop}
+use Rattle.std.proofs.Common.{sym, ap, ◌∙◌, arith, lt-ltb, ltb-true, ltb-false, length-take, length-take-le, length-drop, get_or-take}
+use Rattle.std.specs.List.{position_or_len}
 use Rattle.std.proofs.lemmas.List.Quantifiers.{position-Some}
+use Rattle.std.proofs.lemmas.List.Sums.{position_or_len_is}
 use Rattle.syntax.specs.Table.{account_limit}
 use Rattle.fields.specs.Text.{digit, one_digit, two_digits, place, single, when}
 
@@ -28,30 +30,42 @@ below_some l n m e = go (ltb n l) refl e
 abbrev pub stops : ℕ → Bool
 stops b = eqb b 9 || eqb b 10
 
--- the size of the field that a text begins with, if it has at most three bytes, and a tab or a newline ends it
-unfoldable pub field_size : (text : List ℕ) → Option ℕ
-field_size w = position stops (take 4 w)
+-- the size of the field that a text begins with, if a tab or a newline ends it within so many bytes
+unfoldable pub field_size : (within : ℕ) → (text : List ℕ) → Option ℕ
+field_size k w = position stops (take k w)
 
 -- the text s has the field x at a position; whether it is its line's last, and the position behind it
 pub record FieldAt (s : List ℕ) (at : ℕ) (x : List ℕ) (last : Bool) (next : ℕ) : Type 0 where
-  pub size : field_size (drop at s) ≡ Some (length x)
+  pub size : position stops (drop at s) ≡ Some (length x)
   pub bytes : x ≡ take (length x) (drop at s)
   pub ends : last ≡ eqb (get_or (drop at s) (length x) 0) 10
   pub behind : next ≡ at + length x + 1
 
 -- a field lies inside the text
-pub size_inside : (w : List ℕ) (n : ℕ) → field_size w ≡ Some n → n + 1 ≤ length w
-unfolding field_size
-size_inside w n e = omega (arith, (position-Some stops (take 4 w) n 0 e).0, length-take 4 w)
-
 pub next_inside : {s : List ℕ} {at : ℕ} {x : List ℕ} {last : Bool} {next : ℕ} → FieldAt s at x last next → next ≤ length s
-next_inside {s = s} {at = at} {x = x} f = omega (arith, size_inside (drop at s) (length x) f.size, length-drop at s)
+next_inside {s = s} {at = at} {x = x} f = omega (arith, (position-Some stops (drop at s) (length x) 0 f.size).0, f.behind, length-drop at s)
 
-pub field_found : (s : List ℕ) (at n : ℕ) → field_size (drop at s) ≡ Some n
+-- what ends a field within few bytes ends it
+module _ (k : ℕ) (w : List ℕ) (n : ℕ) (e : field_size k w ≡ Some n) where
+  pub size_inside : (n < k) × (n < length w)
+  unfolding field_size
+  size_inside = let l = (position-Some stops (take k w) n 0 e).0 in (omega (arith, length-take k w), omega (arith, length-take k w))
+
+  pub size_found : position stops w ≡ Some n
+  unfolding field_size
+  size_found =
+      let f = position-Some stops (take k w) n 0 e in
+      let (l, m) = size_inside in
+      let t : stops (get_or w n 0) ≡ true = ap stops (sym (get_or-take k w n 0 l)) ∙ f.1 in
+      let i : position_or_len stops w ≡ n =
+      position_or_len_is stops w n 0 (omega arith) (λ j h. ap stops (sym (get_or-take k w j 0 (omega arith))) ∙ f.2 j h) (λ h. t) in
+      rw (i, lt-ltb n (length w) m)
+
+pub field_found : (s : List ℕ) (at k n : ℕ) → field_size k (drop at s) ≡ Some n
     → FieldAt s at (take n (drop at s)) (eqb (get_or (drop at s) n 0) 10) (at + n + 1)
-field_found s at n e =
-    let l : length (take n (drop at s)) ≡ n = length-take-le n (drop at s) (omega (arith, size_inside (drop at s) n e)) in
-    record { size = e ∙ ap Some (sym l); bytes = rw l; ends = rw l; behind = rw l }
+field_found s at k n e =
+    let l : length (take n (drop at s)) ≡ n = length-take-le n (drop at s) (omega (arith, (size_inside k (drop at s) n e).1)) in
+    record { size = size_found k (drop at s) n e ∙ ap Some (sym l); bytes = rw l; ends = rw l; behind = rw l }
 
 -- ── what fields write ──
 -- the byte of a field of one byte

@@ -11,8 +11,11 @@ const TAB: u8 = b'\t';
 
 const NEWLINE: u8 = b'\n';
 
-// No good field has more bytes.
-const LONGEST: usize = 3;
+// The bytes of the longest account, with the one that ends it.
+pub const ACCOUNT_BYTES: usize = 4;
+
+// The same of any other field.
+pub const FIELD_BYTES: usize = 3;
 
 // Node indices are below it.
 const PLACES: u8 = Pattern::MAX_LINES as u8;
@@ -25,24 +28,24 @@ pub struct Field<'a> {
     pub next: usize,
 }
 
-// The size of the field at the front of a text. None where nothing ends it within `LONGEST` bytes; no more is looked at.
+// The size of the field at the front of a text. None where nothing ends it within so many bytes; no more are looked at.
 #[tactic(auto, unfolding(crate::specs::Fields::field_size))]
-fn size_of_field(text: &[u8]) -> Option<usize>
-    ensures { result ≡ field_size text.now }
+fn size_of_field(text: &[u8], within: usize) -> Option<usize>
+    ensures { result ≡ field_size within text.now }
 {
     text.iter()
-        .take(LONGEST + 1)
+        .take(within)
         .position(|b| *b == TAB || *b == NEWLINE)
 }
 
-// The field at a position, if it is no longer than a good field, and a tab or a newline ends it.
-pub fn field_from(text: &[u8], at: usize) -> Option<Field<'_>>
+// The field at a position, if a tab or a newline ends it within so many bytes.
+pub fn field_from(text: &[u8], at: usize, within: usize) -> Option<Field<'_>>
     requires { at ≤ length text.now }
-    ensures { MatchOption result (field_size (drop at text.now) ≡ None)
+    ensures { MatchOption result (field_size within (drop at text.now) ≡ None)
         (λ f. FieldAt text.now at f.bytes.now f.last f.next) }
 {
     let rest = &text[at..];
-    let size = size_of_field(rest)?;
+    let size = size_of_field(rest, within)?;
     Some(Field {
         bytes: &rest[..size],
         last: rest[size] == NEWLINE,

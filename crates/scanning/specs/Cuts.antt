@@ -72,13 +72,8 @@ cut_at [] n l e h = absurd (omega arith)
 cut_at (a ∷ w) zero l e h = cut_stop a w e
 cut_at (a ∷ w) (suc n) l e h = cut_step a w (h 0 (omega arith)) (cut_at w n (omega arith) e (λ k m. h (suc k) (omega arith)))
 
-pub cut : (w : List ℕ) (n : ℕ) → field_size w ≡ Some n → Cut w n
-unfolding field_size
-cut w n e =
-    let f = position-Some stops (take 4 w) n 0 e in
-    let l : n < 4 = omega (arith, f.0, length-take 4 w) in
-    cut_at w n (omega (arith, f.0, length-take 4 w)) (ap stops (sym (get_or-take 4 w n 0 l)) ∙ f.1)
-    (λ k m. ap stops (sym (get_or-take 4 w k 0 (omega arith))) ∙ f.2 k m)
+pub cut : (w : List ℕ) (n : ℕ) → position stops w ≡ Some n → Cut w n
+cut w n e = let f = position-Some stops w n 0 e in cut_at w n f.0 f.1 f.2
 
 -- a line has a first field
 pub record SomeField (w : List ℕ) : Type 0 where
@@ -116,6 +111,6 @@ no_cut_in (suc k) (b ∷ w) e =
     go true p l f = absurd (omega arith)
     go false p l f = no_cut_step b w p (f (rw (le-ltb (position_or_len stops (take k w)) (length (take k w)) (omega arith))))
 
-pub no_cut : (w : List ℕ) → field_size w ≡ None → NoCut 4 w
+pub no_cut : (k : ℕ) (w : List ℕ) → field_size k w ≡ None → NoCut k w
 unfolding field_size
-no_cut w e = no_cut_in 4 w e
+no_cut k w e = no_cut_in k w e

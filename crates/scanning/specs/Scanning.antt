@@ -16,7 +16,7 @@ use Rattle.scanning.specs.Cuts.{Cut, tab, newline, NoCut, unclosed, long, cut, n
 abbrev pub Says : Type 0 → Type 0
 Says A = List (List ℕ) → Option A
 
--- a field of k bytes or more decides against the line
+-- a field of k bytes or more decides against the line: 4 for an account, 3 for any other field
 abbrev pub NoLong : {A : Type 0} → (k : ℕ) → Says A → Type 0
 NoLong k says = (y : List ℕ) (more : List (List ℕ)) → k ≤ length y → says (y ∷ more) ≡ None
 
@@ -34,11 +34,11 @@ module _ {A : Type 0} (says : Says A) (at : ℕ) (w : List ℕ) where
       go false = refl
 
 module _ {A : Type 0} (says : Says A) (s : List ℕ) where
-  -- no field of few bytes is there
-  pub scan_no_field : (at : ℕ) → field_size (drop at s) ≡ None → NoLong 4 says → scan_by says at (drop at s) ≡ None
-  scan_no_field at e nl = go (no_cut (drop at s) e)
+  -- no field of fewer than k bytes is there
+  pub scan_no_field : (k at : ℕ) → field_size k (drop at s) ≡ None → NoLong k says → scan_by says at (drop at s) ≡ None
+  scan_no_field k at e nl = go (no_cut k (drop at s) e)
     where
-      go : NoCut 4 (drop at s) → scan_by says at (drop at s) ≡ None
+      go : NoCut k (drop at s) → scan_by says at (drop at s) ≡ None
       go (unclosed c) = scan_unclosed says at (drop at s) c
       go (long y more l i) = scan_none says at (drop at s) (ap says i ∙ nl y more l)
 
@@ -67,14 +67,14 @@ module _ {A : Type 0} (says : Says A) (s : List ℕ) where
           rw (c ∙ ap first_closed d, b, q, t)
 
   module _ (last : Bool) (next : ℕ) where
-    pub behind_none : (last ≡ true) ⊎ (field_size (drop next s) ≡ None) → says [] ≡ None → NoLong 4 says → behind says s last next ≡ None
+    pub behind_none : (k : ℕ) → (last ≡ true) ⊎ (field_size k (drop next s) ≡ None) → says [] ≡ None → NoLong k says → behind says s last next ≡ None
     unfolding behind
-    behind_none (inl t) e nl = rw (t, e)
-    behind_none (inr h) e nl = go last
+    behind_none k (inl t) e nl = rw (t, e)
+    behind_none k (inr h) e nl = go last
       where
         go : (b : Bool) → cond b (scan_of (says []) next) (scan_by says next (drop next s)) ≡ None
         go true = rw e
-        go false = scan_no_field next h nl
+        go false = scan_no_field k next h nl
 
     pub behind_nothing : ((fs : List (List ℕ)) → says fs ≡ None) → behind says s last next ≡ None
     unfolding behind
@@ -223,9 +223,9 @@ module _ (s : List ℕ) (k : ℕ) (last : Bool) (next : ℕ) where
   node_alone t = rw t
 
   module _ (t : last ≡ false) where
-    pub node_no_field : field_size (drop next s) ≡ None → behind (node_of k) s last next ≡ None
+    pub node_no_field : field_size 3 (drop next s) ≡ None → behind (node_of k) s last next ≡ None
     unfolding behind
-    node_no_field e = rw t (scan_no_field (node_of k) s next e (λ y more h. node_no_long k y more (omega arith)))
+    node_no_field e = rw t (scan_no_field (node_of k) s 3 next e (node_no_long k))
 
     module _ {x : List ℕ} {l : Bool} {n : ℕ} (f : FieldAt s next x l n) where
       pub node_one : l ≡ true → {r : Option Node} → r ≡ node_of_one k x → scan_of r n ≡ behind (node_of k) s last next
@@ -233,11 +233,11 @@ module _ (s : List ℕ) (k : ℕ) (last : Bool) (next : ℕ) where
       node_one e h = sym (behind_field (node_of k) s last next t f ∙ rw (e, h))
 
       module _ (e : l ≡ false) where
-        pub node_no_second_field : field_size (drop n s) ≡ None → behind (node_of k) s last next ≡ None
+        pub node_no_second_field : field_size 3 (drop n s) ≡ None → behind (node_of k) s last next ≡ None
         unfolding behind
         node_no_second_field h =
             behind_field (node_of k) s last next t f
-            ∙ rw e (scan_no_field (λ fs. node_of k (x ∷ fs)) s n h (λ y more h. node_no_second k x y more (omega arith)))
+            ∙ rw e (scan_no_field (λ fs. node_of k (x ∷ fs)) s 3 n h (node_no_second k x))
 
         module _ {y : List ℕ} {m : Bool} {j : ℕ} (g : FieldAt s n y m j) where
           two : behind (node_of k) s last next ≡ behind (λ fs. node_of k (x ∷ y ∷ fs)) s m j
@@ -282,48 +282,59 @@ with_account_behind a says s last next = go last
     go true = with_account-scan a (says []) next
     go false = rest (first_closed (drop next s)) (says (first_fields (drop next s))) (next + suc (first_size (drop next s)))
 
--- line i: its place, its kind, its account, and what the kind needs
+-- what is left of line i behind its account: a, the kind being k
+pub record Numbered (s : List ℕ) (at i : ℕ) (k a : List ℕ) (last : Bool) (next : ℕ) : Type 0 where
+  pub is : scanned i at (drop at s) ≡ with_number (account a) (behind (node_of (single k)) s last next)
+
+-- the place that was read is the line's own
+pub placed : (x : List ℕ) {p q i : ℕ} → Some p ≡ below 64 (place x) → q ≡ p → q ≡ i → place x ≡ i
+placed x {p = p} e u v = (below_some 64 (place x) p (sym e)).0 ∙ sym u ∙ v
+
+-- line i: its place, its kind, its account
 module _ (s : List ℕ) (at i : ℕ) where
-  pub line_no_field : i < 64 → field_size (drop at s) ≡ None → scanned i at (drop at s) ≡ None
-  line_no_field l e = scan_no_field (line_of i) s at e (λ y more h. line_no_long i l y more (omega arith))
+  pub line_no_field : i < 64 → None ≡ field_size 3 (drop at s) → None ≡ scanned i at (drop at s)
+  line_no_field l e = sym (scan_no_field (line_of i) s 3 at (sym e) (line_no_long i l))
 
   module _ {p : List ℕ} {l : Bool} {n : ℕ} (f : FieldAt s at p l n) where
-    pub line_misplaced : (place p ≡ i → ⊥) → scanned i at (drop at s) ≡ None
-    line_misplaced h = scan_field (line_of i) s at f ∙ behind_nothing (λ fs. line_of i (p ∷ fs)) s l n (line_no_place i p h)
+    pub line_misplaced : (place p ≡ i → ⊥) → None ≡ scanned i at (drop at s)
+    line_misplaced h = sym (scan_field (line_of i) s at f ∙ behind_nothing (λ fs. line_of i (p ∷ fs)) s l n (line_no_place i p h))
 
-    pub line_no_kind_field : (l ≡ true) ⊎ (field_size (drop n s) ≡ None) → scanned i at (drop at s) ≡ None
-    line_no_kind_field h =
-        scan_field (line_of i) s at f
-        ∙ behind_none (λ fs. line_of i (p ∷ fs)) s l n h (line_alone i p) (λ y more h. line_no_kind i p y more (omega arith))
+    pub line_no_kind_field : (l ≡ true) ⊎ (field_size 3 (drop n s) ≡ None) → None ≡ scanned i at (drop at s)
+    line_no_kind_field h = sym (scan_field (line_of i) s at f ∙ behind_none (λ fs. line_of i (p ∷ fs)) s l n 3 h (line_alone i p) (line_no_kind i p))
 
-    module _ (h : place p ≡ i) (e : l ≡ false) {k : List ℕ} {m : Bool} {j : ℕ} (g : FieldAt s n k m j) where
+    module _ (h : place p ≡ i) {k : List ℕ} {m : Bool} {j : ℕ} (g : (l ≡ false) × FieldAt s n k m j) where
       second : scanned i at (drop at s) ≡ behind (account_says (single k)) s m j
       second =
-          scan_field (line_of i) s at f ∙ behind_field (λ fs. line_of i (p ∷ fs)) s l n e g
+          scan_field (line_of i) s at f ∙ behind_field (λ fs. line_of i (p ∷ fs)) s l n g.0 g.1
           ∙ behind_same (λ fs. line_of i (p ∷ k ∷ fs)) (account_says (single k)) s m j (λ fs. sym (line-account i p k h fs))
 
-      pub line_no_account_field : (m ≡ true) ⊎ (field_size (drop j s) ≡ None) → scanned i at (drop at s) ≡ None
+      pub line_no_account_field : (m ≡ true) ⊎ (field_size 4 (drop j s) ≡ None) → None ≡ scanned i at (drop at s)
       unfolding account_says
-      line_no_account_field d = second ∙ behind_none (account_says (single k)) s m j d refl (account_no_long (single k))
+      line_no_account_field d = sym (second ∙ behind_none (account_says (single k)) s m j 4 d refl (account_no_long (single k)))
 
-      module _ (d : m ≡ false) {a : List ℕ} {q : Bool} {z : ℕ} (o : FieldAt s j a q z) where
-        pub line_is : scanned i at (drop at s) ≡ with_number (account a) (behind (node_of (single k)) s q z)
-        unfolding account_says parts_say
-        line_is = second ∙ behind_field (account_says (single k)) s m j d o ∙ with_account_behind (account a) (node_of (single k)) s q z
+      pub line_numbered : {a : List ℕ} {q : Bool} {z : ℕ} → (m ≡ false) × FieldAt s j a q z → Numbered s at i k a q z
+      unfolding account_says parts_say
+      line_numbered {a = a} {q = q} {z = z} d = record {
+        is =
+            second ∙ behind_field (account_says (single k)) s m j d.0 d.1
+            ∙ with_account_behind (account a) (node_of (single k)) s q z;
+      }
 
-        pub line_no_account : below no_account (account a) ≡ None → scanned i at (drop at s) ≡ None
-        line_no_account e = line_is ∙ number_no (account a) (behind (node_of (single k)) s q z) (below_none no_account (account a) e)
+-- its account, its kind and its node
+module _ {s : List ℕ} {at i : ℕ} {k a : List ℕ} {last : Bool} {next : ℕ} (l : Numbered s at i k a last next) where
+  pub line_no_account : None ≡ below no_account (account a) → None ≡ scanned i at (drop at s)
+  line_no_account e =
+      sym (l.is ∙ number_no (account a) (behind (node_of (single k)) s last next) (below_none no_account (account a) (sym e)))
 
-        pub line_no_single : one_byte k ≡ None → scanned i at (drop at s) ≡ None
-        line_no_single e =
-            line_is ∙ rw (single_none k e, behind_nothing (node_of 0) s q z no_kind)
+  pub line_no_single : None ≡ one_byte k → None ≡ scanned i at (drop at s)
+  line_no_single e = sym (l.is ∙ rw (single_none k (sym e), behind_nothing (node_of 0) s last next no_kind))
 
-        module _ {c : ℕ} (w : one_byte k ≡ Some c) where
-          pub line_no_node : behind (node_of c) s q z ≡ None → scanned i at (drop at s) ≡ None
-          line_no_node e = line_is ∙ rw (single_some k c w, e)
+  module _ {c : ℕ} (w : Some c ≡ one_byte k) where
+    pub line_no_node : None ≡ behind (node_of c) s last next → None ≡ scanned i at (drop at s)
+    line_no_node e = sym (l.is ∙ rw (single_some k c (sym w), ← e))
 
-          pub line_good : {b : ℕ} {node : Node} {next : ℕ} → below no_account (account a) ≡ Some b → behind (node_of c) s q z ≡ Some (node, next)
-              → scanned i at (drop at s) ≡ Some (record { account = b; node = node }, next)
-          line_good {b = b} {node = node} {next = next} v e =
-              let (x, y) = below_some no_account (account a) b v in
-              line_is ∙ rw (single_some k c w, e, x, le-leb b account_limit (omega arith))
+    pub line_good : {b : ℕ} {node : Node} {end : ℕ} → Some b ≡ below no_account (account a) → Some (node, end) ≡ behind (node_of c) s last next
+        → Some (record { account = b; node = node }, end) ≡ scanned i at (drop at s)
+    line_good {b = b} v e =
+        let (x, y) = below_some no_account (account a) b (sym v) in
+        sym (l.is ∙ rw (single_some k c (sym w), ← e, x, le-leb b account_limit (omega arith)))

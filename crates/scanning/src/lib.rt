@@ -7,7 +7,7 @@ ghost use Rattle.fields.specs.Text.{single, when, node_of_none, node_of_one, ran
 ghost use Rattle.fields.specs.Fields.{FieldAt, field_size};
 ghost use Rattle.scanning.specs.Scans.{behind, scanned};
 
-use fields::{Field, account_of, field_from, place_of, single_of};
+use fields::{ACCOUNT_BYTES, FIELD_BYTES, Field, account_of, field_from, place_of, single_of};
 use syntax::{Leaf, Line, Node, is_letter};
 
 // The letter that a field holds.
@@ -70,17 +70,17 @@ fn parse_two(kind: u8, x: &[u8], y: &[u8]) -> Option<Node>
     }
 }
 
-// The field behind another, none where that is its line's last.
-fn field_behind<'a>(text: &'a [u8], field: Field) -> Option<Field<'a>>
+// The field behind another, as `field_from` reads it; none where that is its line's last.
+fn field_behind<'a>(text: &'a [u8], field: Field, within: usize) -> Option<Field<'a>>
     requires { field.next ≤ length text.now }
     ensures { MatchOption result
-        ((field.entry.last ≡ true) ⊎ (field_size (drop field.entry.next text.now) ≡ None))
+        ((field.entry.last ≡ true) ⊎ (field_size within (drop field.entry.next text.now) ≡ None))
         (λ f. (field.entry.last ≡ false) × FieldAt text.now field.entry.next f.bytes.now f.last f.next) }
 {
     if field.last {
         None
     } else {
-        field_from(text, field.next)
+        field_from(text, field.next, within)
     }
 }
 
@@ -93,11 +93,11 @@ fn scan_node(text: &[u8], kind: u8, account: Field) -> Option<(Node, usize)>
     if account.last {
         return Some((parse_none(kind)?, account.next));
     }
-    let x = field_from(text, account.next)?;
+    let x = field_from(text, account.next, FIELD_BYTES)?;
     if x.last {
         return Some((parse_one(kind, x.bytes)?, x.next));
     }
-    let y = field_from(text, x.next)?;
+    let y = field_from(text, x.next, FIELD_BYTES)?;
     if y.last {
         return Some((parse_two(kind, x.bytes, y.bytes)?, y.next));
     }
@@ -105,24 +105,18 @@ fn scan_node(text: &[u8], kind: u8, account: Field) -> Option<(Node, usize)>
 }
 
 // Line i of the text, which begins at position `at`, with the position behind it. None where the line's form is at fault.
-#[tactic(auto, using(fields::specs::Fields::next_inside, fields::specs::Fields::below_none, fields::specs::Fields::below_some, crate::specs::Scanning::line_no_field, crate::specs::Scanning::line_misplaced, crate::specs::Scanning::line_good))]
+#[tactic(auto, using(fields::specs::Fields::next_inside, fields::specs::Fields::below_none, fields::specs::Fields::below_some, crate::specs::Scanning::line_no_field, crate::specs::Scanning::line_misplaced))]
 pub fn scan_line(text: &[u8], at: usize, i: usize) -> Option<(Line, usize)>
     requires { (at ≤ length text.now) × (i < 64) }
     ensures { result ≡ scanned i at (drop at text.now) }
 {
-    let place = field_from(text, at)?;
+    let place = field_from(text, at, FIELD_BYTES)?;
     if usize::from(place_of(place.bytes)?) != i {
         return None;
     }
-    let kind = field_behind(text, place)?;
-    let account = field_behind(text, kind)?;
-    let number = account_of(account.bytes)?;
-    let (node, next) = scan_node(text, single_of(kind.bytes)?, account)?;
-    Some((
-        Line {
-            account: number,
-            node,
-        },
-        next,
-    ))
+    let kind = field_behind(text, place, FIELD_BYTES)?;
+    let number = field_behind(text, kind, ACCOUNT_BYTES)?;
+    let account = account_of(number.bytes)?;
+    let (node, next) = scan_node(text, single_of(kind.bytes)?, number)?;
+    Some((Line { account, node }, next))
 }

@@ -1,15 +1,15 @@
-use Rattle.std.proofs.Common.{◌≡◌, ◌≤◌, ◌+◌, sym, ◌∙◌, arith, Some, length, drop, length-take-le, length-drop}
+use Rattle.std.proofs.Common.{◌≡◌, ◌<◌, sym, ◌∙◌, arith, Some, length, drop, length-take-le, length-drop}
 use Rattle.std.proofs.lemmas.List.{take_rest}
 use Rattle.fields.specs.Fields.{field_size, size_inside, field_found}
 use Rattle.fields.proofs.field_from.Goals as goal
 use Rattle.fields.proofs.field_from.Goals.{In_ok-size}
 
 -- the size that is found, told of the text
-size : (c : In_ok-size) → field_size (drop c.args.at c.args.text.now) ≡ Some c.in_ok-size.size
+size : (c : In_ok-size) → field_size c.args.within (drop c.args.at c.args.text.now) ≡ Some c.in_ok-size.size
 size c = rw take_rest at (sym c.size_of_field.ensures ∙ c.in_ok-size.was)
 
-inside : (c : In_ok-size) → c.in_ok-size.size + 1 ≤ length (drop c.args.at c.args.text.now)
-inside c = size_inside (drop c.args.at c.args.text.now) c.in_ok-size.size (size c)
+inside : (c : In_ok-size) → c.in_ok-size.size < length (drop c.args.at c.args.text.now)
+inside c = (size_inside c.args.within (drop c.args.at c.args.text.now) c.in_ok-size.size (size c)).1
 
 pub slice_bounds-result-end : goal.slice_bounds-result-end
 slice_bounds-result-end c = rw take_rest (sym (length-take-le c.in_ok-size.size (drop c.args.at c.args.text.now) (omega (arith, inside c))))
@@ -25,4 +25,4 @@ overflow_add-result-2 c = omega (arith, inside (goal.at.overflow_add-result-2 c)
 
 pub returns : goal.returns
 returns c = rw take_rest
-    (field_found c.args.text.now c.args.at _ (size (goal.at.returns c).In_ok-size))
+    (field_found c.args.text.now c.args.at c.args.within _ (size (goal.at.returns c).In_ok-size))
