@@ -70,21 +70,3 @@ good_last (suc n) xs ys d h k =
 pub dates_tested : (start : Date) (n : ℕ) (xs ys : List ℕ) → n ≤ length xs → n ≤ length ys → (d : Date) → d ≡ date_behind start (take (n - 1) xs)
     → (b : Bool) → b ≡ is_date d → dates_good start (pairs n xs ys) ≡ b
 dates_tested start n xs ys h k d e b f = good_last n xs ys start h k ∙ ap is_date (sym e) ∙ sym f
-
--- ── the loop that steps to the last letter: i letters are passed, and one is left ──
-pub record Stepped (letters : List ℕ) (start date : Date) (n i : ℕ) : Type 0 where
-  pub low : i ≤ n - 1
-  pub is : date ≡ date_behind start (take i letters)
-
-pub stepped_start : (w : List ℕ) (d : Date) (n : ℕ) → Stepped w d d n 0
-stepped_start w d n = record { low = omega arith; is = refl }
-
-module _ {w : List ℕ} {start date : Date} {n i : ℕ} (s : Stepped w start date n i) where
-  pub stepped_next : i + 1 < n → n ≤ length w → (next : Date) → next ≡ after_letter (get_or w i 0) date → Stepped w start next n (i + 1)
-  stepped_next h long next e = record {
-    low = omega arith;
-    is = e ∙ ap (after_letter (get_or w i 0)) s.is ∙ sym (behind_next w i start (omega arith));
-  }
-
-  pub stepped_end : n ≤ i + 1 → date ≡ date_behind start (take (n - 1) w)
-  stepped_end h = let e : i ≡ n - 1 = omega (arith, s.low) in s.is ∙ ap (λ j. date_behind start (take j w)) e

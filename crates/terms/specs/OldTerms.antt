@@ -1,5 +1,5 @@
 -- Totals within a term by patterns of 01's accounts: "the old ten followed by zeros" (02, Job 7), as for all of a tape.
-use Rattle.std.specs.Prelude.{◌≡◌, cond, List, ◌++◌, ℕ, ◌+◌, ◌<◌, eqb, replicate}
+use Rattle.std.specs.Prelude.{◌≡◌, cond, List, ◌++◌, ℕ, ◌+◌, ◌<◌, eqb, replicate, Result}
 use Rattle.std.proofs.Common.{sym, subst, ◌∙◌, eqb-true}
 use Rattle.syntax.specs.declared.Pattern.{Pattern}
 use Rattle.syntax.specs.Table.{one_digit_limit}
@@ -14,9 +14,9 @@ use Rattle.entries.specs.CodeOrder.{code_order, clear_sound}
 use Rattle.entries.specs.Gather.{entries_of}
 use Rattle.totals.specs.OldTotals.{OldAccounts, new_accounts, old_entries, old_or_none}
 use Rattle.terms.specs.declared.Term.{Term}
+use Rattle.terms.specs.declared.TermRefusal.{TermRefusal}
 use Rattle.terms.specs.declared.TermRefusal.TheVariants.{Base}
-use Rattle.terms.specs.declared.TermTotalled.{TermTotalled}
-use Rattle.terms.specs.Terms.{dated, within, term_refused, dates_order, terms_order, terms_answer, terms_litres, TermTotals}
+use Rattle.terms.specs.Terms.{dated, within, term_refused, dates_order, terms_order, terms_answer, terms_litres, term_litres, TermTotals}
 use Rattle.terms.specs.Unique.{term_number_positive}
 use Rattle.terms.specs.Along.{dated-entries}
 use Rattle.terms.specs.TermLaws.{within_all}
@@ -40,6 +40,6 @@ term_litres_old p code count start term h =
     within_all (λ x. x.1 < one_digit_limit + 1) term (dated start es)
     (subst (All (λ x. x.1 < one_digit_limit + 1)) (sym (dated-entries es start)) (old_entries p (clear_sound p code count code_clear).good h code count)))
 
-pub terms_old_accounts : (p : Pattern) (code : List ℕ) (count : ℕ) (start : Date) (term : Term) → OldAccounts p → (r : TermTotalled)
-    → TermTotals p code count start term r → r.litres ≡ old_term_litres p code count start term ++ new_accounts
+pub terms_old_accounts : (p : Pattern) (code : List ℕ) (count : ℕ) (start : Date) (term : Term) → OldAccounts p → (r : Result (List ℕ) TermRefusal)
+    → TermTotals p code count start term r → term_litres r ≡ old_term_litres p code count start term ++ new_accounts
 terms_old_accounts p code count start term h r t = t.gives ∙ term_litres_old p code count start term h

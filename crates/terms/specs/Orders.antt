@@ -1,8 +1,9 @@
 -- Totalling within a term: the first cause that holds is answered, whatever later causes hold, and all totals are 0.
-use Rattle.std.specs.Prelude.{◌≡◌, true, false, not, List, [], ◌∷◌, ℕ}
+use Rattle.std.specs.Prelude.{◌≡◌, true, false, not, List, [], ◌∷◌, ℕ, Err, Ok, Result}
 use Rattle.std.proofs.Math.Path.{refl, ap}
 use Rattle.std.proofs.Common.{sym, ◌∙◌}
-use Rattle.std.proofs.lemmas.Bool.{not-false}
+use Rattle.std.proofs.lemmas.Bool.{not-false, false≢true}
+use Rattle.std.specs.Result.{IsOk}
 use Rattle.syntax.specs.declared.Pattern.{Pattern}
 use Rattle.syntax.specs.Trees.{root}
 use Rattle.refusals.specs.Refusals.{answer}
@@ -17,12 +18,15 @@ use Rattle.totals.specs.Totals.{no_litres}
 use Rattle.terms.specs.declared.Term.{Term}
 use Rattle.terms.specs.declared.TermRefusal.{TermRefusal}
 use Rattle.terms.specs.declared.TermRefusal.TheVariants.{Base, TapeUndated, NotATerm}
-use Rattle.terms.specs.declared.TermOutcome.TheVariants.{Added, Refused as NoTotals}
-use Rattle.terms.specs.declared.TermTotalled.{TermTotalled}
 use Rattle.terms.specs.Terms.{term_refused, dated, within, dates_good, is_term, dates_order, terms_order, terms_answer, term_outcome}
-use Rattle.terms.specs.Terms.{refused_term, TermTotals}
-use Rattle.terms.specs.TermWays.{dates-added, terms_refused, term_totals-dated}
-use Rattle.terms.specs.Unique.{term_refused_same, term_number_positive, term_totals_one}
+use Rattle.terms.specs.Terms.{term_litres, TermTotals}
+use Rattle.terms.specs.TermWays.{dates-added, refused-answer, refused-litres, term_totals-dated}
+use Rattle.terms.specs.Unique.{term_refused_same, term_number_positive, term_outcome_refused, term_totals_one}
+
+-- what is added up is answered so
+added-answer : (r : Result (List ℕ) TermRefusal) → IsOk r → term_outcome r ≡ answer 0 0
+added-answer (Ok sums) e = refl
+added-answer (Err why) e = absurd (false≢true e)
 
 module _ (p : Pattern) (code : List ℕ) (count : ℕ) (start : Date) (term : Term) where
   abbrev entries : Entries
@@ -57,28 +61,28 @@ module _ (p : Pattern) (code : List ℕ) (count : ℕ) (start : Date) (term : Te
         is_one = not-false (is_term term) e.1.0;
       }
 
-  module _ (r : TermTotalled) (h : TermTotals p code count start term r) where
+  module _ (r : Result (List ℕ) TermRefusal) (h : TermTotals p code count start term r) where
     -- 01: "A number is returned if its cause holds and none before it in the service's order does,
-    pub terms_only : (why : TermRefusal) → First why (terms_order p code count start term) → (r.outcome ≡ NoTotals why) × (r.litres ≡ no_litres)
-    terms_only why f = term_totals_one p code count start term r (refused_term why) h (terms_refused p code count start term why f)
+    pub terms_only : (why : TermRefusal) → First why (terms_order p code count start term) → (r ≡ Err why) × (term_litres r ≡ no_litres)
+    terms_only why f =
+        (term_outcome_refused r why (h.answers ∙ refused-answer p code count start term why f), h.gives ∙ refused-litres p code count start term why f)
 
     -- and never otherwise."
-    pub terms_first : (why : TermRefusal) → r.outcome ≡ NoTotals why → First why (terms_order p code count start term)
+    pub terms_first : (why : TermRefusal) → r ≡ Err why → First why (terms_order p code count start term)
     unfolding terms_answer
     terms_first why e =
         said_first term_refused term_number_positive term_refused_same (terms_order p code count start term) (answer 0 0) refl why
         (sym h.answers ∙ ap term_outcome e)
 
-    pub terms_none : r.outcome ≡ Added → SoundTerm
+    pub terms_none : IsOk r → SoundTerm
     unfolding terms_answer
     terms_none e =
         sound_term (zero-said term_refused term_number_positive (terms_order p code count start term) (answer 0 0)
-        (ap (λ a. a.number) (sym h.answers ∙ ap term_outcome e)))
+        (ap (λ a. a.number) (sym h.answers ∙ added-answer r e)))
 
     -- where no cause holds, the litres of the term are added up
-    pub terms_added : SoundTerm → (r.outcome ≡ Added) × (r.litres ≡ totals (within term (dated start entries)))
+    pub terms_added : SoundTerm → r ≡ Ok (totals (within term (dated start entries)))
     terms_added s =
         let sums = totals (within term (dated start entries)) in
-        let t : TermTotalled = record { outcome = Added; litres = sums } in
-        term_totals_one p code count start term r t h
-        (term_totals-dated p code count start term s.clear entries refl t (dates-added start term entries s.dates s.is_one sums refl))
+        term_totals_one p code count start term r (Ok sums) h
+        (term_totals-dated p code count start term s.clear entries refl (Ok sums) (dates-added start term entries s.dates s.is_one sums refl))

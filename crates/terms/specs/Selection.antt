@@ -1,5 +1,5 @@
 -- Selecting the entries of a term: those whose dates lie in it are copied to the front of the two arrays, in their order.
-use Rattle.std.specs.Prelude.{◌≡◌, refl, Bool, true, false, cond, List, [], ◌∷◌, ◌++◌, ℕ, suc, ◌+◌, ◌-◌, ◌≤◌, ◌<◌, length, drop, get_or, set}
+use Rattle.std.specs.Prelude.{◌≡◌, refl, Bool, true, false, cond, List, ◌∷◌, ◌++◌, ℕ, suc, ◌+◌, ◌-◌, ◌≤◌, ◌<◌, length, drop, get_or, set}
 use Rattle.std.proofs.Common.{sym, ap, ap₂, subst, ◌∙◌, append-nil, arith, length-set, drop-cons, drop-set-lt}
 use Rattle.std.proofs.Math.Seq.{append_snoc}
 use Rattle.calendar.specs.declared.Date.{Date}
@@ -8,15 +8,8 @@ use Rattle.entries.specs.Gather.{pairs, Owned}
 use Rattle.entries.specs.Pairs.{pairs-put, owned_put}
 use Rattle.terms.specs.declared.Term.{Term}
 use Rattle.terms.specs.declared.days.Day.{Day}
-use Rattle.terms.specs.Terms.{after_letter, dated, in_term, within}
+use Rattle.terms.specs.Terms.{after_letter, dated, within}
 use Rattle.terms.specs.Days.{day_of}
-
--- ── what the two functions promise ──
--- entry i is copied to cell `kept` if its day is in the term
-pub record Keeps (kept i : ℕ) (inside : Bool) (letters accounts letters_now accounts_now : List ℕ) (r : ℕ) : Type 0 where
-  pub letters-put : letters_now ≡ cond inside (set letters kept (get_or letters i 0)) letters
-  pub accounts-put : accounts_now ≡ cond inside (set accounts kept (get_or accounts i 0)) accounts
-  pub counts : r ≡ cond inside (kept + 1) kept
 
 -- the entries in front are the definition `within` of those that were there, and can be added up
 pub record Selects (start : Date) (term : Term) (n : ℕ) (letters accounts letters_now accounts_now : List ℕ) (r : ℕ) : Type 0 where
@@ -24,14 +17,6 @@ pub record Selects (start : Date) (term : Term) (n : ℕ) (letters accounts lett
   pub few : r ≤ n
   pub long : r ≤ length letters_now
   pub own : Owned accounts_now r
-
--- ── `keep_entry` ──
-module _ (kept i : ℕ) (inside : Bool) (xs ys : List ℕ) where
-  pub kept_outside : inside ≡ false → Keeps kept i inside xs ys xs ys kept
-  kept_outside e = record { letters-put = rw e; accounts-put = rw e; counts = rw e }
-
-  pub kept-inside : inside ≡ true → Keeps kept i inside xs ys (set xs kept (get_or xs i 0)) (set ys kept (get_or ys i 0)) (kept + 1)
-  kept-inside e = record { letters-put = rw e; accounts-put = rw e; counts = rw e }
 
 -- ── the loop: what is kept so far, and what the term keeps of the rest, are all entries of the term ──
 abbrev rest : (n i : ℕ) → (letters accounts : List ℕ) → Entries
@@ -109,10 +94,9 @@ module _ {start : Date} {term : Term} {us vs xs ys : List ℕ} {day : Day} {n ke
           ∙ ap₂ (λ b d. pairs kept xs ys ++ cond b ((x, y) ∷ within term (dated d (rest n (i + 1) xs ys))) (within term (dated d (rest n (i + 1) xs ys))))
           (sym (ap (λ d. d.inside) s.on)) (sym (ap (λ d. d.date) e))
 
-      -- the entry is kept, or passed over
-      turn : (b : Bool) → Left b
-          → Selecting start term us vs (cond b (set xs kept x) xs) (cond b (set ys kept y) ys) next n (cond b (kept + 1) kept) (i + 1)
-      turn true f =
+      -- the entry is kept
+      pub select_kept : day.inside ≡ true → Selecting start term us vs (set xs kept x) (set ys kept y) next n (kept + 1) (i + 1)
+      select_kept inside =
           let z : suc kept ≡ kept + 1 = omega arith in
           let under : kept < i + 1 = omega (arith, s.few) in
           record {
@@ -123,13 +107,16 @@ module _ {start : Date} {term : Term} {us vs xs ys : List ℕ} {day : Day} {n ke
             wide = length-set ys kept y ∙ s.wide;
             own = owned_put ys n kept y s.own (s.own.own i h);
             on = on_day term (after_letter x day.date) next e;
-            left = f ∙ sym (append_snoc (pairs kept xs ys) (x, y) behind)
+            left = subst Left inside left_next ∙ sym (append_snoc (pairs kept xs ys) (x, y) behind)
                 ∙ ap₂ (λ es fs. es ++ within term (dated next.date fs))
                 (sym (pairs-put kept xs ys x y (omega (arith, s.few, s.room)) (omega (arith, s.few, s.own.wide)))
                 ∙ ap (λ m. pairs m (set xs kept x) (set ys kept y)) z)
                 (ap₂ (pairs (n - (i + 1))) (sym (drop-set-lt (i + 1) xs kept x under)) (sym (drop-set-lt (i + 1) ys kept y under)));
           }
-      turn false f = record {
+
+      -- or passed over
+      pub select_passed : day.inside ≡ false → Selecting start term us vs xs ys next n kept (i + 1)
+      select_passed outside = record {
         low = omega arith;
         few = omega (arith, s.few);
         room = s.room;
@@ -137,13 +124,5 @@ module _ {start : Date} {term : Term} {us vs xs ys : List ℕ} {day : Day} {n ke
         wide = s.wide;
         own = s.own;
         on = on_day term (after_letter x day.date) next e;
-        left = f;
+        left = subst Left outside left_next;
       }
-
-      pub select_next : (zs ws : List ℕ) (r : ℕ) → Keeps kept i day.inside xs ys zs ws r → Selecting start term us vs zs ws next n r (i + 1)
-      select_next zs ws r k =
-          let b = day.inside in
-          subst (λ l. Selecting start term us vs l ws next n r (i + 1)) (sym k.letters-put)
-          (subst (λ l. Selecting start term us vs (cond b (set xs kept x) xs) l next n r (i + 1)) (sym k.accounts-put)
-          (subst (λ m. Selecting start term us vs (cond b (set xs kept x) xs) (cond b (set ys kept y) ys) next n m (i + 1)) (sym k.counts)
-          (turn b left_next)))

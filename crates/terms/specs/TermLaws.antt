@@ -1,13 +1,15 @@
 -- Laws of totals within terms: a term outside the tape, terms that part the tape's days, the digits of a term, and the term of all days.
-use Rattle.std.specs.Prelude.{◌≡◌, refl, Bool, true, false, ℕ, ◌+◌, ◌*◌, ◌<◌, eqb, length, get_or}
+use Rattle.std.specs.Prelude.{◌≡◌, refl, Bool, true, false, ℕ, ◌+◌, ◌*◌, ◌<◌, eqb, length, get_or, Ok, Result}
 use Rattle.std.proofs.Math.Path.{sym, ap}
 use Rattle.std.proofs.Common.{subst, ◌∙◌, arith}
 use Rattle.std.proofs.Math.Bool.{cond}
+use Rattle.std.specs.Result.{IsOk}
 use mathlib.Core.List.{List, [], ◌∷◌, ◌++◌}
 use Rattle.syntax.specs.declared.Pattern.{Pattern}
 use Rattle.syntax.specs.Bools.{and_fst, and_snd}
 use Rattle.syntax.specs.Table.{account_limit}
 use Rattle.syntax.specs.Trees.{root}
+use Rattle.refusals.specs.declared.Refusal.{Refusal}
 use Rattle.refusals.specs.Checks.{Clear}
 use Rattle.calendar.specs.declared.Date.{Date}
 use Rattle.calendar.specs.Dates.{is_date, is_after}
@@ -20,15 +22,12 @@ use Rattle.entries.specs.Entries.{Entries}
 use Rattle.entries.specs.CodeOrder.{code_order, clear_sound}
 use Rattle.entries.specs.Gather.{entries_of}
 use Rattle.entries.specs.EntryAccounts.{root-accounts, entries_few}
-use Rattle.totals.specs.declared.Totalled.{Totalled}
-use Rattle.totals.specs.declared.TotalsOutcome.TheVariants.{Added as AllAdded}
-use Rattle.totals.specs.Totals.{totals_answer, totals_litres, no_litres, Totals}
+use Rattle.totals.specs.Totals.{totals_answer, totals_litres, totalled_litres, no_litres, Totals}
 use Rattle.totals.specs.TotalsLaws.{totals-added, no_entries, many_or_none, sum_list, sum-totals}
 use Rattle.totals.specs.Unique.{totals_one}
 use Rattle.terms.specs.declared.Term.{Term}
-use Rattle.terms.specs.declared.TermOutcome.TheVariants.{Added}
-use Rattle.terms.specs.declared.TermTotalled.{TermTotalled}
-use Rattle.terms.specs.Terms.{Dated, dated, in_term, within, all_dates, dates_good, terms_answer, terms_litres, TermTotals}
+use Rattle.terms.specs.declared.TermRefusal.{TermRefusal}
+use Rattle.terms.specs.Terms.{Dated, dated, in_term, within, all_dates, dates_good, terms_answer, terms_litres, term_litres, TermTotals}
 use Rattle.terms.specs.Orders.{terms_none, terms_added}
 use Rattle.terms.specs.Days.{date_behind}
 use Rattle.terms.specs.Along.{entry_list, dated-entries, Outside, term_before, term_behind}
@@ -105,9 +104,9 @@ terms_add_up a ts (x ∷ xs) h =
     ∙ (let e = terms_add_up a ts xs h.1 in omega arith)
 
 -- the litres of an account in each of some totals, added up
-abbrev pub sum_account : (account : ℕ) → List TermTotalled → ℕ
+abbrev pub sum_account : (account : ℕ) → List (Result (List ℕ) TermRefusal) → ℕ
 sum_account a [] = 0
-sum_account a (r ∷ rs) = get_or r.litres a 0 + sum_account a rs
+sum_account a (r ∷ rs) = get_or (term_litres r) a 0 + sum_account a rs
 
 -- ── accounts ──
 total_at : (es : Entries) (a : ℕ) → a < account_limit + 1 → get_or (totals es) a 0 ≡ total a es
@@ -119,11 +118,11 @@ sum-digits : (es : Entries) → All (λ e. e.1 < account_limit + 1) es → sum_l
 unfolding totals
 sum-digits es h = sum-totals (account_limit + 1) es ∙ totals_add (account_limit + 1) es h
 
-clear_litres : (p : Pattern) (code : List ℕ) (count : ℕ) → Clear (code_order p code count) → (t : Totalled) → Totals p code count t
-    → t.litres ≡ totals (entries_of (root p) code count)
+clear_litres : (p : Pattern) (code : List ℕ) (count : ℕ) → Clear (code_order p code count) → (t : Result (List ℕ) Refusal) → Totals p code count t
+    → totalled_litres t ≡ totals (entries_of (root p) code count)
 clear_litres p code count c t g =
     let es = entries_of (root p) code count in
-    (totals_one p code count t (record { outcome = AllAdded; litres = totals es }) g (totals-added p code count c (totals es) refl)).1
+    ap totalled_litres (totals_one p code count t (Ok (totals es)) g (totals-added p code count c (totals es) refl))
 
 -- 02, Job 7: "There are 201 totals", refused or not
 pub term_litres_many : (p : Pattern) (code : List ℕ) (count : ℕ) (start : Date) (term : Term)
@@ -145,28 +144,28 @@ module _ (p : Pattern) (code : List ℕ) (count : ℕ) (start : Date) where
   abbrev pub tape_dated : List Dated
   tape_dated = dated start (entries_of (root p) code count)
 
-  module _ (term : Term) (r : TermTotalled) (h : TermTotals p code count start term r) where
+  module _ (term : Term) (r : Result (List ℕ) TermRefusal) (h : TermTotals p code count start term r) where
     -- where nothing is refused
-    added-sums : r.outcome ≡ Added → r.litres ≡ totals (within term tape_dated)
-    added-sums e = (terms_added p code count start term r h (terms_none p code count start term r h e)).1
+    added-sums : IsOk r → term_litres r ≡ totals (within term tape_dated)
+    added-sums e = ap term_litres (terms_added p code count start term r h (terms_none p code count start term r h e))
 
     -- 02: "A term outside the tape totals 0."
-    pub term_outside : Outside term tape_dated → r.litres ≡ no_litres
+    pub term_outside : Outside term tape_dated → term_litres r ≡ no_litres
     unfolding terms_litres
     term_outside k =
         h.gives
         ∙ ap (λ es. cond (eqb (terms_answer p code count start term).number 0) (totals es) no_litres) (outside_none term tape_dated k)
         ∙ zeros (eqb (terms_answer p code count start term).number 0)
 
-    pub before-tape : is_after start term.last ≡ true → r.litres ≡ no_litres
+    pub before-tape : is_after start term.last ≡ true → term_litres r ≡ no_litres
     before-tape e = term_outside (term_before term start e (entries_of (root p) code count))
 
     pub behind-tape : (es : Entries) (e : ℕ × ℕ) → entries_of (root p) code count ≡ es ++ (e ∷ [])
-        → is_after term.first (date_behind start (letters es)) ≡ true → r.litres ≡ no_litres
+        → is_after term.first (date_behind start (letters es)) ≡ true → term_litres r ≡ no_litres
     behind-tape es e q a = term_outside (subst (λ fs. Outside term (dated start fs)) (sym q) (term_behind term start es e a))
 
     -- a term's totals add up to the digits of its letters
-    pub term_digits : r.outcome ≡ Added → sum_list r.litres ≡ digits (letters (within term tape_dated))
+    pub term_digits : IsOk r → sum_list (term_litres r) ≡ digits (letters (within term tape_dated))
     term_digits e =
         let es = entries_of (root p) code count in
         let clear = (terms_none p code count start term r h e).clear in
@@ -178,8 +177,8 @@ module _ (p : Pattern) (code : List ℕ) (count : ℕ) (start : Date) where
         (entries_few (account_limit + 1) (root p) known (omega arith) code count)))
 
   -- the term of all days has the totals of the whole tape
-  pub term_of_all : (r : TermTotalled) → TermTotals p code count start every_date r → r.outcome ≡ Added
-      → (t : Totalled) → Totals p code count t → r.litres ≡ t.litres
+  pub term_of_all : (r : Result (List ℕ) TermRefusal) → TermTotals p code count start every_date r → IsOk r
+      → (t : Result (List ℕ) Refusal) → Totals p code count t → term_litres r ≡ totalled_litres t
   unfolding dates_good
   term_of_all r h e t g =
       let k = terms_none p code count start every_date r h e in
@@ -190,13 +189,13 @@ module _ (p : Pattern) (code : List ℕ) (count : ℕ) (start : Date) where
 
   -- ── 02: "Totals over terms that part the tape's days add up to those of the whole tape." ──
   -- each of the terms is totalled, and none is refused
-  abbrev pub EachAdded : List Term → List TermTotalled → Type 0
+  abbrev pub EachAdded : List Term → List (Result (List ℕ) TermRefusal) → Type 0
   EachAdded [] [] = Unit {0}
   EachAdded [] (r ∷ rs) = ⊥
   EachAdded (t ∷ ts) [] = ⊥
-  EachAdded (t ∷ ts) (r ∷ rs) = (TermTotals p code count start t r) × (r.outcome ≡ Added) × EachAdded ts rs
+  EachAdded (t ∷ ts) (r ∷ rs) = (TermTotals p code count start t r) × IsOk r × EachAdded ts rs
 
-  each_over : (a : ℕ) → a < account_limit + 1 → (ts : List Term) (rs : List TermTotalled) → EachAdded ts rs
+  each_over : (a : ℕ) → a < account_limit + 1 → (ts : List Term) (rs : List (Result (List ℕ) TermRefusal)) → EachAdded ts rs
       → sum_account a rs ≡ total_over a ts tape_dated
   each_over a h [] [] k = refl
   each_over a h [] (r ∷ rs) k = absurd k
@@ -208,8 +207,8 @@ module _ (p : Pattern) (code : List ℕ) (count : ℕ) (start : Date) where
       omega arith
 
   -- the whole tape is totalled too, or has no letter
-  whole-litres : (ts : List Term) (rs : List TermTotalled) → EachAdded ts rs → PartDays ts tape_dated → (t : Totalled) → Totals p code count t
-      → t.litres ≡ totals (entries_of (root p) code count)
+  whole-litres : (ts : List Term) (rs : List (Result (List ℕ) TermRefusal)) → EachAdded ts rs → PartDays ts tape_dated → (t : Result (List ℕ) Refusal) → Totals p code count t
+      → totalled_litres t ≡ totals (entries_of (root p) code count)
   unfolding totals_litres
   whole-litres [] [] k d t g =
       let none = no_terms (entries_of (root p) code count) start d in
@@ -220,8 +219,8 @@ module _ (p : Pattern) (code : List ℕ) (count : ℕ) (start : Date) where
   whole-litres (f ∷ ts) (r ∷ rs) k d t g =
       clear_litres p code count (terms_none p code count start f r k.0 k.1).clear t g
 
-  pub terms_part : (ts : List Term) (rs : List TermTotalled) → EachAdded ts rs → PartDays ts tape_dated
-      → (t : Totalled) → Totals p code count t → (a : ℕ) → a < account_limit + 1 → sum_account a rs ≡ get_or t.litres a 0
+  pub terms_part : (ts : List Term) (rs : List (Result (List ℕ) TermRefusal)) → EachAdded ts rs → PartDays ts tape_dated
+      → (t : Result (List ℕ) Refusal) → Totals p code count t → (a : ℕ) → a < account_limit + 1 → sum_account a rs ≡ get_or (totalled_litres t) a 0
   terms_part ts rs k d t g a h =
       let es = entries_of (root p) code count in
       each_over a h ts rs k ∙ terms_add_up a ts (dated start es) d ∙ ap (total a) (dated-entries es start)

@@ -1,5 +1,5 @@
 -- Totals within a billing term: the date of each letter, the answer and the totals, for every input. Definitions only.
-use Rattle.std.specs.Prelude.{◌≡◌, Bool, true, ◌&&◌, not, cond, List, [], ◌∷◌, ◌++◌, ℕ, eqb}
+use Rattle.std.specs.Prelude.{◌≡◌, Bool, true, ◌&&◌, not, cond, List, [], ◌∷◌, ◌++◌, ℕ, eqb, Err, Ok, Result}
 use Rattle.syntax.specs.declared.Pattern.{Pattern}
 use Rattle.syntax.specs.Trees.{root}
 use Rattle.refusals.specs.Refusals.{number, value, Answer, answer}
@@ -14,9 +14,6 @@ use Rattle.totals.specs.Totals.{no_litres}
 use Rattle.terms.specs.declared.Term.{Term}
 use Rattle.terms.specs.declared.TermRefusal.{TermRefusal}
 use Rattle.terms.specs.declared.TermRefusal.TheVariants.{Base, TapeUndated, NotATerm}
-use Rattle.terms.specs.declared.TermOutcome.{TermOutcome}
-use Rattle.terms.specs.declared.TermOutcome.TheVariants.{Added, Refused}
-use Rattle.terms.specs.declared.TermTotalled.{TermTotalled}
 
 -- ── the date of a letter ──
 -- the letter `D`, whatever leaf or account reads it
@@ -106,22 +103,23 @@ terms_litres p code count start term =
     cond (eqb (terms_answer p code count start term).number 0)
     (totals (within term (dated start (entries_of (root p) code count)))) no_litres
 
-abbrev pub term_outcome : TermOutcome → Answer
-term_outcome Added = answer 0 0
-term_outcome (Refused r) = term_refused r
+abbrev pub term_outcome : Result (List ℕ) TermRefusal → Answer
+term_outcome (Ok sums) = answer 0 0
+term_outcome (Err why) = term_refused why
 
-abbrev pub refused_term : TermRefusal → TermTotalled
-refused_term r = record { outcome = Refused r; litres = no_litres }
+abbrev pub term_litres : Result (List ℕ) TermRefusal → List ℕ
+term_litres (Ok sums) = sums
+term_litres (Err why) = no_litres
 
 -- THE PROMISE of totalling within a term, for every table, bytes, count and dates
-pub record TermTotals (p : Pattern) (code : List ℕ) (count : ℕ) (start : Date) (term : Term) (r : TermTotalled) : Type 0 where
-  pub answers : term_outcome r.outcome ≡ terms_answer p code count start term
-  pub gives : r.litres ≡ terms_litres p code count start term
+pub record TermTotals (p : Pattern) (code : List ℕ) (count : ℕ) (start : Date) (term : Term) (r : Result (List ℕ) TermRefusal) : Type 0 where
+  pub answers : term_outcome r ≡ terms_answer p code count start term
+  pub gives : term_litres r ≡ terms_litres p code count start term
 
 -- the same of entries that are gathered: what is left to test and to add
 unfoldable pub dates_litres : (start : Date) → Term → Entries → List ℕ
 dates_litres start term es = cond (eqb (dates_answer start term es).number 0) (totals (within term (dated start es))) no_litres
 
-pub record DatesTotals (start : Date) (term : Term) (es : Entries) (r : TermTotalled) : Type 0 where
-  pub answers : term_outcome r.outcome ≡ dates_answer start term es
-  pub gives : r.litres ≡ dates_litres start term es
+pub record DatesTotals (start : Date) (term : Term) (es : Entries) (r : Result (List ℕ) TermRefusal) : Type 0 where
+  pub answers : term_outcome r ≡ dates_answer start term es
+  pub gives : term_litres r ≡ dates_litres start term es

@@ -10,13 +10,11 @@ use calendar::{Date, is_after, is_date, next_date};
 pub(crate) const DAY_END: u8 = b'D';
 
 // The date behind a letter. The letter that ends a day still belongs to that day.
+#[tactic(auto, unfolding(crate::specs::Terms::after_letter))]
 fn after_letter(c: u8, date: Date) -> Date
     ensures { result ≡ after_letter c date }
 {
-    if c != DAY_END {
-        return date;
-    }
-    next_date(date)
+    if c == DAY_END { next_date(date) } else { date }
 }
 
 // The date of the last of the first n letters, the start where there are none.
@@ -25,34 +23,26 @@ pub(crate) fn last_date(letters: &[u8], n: usize, start: Date) -> Date
     ensures { result ≡ date_behind start (take (n - 1) letters.now) }
 {
     let mut date = start;
-    let mut i = 0;
-    while i + 1 < n {
-        date = after_letter(letters[i], date);
-        i += 1;
+    for &c in &letters[..n.saturating_sub(1)] {
+        date = after_letter(c, date);
     }
     date
 }
 
 // Whether a date lies in a term, first and last date included.
+#[tactic(auto, unfolding(crate::specs::Terms::in_term))]
 fn in_term(term: Term, date: Date) -> bool
     ensures { result ≡ in_term term date }
 {
-    let from = !is_after(term.first, date);
-    let upto = !is_after(date, term.last);
-    from && upto
+    !is_after(term.first, date) && !is_after(date, term.last)
 }
 
 // Whether there is such a term: two dates, the last one not before the first.
+#[tactic(auto, unfolding(crate::specs::Terms::is_term))]
 pub(crate) fn is_term(term: Term) -> bool
     ensures { result ≡ is_term term }
 {
-    if !is_date(term.first) {
-        return false;
-    }
-    if !is_date(term.last) {
-        return false;
-    }
-    !is_after(term.first, term.last)
+    is_date(term.first) && is_date(term.last) && !is_after(term.first, term.last)
 }
 
 // A date, and whether it lies in the term: asked once a day, not once a letter.
@@ -65,8 +55,6 @@ pub(crate) struct Day {
 pub(crate) fn day_of(term: Term, date: Date) -> Day
     ensures { result ≡ day_of term date }
 {
-    Day {
-        date,
-        inside: in_term(term, date),
-    }
+    let inside = in_term(term, date);
+    Day { date, inside }
 }

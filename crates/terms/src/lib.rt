@@ -6,7 +6,8 @@
 ghost use Rattle.std.specs.Prelude.{◌≡◌, ◌≤◌, length};
 ghost use Rattle.syntax.specs.Letter.{letter_limit};
 ghost use Rattle.entries.specs.Gather.{pairs, Owned};
-ghost use Rattle.terms.specs.Terms.{term_number, term_value, refused_term, DatesTotals, TermTotals};
+ghost use Rattle.terms.specs.declared.TermRefusal.TheVariants.{Base};
+ghost use Rattle.terms.specs.Terms.{term_number, term_value, DatesTotals, TermTotals};
 
 mod days; // days.rt: the dates of letters, and which of them lie in a term
 mod selection; // selection.rt: selecting the entries of a term
@@ -14,7 +15,7 @@ mod selection; // selection.rt: selecting the entries of a term
 use calendar::{Date, is_date};
 use days::{is_term, last_date};
 use entries::gather;
-use refusals::{Refusal, number_of, value_of};
+use refusals::{Cause, Refusal};
 use selection::select_term;
 use syntax::Pattern;
 use totals::add_up;
@@ -27,55 +28,40 @@ pub struct Term {
 }
 
 // Why totalling within a term refuses: as totalling does, or for its dates.
-#[derive(Clone, Copy)]
+#[derive(Clone, Copy, Debug, PartialEq, Eq)]
 pub enum TermRefusal {
     Base(Refusal),
     TapeUndated,
     NotATerm,
 }
 
-// What totalling within a term answers: that the litres are added up, or why not.
-#[derive(Clone, Copy)]
-pub enum TermOutcome {
-    Added,
-    Refused(TermRefusal),
-}
+impl From<Refusal> for TermRefusal {
+    ghost from_gives = { λ base why. why ≡ Base base };
 
-// The answer, and the litres of accounts 0 to `Pattern::MAX_ACCOUNT`.
-#[derive(Clone, Copy)]
-pub struct TermTotalled {
-    pub outcome: TermOutcome,
-    pub litres: [u32; Pattern::ACCOUNTS],
-}
-
-// The number of a cause: 02 gives 11 and 12, 01's table the others.
-pub fn term_number_of(why: TermRefusal) -> u32
-    ensures { result ≡ term_number why }
-{
-    match why {
-        TermRefusal::Base(base) => number_of(base),
-        TermRefusal::TapeUndated => 11,
-        TermRefusal::NotATerm => 12,
+    fn from(base: Refusal) -> TermRefusal {
+        TermRefusal::Base(base)
     }
 }
 
-// The value beside it: 0 for a cause that 02 adds.
-pub fn term_value_of(why: TermRefusal) -> u32
-    ensures { result ≡ term_value why }
-{
-    match why {
-        TermRefusal::Base(base) => value_of(base),
-        TermRefusal::TapeUndated => 0,
-        TermRefusal::NotATerm => 0,
-    }
-}
+// 02 gives 11 and 12, with the value 0, and 01's table the others.
+impl Cause for TermRefusal {
+    ghost number_of = { term_number };
 
-fn no_term_totals(why: TermRefusal) -> TermTotalled
-    ensures { result ≡ refused_term why }
-{
-    TermTotalled {
-        outcome: TermOutcome::Refused(why),
-        litres: [0; Pattern::ACCOUNTS],
+    ghost value_of = { term_value };
+
+    fn number(&self) -> u32 {
+        match *self {
+            TermRefusal::Base(base) => base.number(),
+            TermRefusal::TapeUndated => 11,
+            TermRefusal::NotATerm => 12,
+        }
+    }
+
+    fn value(&self) -> u32 {
+        match *self {
+            TermRefusal::Base(base) => base.value(),
+            TermRefusal::TapeUndated | TermRefusal::NotATerm => 0,
+        }
     }
 }
 
@@ -86,34 +72,32 @@ fn total_dates(
     n: usize,
     start: Date,
     term: Term,
-) -> TermTotalled
+) -> Result<[u32; Pattern::ACCOUNTS], TermRefusal>
     requires { (n ≤ length letters.old) × (n ≤ letter_limit) × Owned accounts.old n }
     ensures { DatesTotals start term (pairs n letters.old accounts.old) result }
 {
-    let dates = is_date(last_date(letters, n, start));
-    let known = is_term(term);
-    if !dates {
-        return no_term_totals(TermRefusal::TapeUndated);
+    if !is_date(last_date(letters, n, start)) {
+        return Err(TermRefusal::TapeUndated);
     }
-    if !known {
-        return no_term_totals(TermRefusal::NotATerm);
+    if !is_term(term) {
+        return Err(TermRefusal::NotATerm);
     }
     let kept = select_term(letters, accounts, n, start, term);
-    TermTotalled {
-        outcome: TermOutcome::Added,
-        litres: add_up(letters, accounts, kept),
-    }
+    Ok(add_up(letters, accounts, kept))
 }
 
 // Litres by account within a term, of a tape whose first letter has the date `start`.
-pub fn term_totals(p: Pattern, code: &[u8], count: u32, start: Date, term: Term) -> TermTotalled
+pub fn term_totals(
+    p: Pattern,
+    code: &[u8],
+    count: u32,
+    start: Date,
+    term: Term,
+) -> Result<[u32; Pattern::ACCOUNTS], TermRefusal>
     ensures { TermTotals p code.now count start term result }
 {
-    let mut letters = [0u8; Pattern::MAX_LETTERS];
-    let mut accounts = [0u8; Pattern::MAX_LETTERS];
-    let gathered = gather(p, code, count, &mut letters, &mut accounts);
-    match gathered {
-        Err(why) => no_term_totals(TermRefusal::Base(why)),
-        Ok(n) => total_dates(&mut letters, &mut accounts, n, start, term),
-    }
+    let mut letters = [0; Pattern::MAX_LETTERS];
+    let mut accounts = [0; Pattern::MAX_LETTERS];
+    let n = gather(p, code, count, &mut letters, &mut accounts)?;
+    total_dates(&mut letters, &mut accounts, n, start, term)
 }

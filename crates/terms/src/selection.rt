@@ -1,24 +1,11 @@
 // Selecting the entries of a term: they move to the front of the two arrays, where totals' own loop adds them up.
-ghost use Rattle.std.specs.Prelude.{◌≡◌, ◌≤◌, ◌<◌, length};
+ghost use Rattle.std.specs.Prelude.{◌≡◌, ◌≤◌, length};
 ghost use Rattle.entries.specs.Gather.{Owned};
-ghost use Rattle.terms.specs.Selection.{Keeps, Selects};
+ghost use Rattle.terms.specs.Selection.{Selects};
 
 use crate::Term;
 use crate::days::{DAY_END, day_of};
 use calendar::{Date, next_date};
-
-// Copies entry i to cell `kept` if its day is in the term, and answers how many entries are kept then.
-fn keep_entry(letters: &mut [u8], accounts: &mut [u8], kept: usize, i: usize, inside: bool) -> usize
-    requires { (kept ≤ i) × (i < length letters.old) × (i < length accounts.old) }
-    ensures { Keeps kept i inside letters.old accounts.old letters.new accounts.new result }
-{
-    if !inside {
-        return kept;
-    }
-    letters[kept] = letters[i];
-    accounts[kept] = accounts[i];
-    kept + 1
-}
 
 // Keeps those of the first n entries whose dates lie in the term, and answers how many they are. The day changes in a branch: handed back by
 // a function, it is copied in memory for each letter.
@@ -34,14 +21,15 @@ pub(crate) fn select_term(
 {
     let mut day = day_of(term, start);
     let mut kept = 0;
-    let mut i = 0;
-    while i < n {
+    for i in 0..n {
         let c = letters[i];
-        kept = keep_entry(letters, accounts, kept, i, day.inside);
-        i += 1;
+        if day.inside {
+            letters[kept] = c;
+            accounts[kept] = accounts[i];
+            kept += 1;
+        }
         if c == DAY_END {
-            let date = next_date(day.date);
-            day = day_of(term, date);
+            day = day_of(term, next_date(day.date));
         }
     }
     kept

@@ -1,16 +1,20 @@
 -- `terms::term_totals` meets its contract.
-use Rattle.terms.specs.TermWays.{term_totals-refused, term_totals-dated}
+use Rattle.std.proofs.Common.{◌≡◌, Err, sym, rules}
+use Rattle.terms.specs.declared.TermRefusal.TheVariants.{Base}
+use Rattle.terms.specs.TermWays.{refused-answer, refused-litres, first-base, term_totals-dated}
 use Rattle.terms.proofs.term_totals.Goals as goal
 
+pub returns-in_err-n : goal.returns-in_err-n
+returns-in_err-n c =
+    let why = Base c.in_err-n.field-0.0 in
+    let e : c.from_residual.result ≡ Err why = search rules in
+    let first = first-base _ _ _ _ _ (c.gather.ensures.refuses _ c.in_err-n.was) in
+    rw e (record { answers = sym (refused-answer _ _ _ _ _ why first); gives = sym (refused-litres _ _ _ _ _ why first) })
+
 pub total_dates-requires : goal.total_dates-requires
-total_dates-requires c = (c.gather-gathered.ensures.holds _ c.in-Ok.is).ready
+total_dates-requires c = (c.gather.ensures.holds _ c.in_ok-n.was).ready
 
-pub returns-in-Err : goal.returns-in-Err
-returns-in-Err c =
-    let gathers = c.gather-gathered.ensures in
-    rw c.no_term_totals.ensures (term_totals-refused _ _ _ _ _ _ (gathers.refuses _ c.in-Err.is))
-
-pub returns-in-Ok : goal.returns-in-Ok
-returns-in-Ok c =
-    let held = c.gather-gathered.ensures.holds _ c.in-Ok.is in
+pub returns : goal.returns
+returns c =
+    let held = c.gather.ensures.holds _ c.in_ok-n.was in
     term_totals-dated _ _ _ _ _ held.clear _ held.entries _ c.total_dates.ensures

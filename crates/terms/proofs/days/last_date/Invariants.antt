@@ -1,10 +1,7 @@
 -- `terms::days::last_date` meets its contract.
-use Prim.Native.Nat.{◌-◌}
-use Rattle.terms.specs.Days.{Stepped}
+use Rattle.std.proofs.Common.{◌≡◌, take}
+use Rattle.terms.specs.Days.{date_behind}
 use Rattle.terms.proofs.days.last_date.Given as goal
 
-abbrev pub invariant-loop-i : goal.invariant-loop-i
-invariant-loop-i l = Stepped l.letters l.initial.date l.date l.n l.i
-
-abbrev pub decreases-loop-i : goal.decreases-loop-i
-decreases-loop-i l = l.n - l.i
+abbrev pub invariant-loop-c : goal.invariant-loop-c
+invariant-loop-c l = l.date ≡ date_behind l.initial.date (take l.c-index l.c-items)
