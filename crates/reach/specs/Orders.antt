@@ -1,6 +1,6 @@
 -- Locating: the first cause that holds is answered, whatever later causes hold, and never otherwise. 2, 3 and 4 are `tape_2`, `tape_3` and `tape_4`
 -- of crate checks.
-use Rattle.std.specs.Prelude.{◌≡◌, List, [], ◌∷◌, ℕ, ◌≤◌}
+use Rattle.std.specs.Prelude.{◌≡◌, List, [], ◌∷◌, ℕ, ◌≤◌, Err, Result}
 use Rattle.std.proofs.Math.Path.{refl, ap}
 use Rattle.std.proofs.Common.{sym, ◌∙◌, arith}
 use Rattle.std.proofs.Math.Decide.{dec_le}
@@ -10,8 +10,7 @@ use Rattle.refusals.specs.Refusals.{answer}
 use Rattle.refusals.specs.RefusalLaws.{number_positive}
 use Rattle.refusals.specs.Checks.{numbers, First}
 use Rattle.refusals.specs.CheckLaws.{refused_first}
-use Rattle.reach.specs.declared.Located.{Located}
-use Rattle.reach.specs.declared.Located.TheVariants.{Refused}
+use Rattle.reach.specs.declared.Positions.{Positions}
 use Rattle.reach.specs.Locate.{located_answer, locate_order, locate_refusal, Locates}
 use Rattle.reach.specs.Unique.{locates_first}
 
@@ -19,12 +18,12 @@ use Rattle.reach.specs.Unique.{locates_first}
 pub locate_numbers : (p : Pattern) (tape : List ℕ) → numbers (locate_order p tape) ≡ 2 ∷ 3 ∷ 4 ∷ []
 locate_numbers p tape = refl
 
-module _ (p : Pattern) (tape : List ℕ) (r : Located) (h : Locates p tape r) (why : Refusal) where
-  pub locate_only : First why (locate_order p tape) → r ≡ Refused why
+module _ (p : Pattern) (tape : List ℕ) (r : Result Positions Refusal) (h : Locates p tape r) (why : Refusal) where
+  pub locate_only : First why (locate_order p tape) → r ≡ Err why
   locate_only f = locates_first p tape why f r h
 
   -- "and never otherwise"
-  pub locate_first : r ≡ Refused why → First why (locate_order p tape)
+  pub locate_first : r ≡ Err why → First why (locate_order p tape)
   unfolding locate_refusal
   locate_first e = go (dec_le 1 (locate_refusal p tape).number)
     where

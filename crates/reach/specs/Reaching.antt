@@ -1,23 +1,17 @@
 -- LAWS of the loops: leaf after leaf, the lowest of those left first; letter after letter, from the start and from the end; and that they give the
 -- positions of the definition.
-use Rattle.std.specs.Prelude.{◌≡◌, Bool, false, ◌&&◌, not}
-use Rattle.std.proofs.Math.Path.{refl, sym, ap, ap₂}
-use Rattle.std.proofs.Common.{subst, ◌∙◌, true≢false, add-one, drop_of_length-le, drop-cons, eq-eqb, ne_eqb}
-use Rattle.std.proofs.Math.Bool.{true, cond, and-true}
-use Rattle.std.proofs.lemmas.Bool.{false≢true}
-use mathlib.Core.List.{List, [], ◌∷◌}
-use Prim.Native.Nat.{ℕ, suc, ◌+◌, ◌-◌, ◌*◌, ◌^◌, ◌≤◌, ◌<◌}
-use Rattle.std.proofs.Math.Nat.{add-zero}
-use native.Mathlib.Omega.{arith}
+use Rattle.std.specs.Prelude.{◌≡◌, refl, Bool, true, false, ◌&&◌, not, cond, List, [], ◌∷◌, ◌++◌, ℕ, suc, ◌+◌, ◌-◌, ◌*◌, ◌%◌, ◌^◌, ◌≤◌, ◌<◌, length, drop, get_or, Ok}
+use Rattle.std.proofs.Common.{sym, ap, ap₂, ◌∙◌, arith, add-zero, zero-add, zero-mul, drop_of_length-le, drop-cons, length-append, append-nil, append_assoc, eq-eqb, ne_eqb, lt-ltb, le-ltb}
+use Rattle.std.proofs.Math.Bool.{and-true}
+use Rattle.std.specs.Int.{from_bool}
+use Rattle.std.specs.List.{push}
 use Rattle.std.specs.Int.Bits.{bit_or, bit_and}
 use Rattle.std.specs.Int.Count.{count_trailing_zeros}
-use Rattle.std.proofs.Math.ListN.{length, get_or, drop}
-use Rattle.std.proofs.Math.Seq.{drop-length}
 use Rattle.syntax.specs.declared.Pattern.{Pattern}
 use Rattle.syntax.specs.Letter.{is_letter, letter_limit}
 use Rattle.syntax.specs.Trees.{root}
 use Rattle.syntax.specs.TreeLaws.{Rules}
-use Rattle.bits.specs.Bits.{test_bit}
+use Rattle.bits.specs.Bits.{bit, test_bit}
 use Rattle.bits.specs.Joining.{Joining, joining_start, joining_next, joining_end}
 use Rattle.bits.specs.Lowest.{lowest_cleared}
 use Rattle.bits.specs.Unions.{pick, union, union_same}
@@ -27,11 +21,11 @@ use Rattle.semantics.specs.Every.{All}
 use Rattle.table.specs.Cells.{follower_in, Holds}
 use Rattle.masks.specs.Leaves.{entry}
 use Rattle.masks.specs.Masks.{MasksOf}
+use Rattle.masks.specs.Scatter.{shifted}
 use Rattle.steps.specs.declared.Words.{Words}
 use Rattle.steps.specs.Steps.{step_of}
 use Rattle.first_sweep.specs.SweepWords.{first_one, sweep_of, AllLetters, sweep_words}
 use Rattle.first_sweep.specs.Fill.{all_letters}
-use Rattle.reach.specs.declared.Located.TheVariants.{Positions}
 use Rattle.reach.specs.Locate.{Tells}
 use Rattle.reach.specs.FrontWords.{has_any, matched_leaves, state_word, following, root_word, reach_from, reach_words, resume_words}
 use Rattle.reach.specs.FrontWordLaws.{reach_words-reach}
@@ -74,6 +68,21 @@ following_end ts m rest a q e =
     joined_end m each (λ y. state_word (follower_in ts y)) rest a q e
     ∙ union_same 64 (λ x. test_bit m x && true) (test_bit m) (λ y. state_word (follower_in ts y)) (λ y. state_word (follower_in ts y))
     (λ x h. and-true (test_bit m x)) (λ x h. refl)
+
+-- a leaf's bit where its mask meets the nodes
+pub met-bit : (i met : ℕ) → i < 64 → (from_bool (has_any met) * 2 ^ i) % 2 ^ 64 ≡ pick (has_any met) (1 * 2 ^ i)
+met-bit i met h = shifted i (has_any met) h ∙ go (has_any met)
+  where
+    go : (b : Bool) → bit b * 2 ^ i ≡ pick b (1 * 2 ^ i)
+    go true = refl
+    go false = zero-mul (2 ^ i)
+
+-- a state's bit
+pub state-bit : (f : ℕ) → f < 64 → (1 * 2 ^ f) % 2 ^ 64 ≡ state_word f
+state-bit f h = rw (lt-ltb f 64 h) (shifted f true h)
+
+pub state_none : (f : ℕ) → 64 ≤ f → 0 ≡ state_word f
+state_none f h = rw (le-ltb f 64 h) (sym (zero-mul (2 ^ f)))
 
 -- ---- letter after letter
 pub record Reading (os ts ks : List ℕ) (count : ℕ) (tape : List ℕ) (i nodes : ℕ) : Type 0 where
@@ -119,51 +128,46 @@ module _ (os ts ks : List ℕ) (count : ℕ) (tape : List ℕ) where
 
 -- ---- from the end, letter after letter
 module _ (zs os ts ks : List ℕ) (e : ℕ) (tape : List ℕ) where
-  -- on the way, before position i: the flag 1 word there, whether it is the tape's end, and where the letters from i on resume
-  pub record Resuming (i next : ℕ) (last : Bool) (found : ℕ) : Type 0 where
-    pub within : i ≤ length tape
-    pub ahead : next ≡ first_one (sweep_of zs os ts ks e (drop i tape))
-    pub ends : last ≡ at_end true (drop i tape)
-    pub so_far : found ≡ i + resume_words zs os ts ks e (drop i tape)
+  -- on the way, behind the letters left: the flag 1 word there, whether it is the tape's end, and where the letters read resume
+  pub record Resuming (left : List ℕ) (next : ℕ) (last : Bool) (found : ℕ) : Type 0 where
+    pub read : List ℕ
+    pub whole : tape ≡ left ++ read
+    pub ahead : next ≡ first_one (sweep_of zs os ts ks e read)
+    pub ends : last ≡ at_end true read
+    pub so_far : found ≡ length left + resume_words zs os ts ks e read
 
-  pub resuming_start : Resuming (length tape) e true (length tape)
+  pub resuming_start : Resuming tape e true (length tape)
   unfolding resume_words
-  resuming_start =
-      let d : drop (length tape) tape ≡ [] = drop-length tape in
-      record { within = omega arith; ahead = rw d refl; ends = rw d refl; so_far = rw d (sym (add-zero (length tape))) }
+  resuming_start = record { read = []; whole = sym (append-nil tape); ahead = refl; ends = refl; so_far = sym (add-zero (length tape)) }
 
-  chosen_so : (a b : Bool) (i n f found : ℕ) → a ≡ b → f ≡ cond a i found → found ≡ i + 1 + n → f ≡ i + cond b 0 (suc n)
-  chosen_so true true i n f found q g h = omega (arith, g)
-  chosen_so false false i n f found q g h = omega (arith, g, h)
-  chosen_so true false i n f found q g h = absurd (true≢false q)
-  chosen_so false true i n f found q g h = absurd (false≢true q)
+  -- the last letter left is read
+  module _ (left rest : List ℕ) (next c : ℕ) (last : Bool) (found : ℕ) (w : Words) (q : Resuming left next last found) (d : left ≡ push rest c)
+      (s : w ≡ step_of zs os ts (entry ks c) next last) where
+    stepped : w ≡ step_of zs os ts (entry ks c) (first_one (sweep_of zs os ts ks e q.read)) (at_end true q.read)
+    stepped = s ∙ ap₂ (step_of zs os ts (entry ks c)) q.ahead q.ends
 
-  resuming_next : (i next c : ℕ) (last : Bool) (found f : ℕ) (w : Words) → Resuming (i + 1) next last found → c ≡ get_or tape i 0
-      → w ≡ step_of zs os ts (entry ks c) next last → f ≡ cond (has_any w.one) i found → Resuming i w.one false f
-  unfolding resume_words
-  resuming_next i next c last found f w q g h k =
-      let b : suc i ≤ length tape = omega (arith, q.within) in
-      let d : drop i tape ≡ get_or tape i 0 ∷ drop (i + 1) tape = rw (add-one i) (drop-cons tape i 0 b) in
-      let s : w ≡ step_of zs os ts (entry ks (get_or tape i 0)) (first_one (sweep_of zs os ts ks e (drop (i + 1) tape))) (at_end true (drop (i + 1) tape)) =
-      h ∙ ap (λ x. step_of zs os ts (entry ks x) next last) g ∙ ap₂ (λ x y. step_of zs os ts (entry ks (get_or tape i 0)) x y) q.ahead q.ends in
-      record {
-        within = omega (arith, q.within);
-        ahead = rw d (ap (λ x. x.one) s);
-        ends = rw d refl;
-        so_far = rw d (chosen_so (has_any w.one) (has_any (step_of zs os ts (entry ks (get_or tape i 0))
-            (first_one (sweep_of zs os ts ks e (drop (i + 1) tape))) (at_end true (drop (i + 1) tape))).one)
-            i (resume_words zs os ts ks e (drop (i + 1) tape)) f found (ap (λ x. has_any x.one) s) k q.so_far);
-      }
+    resumed-at : (f : ℕ) → f ≡ length rest + cond (has_any w.one) 0 (suc (resume_words zs os ts ks e q.read)) → Resuming rest w.one false f
+    unfolding resume_words
+    resumed-at f g = record {
+      read = c ∷ q.read;
+      whole = q.whole ∙ ap (λ l. l ++ q.read) d ∙ append_assoc rest (c ∷ []) q.read;
+      ahead = ap (λ v. v.one) stepped;
+      ends = refl;
+      so_far = g ∙ ap (λ v. length rest + cond (has_any v.one) 0 (suc (resume_words zs os ts ks e q.read))) stepped;
+    }
 
-  -- the same, counting down
-  pub resuming_down : (i next c : ℕ) (last : Bool) (found f : ℕ) (w : Words) → 0 < i → Resuming i next last found → c ≡ get_or tape (i - 1) 0
-      → w ≡ step_of zs os ts (entry ks c) next last → f ≡ cond (has_any w.one) (i - 1) found → Resuming (i - 1) w.one false f
-  resuming_down i next c last found f w o q =
-      let j : i ≡ i - 1 + 1 = omega arith in
-      resuming_next (i - 1) next c last found f w (subst (λ x. Resuming x next last found) j q)
+    pub resuming_here : (w.one ≡ 0 → ⊥) → Resuming rest w.one false (length rest)
+    resuming_here n = resumed-at (length rest) (rw (ne_eqb w.one 0 n) (sym (add-zero (length rest))))
 
-  pub resuming_end : (next : ℕ) (last : Bool) (found : ℕ) → Resuming 0 next last found → found ≡ resume_words zs os ts ks e tape
-  resuming_end next last found q = let z : 0 + resume_words zs os ts ks e tape ≡ resume_words zs os ts ks e tape = omega arith in q.so_far ∙ z
+    pub resuming_later : w.one ≡ 0 → Resuming rest w.one false found
+    resuming_later z =
+        let more : length left ≡ length rest + 1 = ap length d ∙ length-append rest (c ∷ []) in
+        resumed-at found (rw (eq-eqb w.one 0 z) (omega (arith, q.so_far, more)))
+
+  pub resuming_end : (left : List ℕ) (next : ℕ) (last : Bool) (found : ℕ) → Resuming left next last found → length left ≡ 0
+      → found ≡ resume_words zs os ts ks e tape
+  resuming_end [] next last found q z = q.so_far ∙ zero-add (resume_words zs os ts ks e q.read) ∙ ap (resume_words zs os ts ks e) (sym q.whole)
+  resuming_end (c ∷ left) next last found q z = absurd (omega arith)
 
 -- ---- over a pattern
 -- a tested table, at most 3,600 letters, and nothing but letters
@@ -190,7 +194,7 @@ module _ (p : Pattern) (tape zs os ts ks : List ℕ) (e : ℕ) (f : Locatable p 
   resumed i q = rw (q ∙ resume_same tape (all_letters tape f.letters)) (resume_of_resumes p f.rules tape)
 
   -- both fit 16 bits
-  pub told : (k i : ℕ) → k ≡ reach_words os ts ks p.count tape → i ≡ resume_words zs os ts ks e tape → Tells (root p) tape (Positions k i)
+  pub told : (k i : ℕ) → k ≡ reach_words os ts ks p.count tape → i ≡ resume_words zs os ts ks e tape → Tells (root p) tape (Ok (record { reach = k; resume = i }))
   told k i a b = record { reach = k; resume = i; is = refl; reaches = reached k a; resumes = resumed i b }
 
   pub reach_fits : (k : ℕ) → k ≡ reach_words os ts ks p.count tape → k < 65536

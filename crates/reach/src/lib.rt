@@ -6,13 +6,11 @@
 // word is not 0. So no words are lent, and none are stored: the words of a tape would take 57 KB of stack.
 #![tactic(auto)]
 
-ghost use Rattle.std.specs.Prelude.{◌≡◌, cond, ◌*◌, ◌^◌, ◌≤◌, ◌<◌, length};
+ghost use Rattle.std.specs.Prelude.{◌≡◌, ◌≤◌};
 ghost use Rattle.syntax.specs.Trees.{root};
-ghost use Rattle.bits.specs.Unions.{pick};
 ghost use Rattle.table.specs.Cells.{Holds};
-ghost use Rattle.checks.specs.TapeLaws.{IsTaken};
 ghost use Rattle.reach.specs.Locate.{Tells, Locates};
-ghost use Rattle.reach.specs.FrontWords.{has_any, matched_leaves, state_word, following, reach_words, resume_words};
+ghost use Rattle.reach.specs.FrontWords.{matched_leaves, state_word, following, reach_words, resume_words};
 ghost use Rattle.reach.specs.Reaching.{Locatable};
 
 use checks::check_tape;
@@ -23,22 +21,11 @@ use steps::step;
 use syntax::Pattern;
 use table::{follower_at, table_of};
 
-// What locating answers: the reach of the tape and the position at which it resumes, or why it is refused.
-#[derive(Clone, Copy)]
-pub enum Located {
-    Positions(u16, u16),
-    Refused(Refusal),
-}
-
-// A leaf's bit if its mask meets the nodes, else 0.
-fn chosen(leaf: usize, met: u64) -> u64
-    requires { leaf < 64 }
-    ensures { result ≡ pick (has_any met) (1 * 2 ^ leaf) }
-{
-    if met == 0 {
-        return 0;
-    }
-    1u64 << leaf
+// Where a tape breaks: how many of its first letters begin some tape of the pattern, at most, and from which position on its letters end one, at least.
+#[derive(Clone, Copy, Debug, PartialEq, Eq)]
+pub struct Positions {
+    pub reach: u16,
+    pub resume: u16,
 }
 
 // The leaves that take a letter and that one of the nodes reaches.
@@ -46,12 +33,11 @@ fn matched(one: &[u64; 64], nodes: u64, takers: u64) -> u64
     ensures { result ≡ matched_leaves one.now nodes takers }
 {
     let mut rest = takers;
-    let mut leaves: u64 = 0;
+    let mut leaves = 0;
     while rest != 0 {
-        let x = u64::trailing_zeros(rest);
-        let i = x as usize;
-        rest = rest & (rest - 1);
-        leaves = leaves | chosen(i, one[i] & nodes);
+        let i = rest.trailing_zeros() as usize;
+        rest &= rest - 1;
+        leaves |= u64::from(one[i] & nodes != 0) << i;
     }
     leaves
 }
@@ -60,10 +46,7 @@ fn matched(one: &[u64; 64], nodes: u64, takers: u64) -> u64
 fn state_bit(state: u8) -> u64
     ensures { result ≡ state_word state }
 {
-    if state < 64 {
-        return 1u64 << state;
-    }
-    0
+    if state < 64 { 1 << state } else { 0 }
 }
 
 // The nodes that follow leaves.
@@ -71,12 +54,11 @@ fn follow(table: &[u64; 64], leaves: u64) -> u64
     ensures { result ≡ following table.now leaves }
 {
     let mut rest = leaves;
-    let mut nodes: u64 = 0;
+    let mut nodes = 0;
     while rest != 0 {
-        let x = u64::trailing_zeros(rest);
-        let i = x as usize;
-        rest = rest & (rest - 1);
-        nodes = nodes | state_bit(follower_at(table, i));
+        let i = rest.trailing_zeros() as usize;
+        rest &= rest - 1;
+        nodes |= state_bit(follower_at(table, i));
     }
     nodes
 }
@@ -92,32 +74,19 @@ fn reach_over(
     requires { (1 ≤ count) × (count ≤ 64) }
     ensures { result ≡ reach_words one.now table.now takers.now count tape.now }
 {
-    let mut nodes = 1u64 << (count - 1);
-    let mut i = 0;
-    while i < tape.len() {
-        let c = tape[i] as usize;
-        let leaves = matched(one, nodes, takers[c]);
+    let mut nodes = 1 << (count - 1);
+    for (i, &c) in tape.iter().enumerate() {
+        let leaves = matched(one, nodes, takers[usize::from(c)]);
         if leaves == 0 {
             return i;
         }
         nodes = follow(table, leaves);
-        i += 1;
     }
-    i
+    tape.len()
 }
 
-// This position if its flag 1 word is not 0, else the one found after it.
-fn earlier(word: u64, i: usize, found: usize) -> usize
-    ensures { result ≡ cond (has_any word) i found }
-{
-    if word == 0 {
-        return found;
-    }
-    i
-}
-
-// The position at which a tape resumes, over the masks of a pattern. `end` is the flag 1 word of the tape's end, which decides nothing here: no
-// letters always end a tape.
+// The position at which a tape resumes, over the masks of a pattern: the first whose flag 1 word is not 0. `end` is the flag 1 word of the tape's end,
+// which decides nothing here: no letters always end a tape.
 fn resume_over(
     zero: &[u64; 64],
     one: &[u64; 64],
@@ -130,49 +99,41 @@ fn resume_over(
 {
     let mut next = end;
     let mut last = true;
-    let mut i = tape.len();
-    let mut found = i;
-    while 0 < i {
-        i -= 1;
-        let c = tape[i] as usize;
-        let w = step(zero, one, table, takers[c], next, last);
-        found = earlier(w.one, i, found);
-        next = w.one;
+    let mut found = tape.len();
+    for (i, &c) in tape.iter().enumerate().rev() {
+        next = step(zero, one, table, takers[usize::from(c)], next, last).one;
         last = false;
+        if next != 0 {
+            found = i;
+        }
     }
     found
 }
 
 // Both positions, over one set of masks.
-fn positions(p: Pattern, table: &[u64; 64], tape: &[u8]) -> Located
+fn positions_of(p: Pattern, table: &[u64; 64], tape: &[u8]) -> Positions
     requires { Locatable p tape.now × Holds p table.now }
-    ensures { Tells (root p) tape.now result }
+    ensures { Tells (root p) tape.now (Ok result) }
 {
-    let mut zero = [0u64; 64];
-    let mut one = [0u64; 64];
+    let mut zero = [0; 64];
+    let mut one = [0; 64];
     let end = put_masks(table, p.count, &mut zero, &mut one);
-    let mut takers = [0u64; LETTER_CELLS];
+    let mut takers = [0; LETTER_CELLS];
     put_takers(table, p.count, &mut takers);
     let reach = reach_over(&one, table, &takers, p.count, tape);
     let resume = resume_over(&zero, &one, table, &takers, end, tape);
-    Located::Positions(reach as u16, resume as u16)
+    Positions {
+        reach: reach as u16,
+        resume: resume as u16,
+    }
 }
 
-// The same, of a tape that is taken.
-fn locate_taken(p: Pattern, tape: &[u8]) -> Located
-    requires { IsTaken p tape.now }
-    ensures { Tells (root p) tape.now result }
-{
-    let table = table_of(p);
-    positions(p, &table, tape)
-}
-
-// WHERE A TAPE BREAKS: the reach, and the position at which it resumes. Of a readable tape they are its length and 0.
-pub fn locate(p: Pattern, tape: &[u8]) -> Located
+// WHERE A TAPE BREAKS: the reach, and the position at which it resumes, or the first cause in the service's order. Of a readable tape they are its
+// length and 0.
+pub fn locate(p: Pattern, tape: &[u8]) -> Result<Positions, Refusal>
     ensures { Locates p tape.now result }
 {
-    match check_tape(p, tape) {
-        Err(why) => Located::Refused(why),
-        Ok(()) => locate_taken(p, tape),
-    }
+    check_tape(p, tape)?;
+    let table = table_of(p);
+    Ok(positions_of(p, &table, tape))
 }

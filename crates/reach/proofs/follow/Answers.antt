@@ -2,10 +2,8 @@
 use native.Mathlib.Omega.{arith}
 use mathlib.Core.Path.{refl, ap, ◌∙◌}
 use Rattle.reach.specs.FrontWords.{state_word}
-use Rattle.table.specs.Cells.{follower_in}
-use Rattle.reach.specs.Reaching.{Joined, joined-start, joined_next, each, following_end}
+use Rattle.reach.specs.Reaching.{joined-start, joined_next, following_end}
 use Rattle.bits.specs.Lowest.{Lowest, lowest}
-use borrow.Author.Rules.{rules}
 use Rattle.reach.proofs.follow.Goals as goal
 use Rattle.reach.proofs.follow.Goals.{In-loop-rest}
 

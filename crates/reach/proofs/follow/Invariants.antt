@@ -1,11 +1,7 @@
 -- `reach::follow` meets its contract.
-use native.Mathlib.Omega.{arith}
-use mathlib.Core.Path.{refl, ap, ◌∙◌}
 use Rattle.reach.specs.FrontWords.{state_word}
 use Rattle.table.specs.Cells.{follower_in}
-use Rattle.reach.specs.Reaching.{Joined, joined-start, joined_next, each, following_end}
-use Rattle.bits.specs.Lowest.{Lowest, lowest}
-use borrow.Author.Rules.{rules}
+use Rattle.reach.specs.Reaching.{Joined, each}
 use Rattle.reach.proofs.follow.Given as goal
 
 abbrev pub invariant-loop-rest : goal.invariant-loop-rest

@@ -1,8 +1,10 @@
 -- `reach::matched` meets its contract.
 use Prim.Native.Nat.{◌*◌, ◌^◌}
 use native.Mathlib.Omega.{arith}
-use mathlib.Core.Path.{refl}
-use Rattle.reach.specs.Reaching.{Joined, joined-start, joined_next, met, matched_end}
+use mathlib.Core.Path.{refl, ap, ◌∙◌}
+use Rattle.reach.specs.Reaching.{joined-start, joined_next, met-bit, matched_end}
+use Rattle.std.specs.Int.Count.{count_trailing_zeros}
+use Prim.Native.Nat.{◌%◌}
 use Rattle.bits.specs.Lowest.{Lowest, lowest}
 use Rattle.reach.proofs.matched.Goals as goal
 use Rattle.reach.proofs.matched.Goals.{In-loop-rest}
@@ -26,14 +28,12 @@ offset_bounds-one-i c = omega (arith, (here (goal.at.offset_bounds-one-i c).In-l
 pub bounds-one-i : goal.bounds-one-i
 bounds-one-i c = (here (goal.at.bounds-one-i c).In-loop-rest).small
 
-pub chosen-leaves-requires : goal.chosen-leaves-requires
-chosen-leaves-requires c = (here (goal.at.chosen-leaves-requires c).In-loop-rest).small
-
 pub loop-rest-smaller : goal.loop-rest-smaller
 loop-rest-smaller c = (here (goal.at.loop-rest-smaller c).In-loop-rest).less
 
 pub loop-rest-preserved : goal.loop-rest-preserved
-loop-rest-preserved c = joined_next _ _ _ _ _ _ _ c.loop-rest.invariant (omega (arith, c.loop-rest-test.true)) refl c.chosen-leaves.ensures
+loop-rest-preserved c = joined_next _ _ _ _ _ _ _ c.loop-rest.invariant (omega (arith, c.loop-rest-test.true)) refl
+    (ap (λ b. (b * 2 ^ count_trailing_zeros 64 c.loop-rest.rest) % 2 ^ 64) c.from.ensures ∙ met-bit _ _ (here (goal.at.loop-rest-preserved c).In-loop-rest).small)
 
 pub returns : goal.returns
 returns c = matched_end _ _ _ _ _ c.loop-rest.invariant c.loop-rest-test.false

@@ -1,9 +1,6 @@
 -- `reach::matched` meets its contract.
 use Prim.Native.Nat.{◌*◌, ◌^◌}
-use native.Mathlib.Omega.{arith}
-use mathlib.Core.Path.{refl}
-use Rattle.reach.specs.Reaching.{Joined, joined-start, joined_next, met, matched_end}
-use Rattle.bits.specs.Lowest.{Lowest, lowest}
+use Rattle.reach.specs.Reaching.{Joined, met}
 use Rattle.reach.proofs.matched.Given as goal
 
 abbrev pub invariant-loop-rest : goal.invariant-loop-rest

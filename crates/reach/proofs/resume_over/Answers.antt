@@ -1,37 +1,33 @@
 -- `reach::resume_over` meets its contract.
-use Prim.Native.Nat.{◌-◌, ◌<◌}
-use mathlib.Core.Path.{◌≡◌, refl}
-use native.Mathlib.Omega.{arith}
-use lib.ListN.{get_or}
-use Rattle.reach.specs.Reaching.{Resuming, resuming_start, resuming_down, resuming_end}
-use borrow.Author.Rules.{rules}
+use Rattle.std.proofs.Common.{◌≡◌, length, sym, ap, ◌∙◌, arith}
+use Rattle.std.specs.Iterator.Adapters.{rev_source, enumerate_source, enumerate_count}
+use Rattle.std.specs.List.{push}
+use Rattle.std.specs.Slice.Iter.{iter_rest}
+use Rattle.reach.specs.Reaching.{resuming_start, resuming_here, resuming_later, resuming_end}
 use Rattle.reach.proofs.resume_over.Goals as goal
-use Rattle.reach.proofs.resume_over.Goals.{In-loop-i}
-
--- a byte of the tape
-letter : (c : goal.In-loop-i)
-    → get_or c.args.tape.now (c.loop-i.i - 1) 0 < 256
-letter c = omega (arith, (c.type_inv.tape (c.loop-i.i - 1)).fits)
 
 pub loop-i-init : goal.loop-i-init
-loop-i-init c = resuming_start _ _ _ _ _ _
+loop-i-init c =
+    let s = ap rev_source c.into_iter-i-iterator.ensures.into_iter_gives ∙ c.rev-i-items.ensures.source in
+    let r = ap (λ i. iter_rest (enumerate_source i)) s ∙ ap iter_rest c.enumerate.ensures.source ∙ c.iter.ensures.rest in
+    (ap enumerate_count s ∙ c.enumerate.ensures.count, rw r (resuming_start _ _ _ _ _ _))
 
-pub bounds-tape-i : goal.bounds-tape-i
-bounds-tape-i c = omega (arith, c.loop-i.invariant.within)
-
-pub overflow_cast-c : goal.overflow_cast-c
-overflow_cast-c c = omega (arith, letter (goal.at.overflow_cast-c c).In-loop-i)
-
-pub offset_bounds-takers-c : goal.offset_bounds-takers-c
-offset_bounds-takers-c c = omega (arith, letter (goal.at.offset_bounds-takers-c c).In-loop-i)
-
-pub bounds-takers-c : goal.bounds-takers-c
-bounds-takers-c c = letter (goal.at.bounds-takers-c c).In-loop-i
+pub loop-i-preserved-then-next-ne0 : goal.loop-i-preserved-then-next-ne0
+loop-i-preserved-then-next-ne0 c =
+    let t = c.in-Some.ensures.steps in
+    let i : c.in-Some.i ≡ length (iter_rest (enumerate_source (rev_source c.next.new.self))) = omega (arith, t.1.1, c.loop-i.invariant.0) in (
+      t.0 ∙ c.loop-i.invariant.0,
+      rw i (resuming_here _ _ _ _ _ _ _ _ _ _ _ _ _ c.loop-i.invariant.1 (t.1.0 ∙ ap (push _) (sym c.from.ensures))
+          c.step-next.ensures c.if-next-ne0.true),
+    )
 
 pub loop-i-preserved : goal.loop-i-preserved
-loop-i-preserved c = let l = c.loop-i in
-    resuming_down _ _ _ _ _ _ _ _ _ _ _ _ _ c.loop-i-test.true l.invariant refl c.step-w.ensures c.earlier-found.ensures
+loop-i-preserved c =
+    let t = c.in-Some.ensures.steps in (
+      t.0 ∙ c.loop-i.invariant.0,
+      resuming_later _ _ _ _ _ _ _ _ _ _ _ _ _ c.loop-i.invariant.1 (t.1.0 ∙ ap (push _) (sym c.from.ensures))
+          c.step-next.ensures c.if-next-ne0.false,
+    )
 
 pub returns : goal.returns
-returns c = let z : c.loop-i.i ≡ 0 = omega arith in
-    resuming_end _ _ _ _ _ _ _ _ _ (rw z at c.loop-i.invariant)
+returns c = resuming_end _ _ _ _ _ _ _ _ _ _ c.loop-i.invariant.1 c.in-None.ensures.steps.1.0

@@ -1,10 +1,9 @@
--- `reach::positions` meets its contract.
+-- `reach::positions_of` meets its contract.
 use native.Mathlib.Omega.{arith}
 use Rattle.masks.specs.Leaves.{letter_cells}
 use Rattle.masks.specs.Making.{none_marked, holds_maskable, masks-of-pattern}
 use Rattle.reach.specs.Reaching.{told, reach_fits, resume_fits}
-use borrow.Author.Rules.{rules}
-use Rattle.reach.proofs.positions.Goals as goal
+use Rattle.reach.proofs.positions_of.Goals as goal
 
 pub put_masks-end-requires : goal.put_masks-end-requires
 put_masks-end-requires c = (holds_maskable _ c.requires.0.rules _ c.requires.1, record { zeros = none_marked 64; ones = none_marked 64 })
