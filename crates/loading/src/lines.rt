@@ -13,17 +13,24 @@ pub(crate) fn read_lines(text: &[u8]) -> Result<Pattern, Refusal>
 {
     let mut p = Pattern::new();
     let mut at = 0;
-    while at < text.len() {
+    // Kept: the scope has the scan over lines as a loop that yields the faulty line by break.
+    let fault = loop {
+        if text.len() <= at {
+            break None;
+        }
         let i = p.count;
         if i == Pattern::MAX_LINES {
-            return Err(Refusal::LineForm(Pattern::MAX_LINES as u32));
+            break Some(Pattern::MAX_LINES);
         }
         let Some((line, next)) = scan_line(text, at, i) else {
-            return Err(Refusal::LineForm(i as u32));
+            break Some(i);
         };
         p.lines[i] = line;
-        p.count += 1;
+        p.count = i + 1;
         at = next;
+    };
+    match fault {
+        Some(line) => Err(Refusal::LineForm(line as u32)),
+        None => Ok(p),
     }
-    Ok(p)
 }
