@@ -1,2 +1,3 @@
 pub mod SubpatternCases
 pub mod SubpatternLaws
+pub mod StepLaws
