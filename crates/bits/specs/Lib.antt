@@ -12,3 +12,4 @@ pub use Rattle.binary.specs.Unions
 pub use Rattle.binary.specs.Joining
 pub use Rattle.binary.specs.Paper03
 pub use Rattle.binary.specs.Examples
+pub mod Ones

@@ -9,6 +9,8 @@
 ghost use Rattle.std.specs.Prelude.{◌≡◌, [], ◌∷◌, ◌+◌, ◌*◌, ◌<◌, ◌≤◌, length, get_or};
 ghost use Rattle.binary.specs.Bits.{bit, test_bit, bits_of, bit_at, number_at, cell_count, high_bits, write, handed_good, count_below};
 
+pub mod ones; // ones.rt: the bits that are set in a word
+
 use syntax::Pattern;
 
 // The r highest bits of a byte, the others 0.

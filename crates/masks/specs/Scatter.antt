@@ -6,8 +6,7 @@ use Rattle.std.proofs.Math.Decide.{dec_lt}
 use Rattle.std.proofs.Math.Nat.{mod-eq_of_lt}
 use Rattle.std.proofs.Math.Pow.{pow-lt}
 use Rattle.std.specs.Int.{from_bool}
-use Rattle.std.specs.Int.Bits.{bit_or, bit_and}
-use Rattle.std.specs.Int.Count.{count_trailing_zeros}
+use Rattle.std.specs.Int.Bits.{bit_or}
 use Rattle.std.proofs.lemmas.Bool.{lt-leb}
 use Rattle.syntax.specs.declared.Leaf.{Leaf}
 use Rattle.syntax.specs.declared.Leaf.TheVariants.{Letter, Range}
@@ -20,7 +19,8 @@ use Rattle.bits.specs.Words.{word-bit, word_past, test_or, test_single}
 use Rattle.semantics.proofs.Basics.{eqb_self, and_fst, and_snd}
 use Rattle.table.specs.HandDown.{equal}
 use Rattle.masks.specs.Leaves.{letter_cells, entry}
-use Rattle.bits.specs.Lowest.{same_bits, lowest_lt, lowest_on, lowest_cleared, lowest_out}
+use Rattle.bits.specs.Lowest.{same_bits}
+use Rattle.bits.specs.Ones.{Lowest, given_on, given_out}
 use Rattle.masks.specs.Masks.{Filled, column, leaf_takes, node_takes, line_takers}
 
 -- the bit of line i in the chosen cells, and nothing else changed
@@ -85,22 +85,13 @@ shifted i true h = mod-eq_of_lt (omega (arith, pow-lt h))
 shifted i false h = mod-eq_of_lt (omega (arith, pow-lt h))
 
 -- ---- the cells of a row: its bits, the lowest first
-pub record RowLeft (row i : ℕ) (before : List ℕ) (rest : ℕ) (now : List ℕ) : Type 0 where
-  pub few : rest < 2 ^ 64
-  pub it : Marking (test_bit row) i before (test_bit rest) now
-
 module _ (row i mark : ℕ) (before : List ℕ) (m : mark ≡ bit true * 2 ^ i) where
   pub row_next :
-      (rest : ℕ) (now : List ℕ) (x v : ℕ) → length before ≡ 64 → RowLeft row i before rest now → 1 ≤ rest → x ≡ count_trailing_zeros 64 rest
-      → v ≡ bit_or (entry now x) mark
-      → RowLeft row i before (bit_and rest (rest - 1)) (set now x v)
-  row_next rest now x v long r one e f = rw (lowest_cleared 64 rest x one r.few e) (record {
-    few = omega (arith, r.few);
-    it =
-        marking-next (test_bit row) i before (test_bit rest) (test_bit (rest - 2 ^ x)) now x v (omega (arith, lowest_lt 64 rest x one r.few e))
-        (lowest_on 64 rest x one r.few e)
-        (λ y h. lowest_out 64 rest x one r.few e y (omega arith)) (f ∙ ap (bit_or (entry now x)) m) r.it;
-  })
+      (rest left : ℕ) (now : List ℕ) (x v : ℕ) → length before ≡ 64 → Marking (test_bit row) i before (test_bit rest) now → Lowest rest x left
+      → v ≡ bit_or (entry now x) mark → Marking (test_bit row) i before (test_bit left) (set now x v)
+  row_next rest left now x v long r g f =
+      marking-next (test_bit row) i before (test_bit rest) (test_bit left) now x v (omega (arith, g.small)) (given_on g) (λ y h. given_out g y (omega arith))
+      (f ∙ ap (bit_or (entry now x)) m) r
 
 -- ---- line by line: each cell has the bits of the lines before i that choose it
 pub record Scattered (f : ℕ → ℕ → Bool) (size i : ℕ) (cells : List ℕ) : Type 0 where

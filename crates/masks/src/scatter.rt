@@ -11,6 +11,7 @@ ghost use Rattle.masks.specs.Scatter.{Marked, between};
 use super::firsts::First;
 use super::follows::Follow;
 use super::{LETTER_CELLS, join};
+use bits::ones::Ones;
 use syntax::{Leaf, Node, Pattern};
 use table::node_at;
 
@@ -20,10 +21,7 @@ fn put_row(cells: &mut [u64; 64], row: u64, i: usize)
     ensures { Marked (test_bit row) i cells.old cells.new }
 {
     let mark = 1 << i;
-    let mut rest = row;
-    while rest != 0 {
-        let x = rest.trailing_zeros() as usize;
-        rest &= rest - 1;
+    for x in Ones(row) {
         cells[x] |= mark;
     }
 }

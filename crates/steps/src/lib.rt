@@ -9,6 +9,7 @@ ghost use Rattle.steps.specs.Steps.{open_next, step_of};
 
 pub mod memory; // memory.rt: steps that were made before
 
+use bits::ones::Ones;
 use table::follower_at;
 
 // The two state sets of a position: with flag 0 and with flag 1.
@@ -50,12 +51,9 @@ pub fn step(
 ) -> Words
     ensures { result ≡ step_of zero.now one.now table.now takers next last }
 {
-    let mut rest = takers;
-    let mut a: u64 = 0;
-    let mut b: u64 = 0;
-    while rest != 0 {
-        let i = rest.trailing_zeros() as usize;
-        rest &= rest - 1;
+    let mut a = 0;
+    let mut b = 0;
+    for i in Ones(takers) {
         let e = open_bit(follower_at(table, i), next, last);
         a |= times(zero[i], e);
         b |= times(one[i], e);
