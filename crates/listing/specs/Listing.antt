@@ -1,5 +1,5 @@
 -- WHAT MUST BE BELIEVED: the bytes of a whole listing. Definitions only.
-use Rattle.std.specs.Prelude.{◌≡◌, Bool, cond, List, ◌++◌, ℕ, suc, ◌+◌, ◌*◌, ◌-◌, ◌≤◌, ◌<◌, eqb, length, take, get_or}
+use Rattle.std.specs.Prelude.{◌≡◌, Bool, cond, Option, Some, None, List, ◌++◌, ℕ, suc, ◌+◌, ◌*◌, ◌-◌, ◌≤◌, ◌<◌, eqb, length, take, get_or}
 use Rattle.syntax.specs.declared.Pattern.{Pattern}
 use Rattle.refusals.specs.declared.Refusal.TheVariants.{Unreadable}
 use Rattle.refusals.specs.Refusals.{Answer, refused}
@@ -15,8 +15,6 @@ use Rattle.semantics.specs.Sweeps.{readable, greedy}
 use Rattle.steps.specs.StateSets.{words as state_sets}
 use Rattle.entries.specs.Gather.{entries_by}
 use Rattle.parser.specs.Parse.{early}
-use Rattle.listing.specs.declared.Listed.{Listed}
-use Rattle.listing.specs.declared.Listed.TheVariants.{Bytes, TooShort}
 
 -- ---- the listing
 
@@ -60,6 +58,6 @@ abbrev pub word_limit : ℕ
 word_limit = 2 * (letter_limit + 1)
 
 -- THE PROMISE of listing, for every text, tape and lent buffer: the listing in front and its length, or a buffer that is too short as it was
-pub record Lists (text file out out_now : List ℕ) (r : Listed) : Type 0 where
-  pub fits : room ≤ length out → (r ≡ Bytes (length (listing_of text file))) × (out_now ≡ in_front (listing_of text file) out)
-  pub short : length out < room → (r ≡ TooShort) × (out_now ≡ out)
+pub record Lists (text file out out_now : List ℕ) (r : Option ℕ) : Type 0 where
+  pub fits : room ≤ length out → (r ≡ Some (length (listing_of text file))) × (out_now ≡ in_front (listing_of text file) out)
+  pub short : length out < room → (r ≡ None) × (out_now ≡ out)

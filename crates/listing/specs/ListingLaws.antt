@@ -1,16 +1,18 @@
 -- Laws of the listing: one for each way of the code.
-use Rattle.std.specs.Prelude.{◌≡◌, refl, Bool, true, false, List, [], ◌∷◌, ◌++◌, ℕ, zero, suc, ◌+◌, ◌*◌, ◌-◌, ◌≤◌, ◌<◌, ltb, take, drop, Err, Ok, Result}
+use Rattle.std.specs.Prelude.{◌≡◌, refl, Bool, true, false, cond, ◌&&◌, eqb, List, [], ◌∷◌, ◌++◌, ℕ, zero, suc, ◌+◌, ◌*◌, ◌-◌, ◌≤◌, ◌<◌, ltb, take, drop, Err, Ok, IsOk, Result, Option, Some, None}
 use Rattle.std.proofs.Math.Path.{sym, ap, ap₂}
 use Rattle.std.proofs.Common.{subst, ◌∙◌, arith, length-append, length-drop, take_at}
 use Rattle.std.proofs.lemmas.Bool.{false≢true}
 use Rattle.std.proofs.Math.Decide.{dec_le}
 use borrow.Author.Tests.{le-ltb, ltb-false, eq-eqb, ne_eqb, not-false}
 use Rattle.std.proofs.Math.ListN.{length, get_or, get_or-append}
+use Rattle.std.proofs.lemmas.List.{get_or-drop}
+use Rattle.std.specs.Option.{MatchOption, unwrap_or}
+use lib.Pointwise.{pointwise}
+use denote.Bor.{Bor}
 use Rattle.std.proofs.Math.Seq.{take-length}
 use Rattle.syntax.specs.Letter.{letter_limit}
 use Rattle.syntax.specs.declared.Pattern.{Pattern}
-use Rattle.loading.specs.declared.Loaded.{Loaded}
-use Rattle.loading.specs.declared.LoadOutcome.TheVariants.{Lines, Refused as NotLoaded}
 use Rattle.refusals.specs.declared.Refusal.{Refusal}
 use Rattle.refusals.specs.declared.Refusal.TheVariants.{Unreadable}
 use Rattle.refusals.specs.Refusals.{number, value, answer, refused}
@@ -18,7 +20,7 @@ use Rattle.refusals.specs.RefusalLaws.{number_positive}
 use Rattle.refusals.specs.CheckLaws.{zero_clear}
 use Rattle.syntax.specs.Table.{obeys, account_limit}
 use Rattle.syntax.specs.Trees.{root}
-use Rattle.loading.specs.Load.{outcome_answer, load_answer, Loads}
+use Rattle.loading.specs.Load.{loaded_answer, pattern_or_none, load_answer, Loads}
 use Rattle.bits.specs.Bits.{cell_count, pack, in_front, byte_limit}
 use Rattle.bits.specs.Packing.{length-pack}
 use Rattle.bits.specs.Handed.{held-pack}
@@ -29,15 +31,12 @@ use Rattle.semantics.specs.Sweeps.{readable, greedy}
 use Rattle.semantics.proofs.GreedyLaws.{greedy_canonical, readable_iff}
 use Rattle.steps.specs.StateSets.{words as state_sets}
 use Rattle.first_sweep.specs.Meaning.{words-length}
-use Rattle.totals.specs.declared.Totalled.{Totalled}
 use Rattle.entries.specs.Gather.{entries_by, entries_of}
-use Rattle.totals.specs.Totals.{totals_answer, totals_litres, Totals}
+use Rattle.totals.specs.Totals.{totals_answer, totals_litres, totalled_litres, Totals}
 use Rattle.totals.specs.TotalsLaws.{totalled_many}
 use Rattle.canonical.specs.RoundTrip.{canonical_whole, canonical_spells}
 use Rattle.parser.specs.Parse.{parsed_answer, early_order, early, ReadsGreedily, Parses}
 use Rattle.parser.specs.ParseLaws.{greedy_few}
-use Rattle.listing.specs.declared.Listed.{Listed}
-use Rattle.listing.specs.declared.Listed.TheVariants.{Bytes, TooShort}
 use Rattle.text.specs.Text.{Puts, refused_line}
 use Rattle.text.specs.Putting.{puts_then, puts_front}
 use Rattle.listing.specs.Listing.{listing, read_listing, early_cause, pattern_listing, closed, tape_of, listing_of, word_limit, room, Lists}
@@ -53,10 +52,9 @@ pub shows_as : (old xs ys now : List ℕ) (end : ℕ) → xs ≡ ys → Shows ol
 shows_as old xs ys now end e s = subst (λ z. Shows old z now end) e s
 
 -- the line of a refusal
-pub shows_refused : (old ys now : List ℕ) (end : ℕ) (why : Refusal) (n v : ℕ) → refused_line (refused why) ≡ ys → n ≡ number why → v ≡ value why
-    → Puts old 0 (refused_line (answer n v)) now end → length (refused_line (answer n v)) ≤ 30 → Shows old ys now end
-shows_refused old ys now end why n v e en ev p h =
-    shows_as old (refused_line (answer n v)) ys now end (ap₂ (λ m w. refused_line (answer m w)) en ev ∙ e) (record { puts = p; fits = omega arith })
+pub shows_refused : (old ys now : List ℕ) (end : ℕ) (why : Refusal) → refused_line (refused why) ≡ ys
+    → Puts old 0 (refused_line (refused why)) now end → length (refused_line (refused why)) ≤ 30 → Shows old ys now end
+shows_refused old ys now end why e p h = shows_as old (refused_line (refused why)) ys now end e (record { puts = p; fits = omega arith })
 
 -- ── a tape that has been read: its words, its code and the bit count ──
 pub record Read (p : Pattern) (tape words code : List ℕ) (count : ℕ) : Type 0 where
@@ -91,8 +89,22 @@ module _ (p : Pattern) (tape ws code : List ℕ) (count : ℕ) (h : Read p tape 
       let spelled = canonical_spells p h.good tape h.few (greedy (root p) tape) is_canonical in
       rw (h.good, whole, spelled, le-ltb letter_limit (length tape) h.few, held-pack 8 (omega arith) (greedy (root p) tape))
 
-  pub litres_are : (r : Totalled) → Totals p code count r → r.litres ≡ totals (entries_by (root p) (value_of (root p) (greedy (root p) tape)))
-  litres_are r t = t.gives ∙ ap₂ (totals_litres p) h.coded h.counted ∙ own-litres
+  own_answer : totals_answer p (pack 8 (greedy (root p) tape)) (length (greedy (root p) tape)) ≡ answer 0 0
+  unfolding totals_answer
+  own_answer =
+      let whole = canonical_whole p h.good tape h.few (greedy (root p) tape) is_canonical in
+      let spelled = canonical_spells p h.good tape h.few (greedy (root p) tape) is_canonical in
+      rw (h.good, whole, spelled, le-ltb letter_limit (length tape) h.few)
+
+  -- the code of a tape that has been read is not refused
+  pub totals_given : (r : Result (List ℕ) Refusal) → Totals p code count r → IsOk r
+  totals_given (Ok ns) t = refl
+  totals_given (Err why) t =
+      let none : totals_answer p code count ≡ answer 0 0 = ap₂ (totals_answer p) h.coded h.counted ∙ own_answer in
+      absurd (omega (arith, number_positive why, ap (λ a. a.number) (t.answers ∙ none)))
+
+  litres_are : (ns : List ℕ) → Totals p code count (Ok ns) → ns ≡ totals (entries_by (root p) (value_of (root p) (greedy (root p) tape)))
+  litres_are ns t = t.gives ∙ ap₂ (totals_litres p) h.coded h.counted ∙ own-litres
 
   listing_is : (n : ℕ) → n ≡ length tape → (ns : List ℕ) → ns ≡ totals (entries_by (root p) (value_of (root p) (greedy (root p) tape)))
       → tape_line n count code ++ (account_lines 0 ns ++ open_lines ws 0 (suc n)) ≡ listing p tape (greedy (root p) tape)
@@ -108,14 +120,19 @@ module _ (p : Pattern) (tape ws code : List ℕ) (count : ℕ) (h : Read p tape 
       simp length-append
       (omega (arith, l, tape-length n count code (omega arith) count-short, open_length ws 0 (suc n) (omega arith)))
 
-  pub listed : (n : ℕ) → n ≡ length tape → (r : Totalled) → Totals p code count r → (old m₁ m₂ now : List ℕ) (e₁ e₂ end : ℕ)
+  pub given_many : (r : Result (List ℕ) Refusal) → Totals p code count r → (ns : List ℕ) → r ≡ Ok ns → length ns ≡ account_limit + 1
+  given_many r t ns f = totalled_many p code count (Ok ns) (subst (Totals p code count) f t)
+
+  pub listed : (n : ℕ) → n ≡ length tape → (r : Result (List ℕ) Refusal) → Totals p code count r → (ns : List ℕ) → r ≡ Ok ns
+      → (old m₁ m₂ now : List ℕ) (e₁ e₂ end : ℕ)
       → Puts old 0 (tape_line n count code) m₁ e₁
-      → Puts m₁ e₁ (account_lines 0 r.litres) m₂ e₂ × (length (account_lines 0 r.litres) ≤ account_line_limit * length r.litres)
+      → Puts m₁ e₁ (account_lines 0 ns) m₂ e₂ × (length (account_lines 0 ns) ≤ account_line_limit * length ns)
       → Puts m₂ e₂ (open_lines ws 0 (suc n)) now end
       → Shows old (listing p tape (greedy (root p) tape)) now end
-  listed n e r t old m₁ m₂ now e₁ e₂ end a (b, l) c =
-      shows_as old _ _ now end (listing_is n e r.litres (litres_are r t))
-      (record { puts = puts_then _ _ _ _ _ _ _ _ a (puts_then _ _ _ _ _ _ _ _ b c); fits = fits_room n e r.litres (totalled_many p code count r t) l })
+  listed n e r t ns f old m₁ m₂ now e₁ e₂ end a (b, l) c =
+      let given = subst (Totals p code count) f t in
+      shows_as old _ _ now end (listing_is n e ns (litres_are ns given))
+      (record { puts = puts_then _ _ _ _ _ _ _ _ a (puts_then _ _ _ _ _ _ _ _ b c); fits = fits_room n e ns (totalled_many p code count (Ok ns) given) l })
 
 -- ── what reading answers ──
 -- nothing before the sweeps refuses
@@ -248,52 +265,62 @@ module _ (p : Pattern) (tape ws us xs ys : List ℕ) (lw : length ws ≡ word_li
   parse_bits r n e w bytes f = subst (Got p tape us ys n) (sym f) (follows (Ok n) (subst (Parses p tape ws us xs ys) e w))
 
 -- ── one closing byte 10 is dropped ──
-pub record Letters (file : List ℕ) (n : ℕ) : Type 0 where
-  pub within : n ≤ length file
-  pub front : take n file ≡ tape_of file
+last_told : (end : List ℕ) → length end ≤ 1 → pointwise eqb end (10 ∷ []) ≡ eqb (get_or end 0 0) 10
+last_told [] h = refl
+last_told (b ∷ []) h = alone (eqb b 10) where
+  alone : (same : Bool) → (same && true) ≡ same
+  alone true = refl
+  alone false = refl
+last_told (b ∷ c ∷ end) h = absurd (omega arith)
 
-pub letters_none : (file : List ℕ) → length file ≡ 0 → Letters file 0
-unfolding tape_of closed
-letters_none [] e = record { within = omega arith; front = refl }
-letters_none (x ∷ file) e = absurd (omega arith)
+module _ (file : Bor (List ℕ)) where
+  end-told : pointwise eqb (drop (length file.now - 1) file.now) (10 ∷ []) ≡ closed file.now
+  unfolding closed
+  end-told =
+      let at : length file.now - 1 + 0 ≡ length file.now - 1 = omega arith in
+      last_told (drop (length file.now - 1) file.now) (omega (arith, length-drop (length file.now - 1) file.now))
+      ∙ ap (λ b. eqb b 10) (get_or-drop (length file.now - 1) file.now 0 0 ∙ ap (λ i. get_or file.now i 0) at)
 
-pub letters-closed : (file : List ℕ) → get_or file (length file - 1) 0 ≡ 10 → Letters file (length file - 1)
-unfolding tape_of closed
-letters-closed file e = record { within = omega arith; front = rw (eq-eqb (get_or file (length file - 1) 0) 10 e) }
-
-pub letters_open : (file : List ℕ) → (get_or file (length file - 1) 0 ≡ 10 → ⊥) → Letters file (length file)
-unfolding tape_of closed
-letters_open file e = record { within = omega arith; front = rw (ne_eqb (get_or file (length file - 1) 0) 10 e) (take-length file) }
+  pub letters_are : (r : Option (Bor (List ℕ)))
+      → MatchOption r
+      (pointwise eqb (drop (length file.now - 1) file.now) (10 ∷ []) ≡ false)
+      (λ front. (pointwise eqb (drop (length file.now - 1) file.now) (10 ∷ []) ≡ true)
+      × (front.now ≡ take (length file.now - 1) file.now)
+      × (length front.now + 1 ≡ length file.now))
+      → (unwrap_or r file).now ≡ tape_of file.now
+  unfolding tape_of
+  letters_are None h = sym (ap (λ b. cond b (take (length file.now - 1) file.now) file.now) (sym end-told ∙ h))
+  letters_are (Some front) h = h.1 ∙ sym (ap (λ b. cond b (take (length file.now - 1) file.now) file.now) (sym end-told ∙ h.0))
 
 -- ── the pattern is judged first ──
-module _ (text file : List ℕ) (l : Loaded) (h : Loads text l) where
-  pub load_refused : (why : Refusal) → l.outcome ≡ NotLoaded why → refused_line (refused why) ≡ listing_of text file
+module _ (text file : List ℕ) (r : Result Pattern Refusal) (h : Loads text r) where
+  pub load_refused : (why : Refusal) → r ≡ Err why → refused_line (refused why) ≡ listing_of text file
   unfolding listing_of
   load_refused why e =
-      let a : refused why ≡ load_answer text = sym (ap outcome_answer e) ∙ h.answers in
+      let a : refused why ≡ load_answer text = sym (ap loaded_answer e) ∙ h.answers in
       let z : (load_answer text).number ≡ 0 → ⊥ = λ q. omega (arith, number_positive why, ap (λ x. x.number) a) in
       ap refused_line a ∙ sym (rw (ne_eqb (load_answer text).number 0 z))
 
-  pub load_listed : (n k : ℕ) → l.outcome ≡ Lines n → Letters file k → pattern_listing l.pattern (take k file) ≡ listing_of text file
+  pub load_listed : (p : Pattern) (tape : List ℕ) → r ≡ Ok p → tape ≡ tape_of file → pattern_listing p tape ≡ listing_of text file
   unfolding listing_of
-  load_listed n k e s =
-      let a : answer 0 n ≡ load_answer text = sym (ap outcome_answer e) ∙ h.answers in
+  load_listed p tape e s =
+      let a : answer 0 p.count ≡ load_answer text = sym (ap loaded_answer e) ∙ h.answers in
       let z : (load_answer text).number ≡ 0 = sym (ap (λ x. x.number) a) in
-      ap₂ pattern_listing h.gives s.front ∙ sym (rw (eq-eqb (load_answer text).number 0 z))
+      ap₂ pattern_listing (sym (ap pattern_or_none e) ∙ h.gives) s ∙ sym (rw (eq-eqb (load_answer text).number 0 z))
 
 -- ── the service ──
-pub list_short : (text file out : List ℕ) → length out < room → Lists text file out out TooShort
+pub list_short : (text file out : List ℕ) → length out < room → Lists text file out out None
 list_short text file out l = record { fits = λ h. absurd (omega arith); short = λ h. (refl, refl) }
 
 pub list_done : (text file out now : List ℕ) (end : ℕ) → room ≤ length out → Shows out (listing_of text file) now end
-    → Lists text file out now (Bytes end)
+    → Lists text file out now (Some end)
 unfolding in_front
 list_done text file out now end l s =
     let (e, w) = puts_front out (listing_of text file) now end (omega (arith, s.fits)) s.puts in
-    record { fits = λ h. (ap Bytes e, w); short = λ h. absurd (omega arith) }
+    record { fits = λ h. (ap Some e, w); short = λ h. absurd (omega arith) }
 
 -- a listing lies inside the buffer
-pub listed-within : (text file out now : List ℕ) (r : Listed) (n : ℕ) → Lists text file out now r → r ≡ Bytes n → room ≤ length out
+pub listed-within : (text file out now : List ℕ) (r : Option ℕ) (n : ℕ) → Lists text file out now r → r ≡ Some n → room ≤ length out
     → length now ≡ length out → n ≤ length now
 unfolding in_front
 listed-within text file out now r n h e l same =

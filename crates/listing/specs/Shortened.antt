@@ -1,10 +1,9 @@
 -- A program need not hold the whole of its files: the first `text_bytes` bytes of a pattern's text and the first 3,602 bytes of a tape
 -- give the listing of the whole. A text that has 64 good lines has them in 64 times `line_bytes` bytes.
-use Rattle.std.specs.Prelude.{◌≡◌, Bool, not, cond, List, [], ◌∷◌, ℕ, zero, suc, ◌+◌, ◌*◌, ◌-◌, ◌≤◌, ◌<◌, eqb, ltb, length, take, drop}
+use Rattle.std.specs.Prelude.{◌≡◌, Bool, None, not, cond, List, [], ◌∷◌, ℕ, zero, suc, ◌+◌, ◌*◌, ◌-◌, ◌≤◌, ◌<◌, eqb, ltb, length, take, drop}
 use Rattle.std.proofs.Math.Path.{refl}
 use Rattle.std.proofs.Common.{sym, ap, ap₂, ◌∙◌, arith, lt-ltb, le-ltb, ltb-true, ltb-false, eqb-true, take_all, length-take-le}
 use Rattle.std.proofs.Math.Bool.{true, false}
-use Rattle.std.proofs.Math.Option.{none}
 use Rattle.std.proofs.lemmas.Bool.{eqb-false}
 use Rattle.std.proofs.Math.Seq.{take-nil}
 use Rattle.syntax.specs.declared.Pattern.{Pattern}
@@ -71,19 +70,19 @@ by_length {A} n f s l = go (ltb n (length f)) refl
     go true e = l (ltb-true n (length f) e)
     go false e = s (ltb-false n (length f) e)
 
-parts_none : (a k : ℕ) (more : List (List ℕ)) → 7 ≤ total more → parts_say a k more ≡ none
+parts_none : (a k : ℕ) (more : List (List ℕ)) → 7 ≤ total more → parts_say a k more ≡ None
 parts_none a k [] h = absurd (omega arith)
 parts_none a k (x ∷ []) h = by_length 2 x (λ s. absurd (omega arith)) (λ l. parts_no_long a k x [] l)
 parts_none a k (x ∷ y ∷ []) h =
     by_length 2 x (λ s. by_length 2 y (λ t. absurd (omega arith)) (λ l. parts_no_second a k x y [] l)) (λ l. parts_no_long a k x (y ∷ []) l)
 parts_none a k (x ∷ y ∷ z ∷ more) h = parts_no_more a k x y z more
 
-account_none : (k : ℕ) (a : List ℕ) (more : List (List ℕ)) → 11 ≤ total (a ∷ more) → account_says k (a ∷ more) ≡ none
+account_none : (k : ℕ) (a : List ℕ) (more : List (List ℕ)) → 11 ≤ total (a ∷ more) → account_says k (a ∷ more) ≡ None
 unfolding account_says
 account_none k a more h = by_length 3 a (λ s. parts_none (account a) k more (omega arith)) (λ l. account_no_long k a more l)
 
 module _ (i : ℕ) (l : i < 64) where
-  line_none : (fs : List (List ℕ)) → line_bytes < total fs → line_of i fs ≡ none
+  line_none : (fs : List (List ℕ)) → line_bytes < total fs → line_of i fs ≡ None
   line_none [] h = absurd (omega arith)
   line_none (p ∷ []) h = line_alone i p
   line_none (p ∷ k ∷ []) h = line_short i p k
@@ -91,11 +90,11 @@ module _ (i : ℕ) (l : i < 64) where
       by_length 2 p (λ s. by_length 2 k (λ t. own (eqb (place p) i) refl (omega arith)) (λ m. line_no_kind i p k (a ∷ more) m))
       (λ m. line_no_long i l p (k ∷ a ∷ more) m)
     where
-      own : (b : Bool) → eqb (place p) i ≡ b → 11 ≤ total (a ∷ more) → line_of i (p ∷ k ∷ a ∷ more) ≡ none
+      own : (b : Bool) → eqb (place p) i ≡ b → 11 ≤ total (a ∷ more) → line_of i (p ∷ k ∷ a ∷ more) ≡ None
       own true e h = sym (line-account i p k (eqb-true (place p) i e) (a ∷ more)) ∙ account_none (single k) a more h
       own false e h = line_no_place i p (eqb-false (place p) i e) (k ∷ a ∷ more)
 
-  long_none : (fs : List (List ℕ)) (c : Bool) → line_bytes < total fs → row_line i (record { fields = fs; closed = c }) ≡ none
+  long_none : (fs : List (List ℕ)) (c : Bool) → line_bytes < total fs → row_line i (record { fields = fs; closed = c }) ≡ None
   unfolding row_line
   long_none fs true h = line_none fs h
   long_none fs false h = refl
@@ -152,7 +151,7 @@ forms_over i b bs l = rw (rows_first b bs, le-ltb i 64 l)
 
 forms_long : (i b : ℕ) (bs : List ℕ) → i < 64 → line_bytes ≤ first_size (b ∷ bs) → forms i (rows (b ∷ bs)) ≡ fault i
 forms_long i b bs l h =
-    let n : row_line i (first_line (b ∷ bs)) ≡ none = long_none i l (first_fields (b ∷ bs)) (first_closed (b ∷ bs)) (omega (arith, total-line (b ∷ bs))) in
+    let n : row_line i (first_line (b ∷ bs)) ≡ None = long_none i l (first_fields (b ∷ bs)) (first_closed (b ∷ bs)) (omega (arith, total-line (b ∷ bs))) in
     forms_first i b bs l ∙ ap (λ o. line_front i o (forms (suc i) (rows (drop (suc (first_size (b ∷ bs))) (b ∷ bs))))) n
 
 forms_same : (i b m : ℕ) (bs : List ℕ) → i < 64 → SameLine (b ∷ bs) (b ∷ take m bs)

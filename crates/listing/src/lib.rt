@@ -3,16 +3,15 @@
 
 ghost use Rattle.std.specs.Prelude.{◌≡◌, length};
 ghost use Rattle.bits.specs.Bits.{byte_limit};
-ghost use Rattle.listing.specs.Listing.{listing, pattern_listing, listing_of, word_limit, Lists};
-ghost use Rattle.listing.specs.ListingLaws.{Read, Shows, Letters};
+ghost use Rattle.listing.specs.Listing.{listing, pattern_listing, listing_of, tape_of, word_limit, Lists};
+ghost use Rattle.listing.specs.ListingLaws.{Read, Shows};
 ghost use Rattle.semantics.specs.Sweeps.{greedy};
 ghost use Rattle.syntax.specs.Trees.{root};
 
 use bits::bytes_for;
 use listing_lines::{put_accounts, put_open, put_tape};
-use loading::{LoadOutcome, load};
+use loading::load;
 use parser::parse;
-use refusals::{number_of, value_of};
 use syntax::Pattern;
 use text::put_refused;
 use totals::totals;
@@ -23,14 +22,7 @@ pub const MAX_LISTING: usize = 262144;
 // Mark words for the longest tape: two for each position, and one position more than letters.
 const MAX_WORDS: usize = 2 * (Pattern::MAX_LETTERS + 1);
 
-// What listing answers: how many bytes the listing has, or that the buffer is shorter than MAX_LISTING.
-#[derive(Clone, Copy)]
-pub enum Listed {
-    Bytes(u32),
-    TooShort,
-}
-
-// The lines of a tape that has been read.
+// The lines of a tape that has been read. Its code is not refused.
 fn list_read(
     p: Pattern,
     tape: &[u8],
@@ -42,10 +34,9 @@ fn list_read(
     requires { Read p tape.now words.now code.now count }
     ensures { Shows out.old (listing p tape.now (greedy (root p) tape.now)) out.new result }
 {
-    let totalled = totals(p, code, count);
-    let litres = totalled.litres;
+    let litres = totals(p, code, count).unwrap();
     let n = tape.len();
-    let first = put_tape(out, 0, n as u64, count as u64, code);
+    let first = put_tape(out, 0, n as u64, u64::from(count), code);
     let second = put_accounts(out, first, &litres);
     put_open(out, second, words, n)
 }
@@ -55,13 +46,12 @@ fn list_with(p: Pattern, tape: &[u8], words: &mut [u64], code: &mut [u8], out: &
     requires { (length words.old ≡ word_limit) × (length code.old ≡ byte_limit) }
     ensures { Shows out.old (pattern_listing p tape.now) out.new result }
 {
-    let parsed = parse(p, tape, words, code);
-    match parsed {
-        Err(why) => put_refused(out, 0, number_of(why), value_of(why)),
+    match parse(p, tape, words, code) {
         Ok(count) => {
             let n = bytes_for(count);
             list_read(p, tape, words, &code[..n], count, out)
         }
+        Err(why) => put_refused(out, 0, why),
     }
 }
 
@@ -74,43 +64,30 @@ fn list_tape(p: Pattern, tape: &[u8], out: &mut [u8]) -> usize
     list_with(p, tape, &mut words, &mut code, out)
 }
 
-// How many bytes of a tape file are before one closing byte 10.
-pub fn letters_of(tape: &[u8]) -> usize
-    ensures { Letters tape.now result }
+// The letters of a tape file: its bytes before one closing byte 10.
+pub fn letters_of(tape: &[u8]) -> &[u8]
+    ensures { result.now ≡ tape_of tape.now }
 {
-    let n = tape.len();
-    if n == 0 {
-        return 0;
-    }
-    if tape[n - 1] == b'\n' {
-        return n - 1;
-    }
-    n
+    tape.strip_suffix(b"\n").unwrap_or(tape)
 }
 
 // The pattern is judged first.
 fn list_text(text: &[u8], tape: &[u8], out: &mut [u8]) -> usize
     ensures { Shows out.old (listing_of text.now tape.now) out.new result }
 {
-    let loaded = load(text);
-    let p = loaded.pattern;
-    let outcome = loaded.outcome;
-    match outcome {
-        LoadOutcome::Refused(why) => put_refused(out, 0, number_of(why), value_of(why)),
-        LoadOutcome::Lines(_) => {
-            let n = letters_of(tape);
-            list_tape(p, &tape[..n], out)
-        }
+    match load(text) {
+        Ok(p) => list_tape(p, letters_of(tape), out),
+        Err(why) => put_refused(out, 0, why),
     }
 }
 
-// The listing of a pattern's text and a tape file's bytes, put in front of `out`: refusals too.
-pub fn list(text: &[u8], tape: &[u8], out: &mut [u8]) -> Listed
+// The listing of a pattern's text and a tape file's bytes, put in front of `out`, refusals too: how many bytes it has. None
+// where `out` is shorter than MAX_LISTING.
+pub fn list(text: &[u8], tape: &[u8], out: &mut [u8]) -> Option<usize>
     ensures { Lists text.now tape.now out.old out.new result }
 {
     if out.len() < MAX_LISTING {
-        return Listed::TooShort;
+        return None;
     }
-    let end = list_text(text, tape, out);
-    Listed::Bytes(end as u32)
+    Some(list_text(text, tape, out))
 }

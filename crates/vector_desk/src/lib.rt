@@ -12,14 +12,12 @@
 
 mod calls; // calls.rt: the steps
 mod litres; // litres.rt: totals in lent cells
-mod own; // own.rt: the calls of crate desk
 mod shown; // shown.rt: the line of a call
 
 use calls::{Next, run_step};
 pub use litres::run_litres;
 use packing::DESK_BYTES;
 use std::io;
-use text::least;
 use vector_text::{ALL_WORDS, BYTE_BEFORE, MAX_TEXT, WORD_BEFORE, decode};
 
 // Cells of the array whose start is lent for letters.
@@ -31,21 +29,18 @@ fn run_steps(
     text: &mut [u8],
     size: usize,
     line: &[u8],
-    desk: &mut [u8],
+    desk: &mut [u8; DESK_BYTES],
     letters: &mut [u8],
     words: &mut [u64],
 ) -> io::Result<()> {
     let end = line.len();
     let mut next = Next { left: end, size };
-    let mut turns = end;
-    while 0 < turns {
-        let at = end - least(next.left, end);
-        if end <= at {
+    for _ in 0..end {
+        let at = end - next.left.min(end);
+        if at == end {
             return Ok(());
         }
-        let behind = run_step(rt, text, next.size, &line[at..], desk, letters, words)?;
-        next = behind;
-        turns -= 1;
+        next = run_step(rt, text, next.size, &line[at..], desk, letters, words)?;
     }
     Ok(())
 }
