@@ -17,8 +17,8 @@ loop-at-preserved c = read_on _ _ _ c.loop-at.invariant c.if-text-at.false (omeg
 pub returns-in-None : goal.returns-in-None
 returns-in-None c = elim c.if-text-at.branch [
   | then-text-at w ↦ read_end _ _ _ c.loop-at.invariant w.if-text-at.true
-  | else-text-at+then-i-eq-MAX_LINES w ↦ absurd (none-some _ (sym c.in-None.is ∙ w.fault-is))
-  | else-text-at+else-i-eq-MAX_LINES+in_default w ↦ absurd (none-some _ (sym c.in-None.is ∙ w.fault-is))
+  | else-text-at+then-i-eq-MAX_LINES w ↦ absurd (none-some 64 (sym c.in-None.is ∙ w.fault-is))
+  | else-text-at+else-i-eq-MAX_LINES+in_default w ↦ absurd (none-some c.loop-at.p.count (sym c.in-None.is ∙ w.fault-is))
 ]
 
 pub returns-in-Some-fault : goal.returns-in-Some-fault
