@@ -1,5 +1,5 @@
 -- `loading::lines::read_lines` meets its contract.
-use Rattle.std.proofs.Common.{◌≡◌, arith, sym, ◌∙◌}
+use Rattle.std.proofs.Common.{◌≡◌, ℕ, arith, sym, ◌∙◌}
 use Rattle.std.proofs.lemmas.Option.{none-some, same_Some}
 use Rattle.loading.specs.Lines.{read-start, read_end, read_many, read_fault, read-less, read_on}
 use Rattle.loading.proofs.lines.read_lines.Goals.{then-text-at, else-text-at+then-i-eq-MAX_LINES, else-text-at+else-i-eq-MAX_LINES+in_default}
@@ -17,7 +17,7 @@ loop-at-preserved c = read_on _ _ _ c.loop-at.invariant c.if-text-at.false (omeg
 pub returns-in-None : goal.returns-in-None
 returns-in-None c = elim c.if-text-at.branch [
   | then-text-at w ↦ read_end _ _ _ c.loop-at.invariant w.if-text-at.true
-  | else-text-at+then-i-eq-MAX_LINES w ↦ absurd (none-some 64 (sym c.in-None.is ∙ w.fault-is))
+  | else-text-at+then-i-eq-MAX_LINES w ↦ absurd (none-some {A = ℕ} 64 (sym c.in-None.is ∙ w.fault-is))
   | else-text-at+else-i-eq-MAX_LINES+in_default w ↦ absurd (none-some c.loop-at.p.count (sym c.in-None.is ∙ w.fault-is))
 ]
 
