@@ -40,6 +40,15 @@ struct Start {
     notes: u64,
 }
 
+// What steps are made from: the masks of a pattern, and its table.
+#[derive(Clone, Copy)]
+struct Masks<'a> {
+    zero: &'a [u64; 64],
+    one: &'a [u64; 64],
+    table: &'a [u64; 64],
+    takers: &'a [u64; LETTER_CELLS],
+}
+
 // The cell of a position's flag 0 word.
 fn cell_of(count: usize, turned: bool, i: usize) -> usize
     requires { (i ≤ count) × (count ≤ letter_limit) }
@@ -59,32 +68,23 @@ fn put_words(words: &mut [u64], at: usize, zero: u64, one: u64)
 
 // The state sets of some letters, over the masks of a pattern, from the last letter to the first, by noted steps as long as pairs are numbered. Tapes
 // and pages share this loop. The cell of a position is computed for each letter, and that cannot be seen in the time of either (measured).
-fn sweep(
-    zero: &[u64; 64],
-    one: &[u64; 64],
-    table: &[u64; 64],
-    takers: &[u64; LETTER_CELLS],
-    letters: &[u8],
-    start: Start,
-    words: &mut [u64],
-)
+fn sweep(masks: Masks, letters: &[u8], start: Start, words: &mut [u64])
     requires { Sweepable letters.now start.count words.old }
-    ensures { Sweeps (stored_step zero.now one.now table.now takers.now) start
-        letters.now words.old words.new }
+    ensures { Sweeps (stored_step masks.entry.zero.now masks.entry.one.now masks.entry.table.now masks.entry.takers.now) start letters.now words.old words.new }
 {
     let mut memo = Memo::new(start.notes);
     let mut next = start.next;
     let mut last = start.last;
     let mut pair = None;
     for i in (0..letters.len()).rev() {
-        let k = takers[letters[i] as usize];
+        let k = masks.takers[letters[i] as usize];
         let w = match memo.known(k, pair) {
             Some(n) => {
                 pair = Some(n);
                 memo.pairs[n]
             }
             None => {
-                let w = step(zero, one, table, k, next, last);
+                let w = step(masks.zero, masks.one, masks.table, k, next, last);
                 pair = memo.learn(k, pair, w);
                 w
             }
@@ -115,7 +115,13 @@ pub fn fill(p: Pattern, table: &[u64; 64], tape: &[u8], words: &mut [u64])
         turned: false,
         notes: FILL_NOTES,
     };
-    sweep(&zero, &one, table, &takers, tape, start, words);
+    let masks = Masks {
+        zero: &zero,
+        one: &one,
+        table,
+        takers: &takers,
+    };
+    sweep(masks, tape, start, words);
 }
 
 // GROWING: the words of a page that is put before the letters held, from word 2 × (held + 1) on, those of the page's last letter first. It
@@ -139,7 +145,13 @@ pub fn grow(p: Pattern, table: &[u64; 64], page: &[u8], held: usize, words: &mut
         turned: true,
         notes: PAGE_NOTES,
     };
-    sweep(&zero, &one, table, &takers, page, start, words);
+    let masks = Masks {
+        zero: &zero,
+        one: &one,
+        table,
+        takers: &takers,
+    };
+    sweep(masks, page, start, words);
 }
 
 // The two words of the tape's end, from which pages grow. No other word changes.

@@ -19,9 +19,9 @@ bounds-memo-n c = let l = c.loop-i.invariant in known_small _ _ _ _ l.2 _ _ _ _ 
 stepped :
     (c : Joined-known)
     → (c.match-known.w
-    ≡ stored_step c.args.zero.now c.args.one.now c.args.table.now c.args.takers.now (get_or c.args.letters.now (c.loop-i.i - 1) 0) c.loop-i.next
+    ≡ stored_step c.args.masks.zero.now c.args.masks.one.now c.args.masks.table.now c.args.masks.takers.now (get_or c.args.letters.now (c.loop-i.i - 1) 0) c.loop-i.next
     c.loop-i.last)
-    × Remembers c.args.zero.now c.args.one.now c.args.table.now c.match-known.memo
+    × Remembers c.args.masks.zero.now c.args.masks.one.now c.args.masks.table.now c.match-known.memo
     × Stands c.match-known.memo.pairs c.match-known.memo.count c.match-known.w.one false c.match-known.pair
 stepped c = let l = c.loop-i.invariant in
     elim c.match-known.branch [
