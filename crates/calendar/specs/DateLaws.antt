@@ -29,6 +29,9 @@ entry-between a b (x ∷ xs) h (suc k) s = entry-between a b xs h.2 k (omega ari
 lengths_between : Between 28 31 month_lengths
 lengths_between = omega arith
 
+pub length_small : (k : ℕ) → k < 12 → get_or month_lengths k 0 ≤ 31
+length_small k h = (entry-between 28 31 month_lengths lengths_between k h).1
+
 pub leap_day_small : (y m : ℕ) → leap_day y m ≤ 1
 unfolding leap_day
 leap_day_small y m = go (eqb m 2 && leap y)

@@ -1,3 +1,4 @@
 pub mod Dates
 pub mod DateLaws
 pub mod DateTable
+pub mod DateWays

@@ -17,7 +17,7 @@ use Rattle.bits.specs.Fields.{put-above, kept_low, kept_field}
 use Rattle.semantics.specs.Automaton.{Location, follower}
 use Rattle.semantics.specs.Passing.{loops}
 use Rattle.table.specs.declared.Numbers.{Numbers}
-use Rattle.table.specs.HandDown.{equal, first_part, second_part, Rooted, rules_rooted, Known, made_has_index}
+use Rattle.table.specs.HandDown.{equal, first_part, second_part, PartsInside, parts-inside, Rooted, rules_rooted, Known, made_has_index}
 use Rattle.table.specs.HandDown.{Stores, stores_same, Given, AllGiven, Hands, given-start, given-next, given_end}
 use Rattle.table.specs.Cells.{row_of, node_from, cell_node, cell_account, cell_line, node_in, account_in, line_in, tree_in}
 use Rattle.table.specs.Cells.{field, first_place, second_place, account_place, half, above_place}
@@ -40,6 +40,19 @@ pub cell_packed :
 unfolding cell_node cell_account
 cell_packed x r c er ek ea eb eo = rw (ek, ea, eb, eo, er, row-node x.node)
 
+-- the node of a kind that has the number n
+pub kind_is : (kind n a b : ℕ) → kind ≡ n → node_from n a b ≡ node_from kind a b
+kind_is kind n a b e = ap (λ k. node_from k a b) (sym e)
+
+pub lazy_from : (k a b : ℕ) → 6 ≤ k → Star true a ≡ node_from k a b
+lazy_from zero a b h = absurd (omega arith)
+lazy_from (suc zero) a b h = absurd (omega arith)
+lazy_from (suc (suc zero)) a b h = absurd (omega arith)
+lazy_from (suc (suc (suc zero))) a b h = absurd (omega arith)
+lazy_from (suc (suc (suc (suc zero)))) a b h = absurd (omega arith)
+lazy_from (suc (suc (suc (suc (suc zero))))) a b h = absurd (omega arith)
+lazy_from (suc (suc (suc (suc (suc (suc k)))))) a b h = refl
+
 -- ── filling ──
 -- the lines below i are filled in
 pub record Filled (p : Pattern) (table : List ℕ) (i : ℕ) : Type 0 where
@@ -57,6 +70,28 @@ getD_zeros (suc n) (suc l) = getD_zeros n l
 pub filled-start : (p : Pattern) → Filled p (replicate 64 0) 0
 unfolding cell_node cell_account
 filled-start p = record { low = omega arith; long = refl; lines = λ l h. absurd (omega arith); rest = λ l h k. rw (getD_zeros 64 l) }
+
+pub filled_next :
+    (p : Pattern) (table : List ℕ) (i : ℕ) → Filled p table i → i < p.count → p.count ≤ 64 → (c : ℕ) → cell_line c ≡ line_at p i
+    → Filled p (set table i c) (i + 1)
+filled_next p table i f lt few c e =
+    record {
+      low = omega arith;
+      long = length-set table i c ∙ f.long;
+      lines = λ l h. before l h (dec_lt l i);
+      rest = λ l h k. ap cell_line (get_or-set_other table i l c 0 (λ e. omega arith)) ∙ f.rest l (omega arith) k;
+    }
+  where
+    before : (l : ℕ) → l < i + 1 → Dec (l < i) → line_in (set table i c) l ≡ line_at p l
+    before l h (yes k) = ap cell_line (get_or-set_other table i l c 0 (λ e. omega arith)) ∙ f.lines l k
+    before l h (no k) =
+        let q : i ≡ l = omega arith in
+        ap (line_in (set table i c)) (sym q) ∙ ap cell_line (get_or-set_same table i c 0 (omega (arith, f.long))) ∙ e ∙ ap (line_at p) q
+
+pub filled_end : (p : Pattern) (table : List ℕ) (i : ℕ) → Filled p table i → p.count ≤ i → Filled p table p.count
+filled_end p table i f h =
+    let low = f.low in
+    record { low = omega arith; long = f.long; lines = λ l k. f.lines l (omega arith); rest = λ l k m. f.rest l (omega arith) m }
 
 -- ── followers ──
 -- what follows line l is written into its cell, and lines stay
@@ -153,6 +188,10 @@ module _ (start : List ℕ) (n : ℕ) (whole : Rooted (line_in start) n) where
   module _ (i : ℕ) (table : List ℕ) (d : Following start n i table) (o : 0 < i) (k : Node) (e : k ≡ node_in table (i - 1)) where
     node_is : k ≡ node_in start (i - 1)
     node_is = e ∙ ap (λ x. x.node) (d.lines (i - 1))
+
+    -- the line and its parts lie inside the table
+    pub following-inside : PartsInside (i - 1) k
+    following-inside = parts-inside (i - 1) k (rw node_is (whole.lower (i - 1) (omega (arith, d.inside))))
 
     pub following-next :
         (a b v w : ℕ) (mid new : List ℕ) → a ≡ second_part (i - 1) k → b ≡ first_part (i - 1) k → v ≡ cell_follower_in table (i - 1)

@@ -20,6 +20,13 @@ abbrev pub stops : (again bit : Bool) → Bool
 stops false b = b
 stops true b = not b
 
+module _ {again b c : Bool} where
+  pub stops-greedy : again ≡ false → c ≡ b → c ≡ stops again b
+  stops-greedy h e = rw h e
+
+  pub stops-lazy : again ≡ true → c ≡ b → not c ≡ stops again b
+  stops-lazy h e = rw h (ap not e)
+
 -- two walks that see the same, and what a walk followed by another tells of both
 pub same_seen : {X : Type 0} {x y : X} {i j : ℕ} → ◌≡◌ {A = Seen X} (some (x, i)) (some (y, j)) → (x ≡ y) × (i ≡ j)
 same_seen {X} {x} {y} {i} {j} e = let f = some-injective (x, i) (y, j) e in (ap (λ z. z.0) f, ap (λ z. z.1) f)
