@@ -31,9 +31,8 @@ pub fn bytes_missing(
     if 17 * tape.len() + 8 <= size {
         return None;
     }
-    let mut none = [0; 1];
-    let count = sweep(table, words, tape, l, 0, true, &mut none, 0);
-    let needed = bytes_for(count.at);
+    let counted = sweep(table, words, tape, l, 0, true, &mut [], 0);
+    let needed = bytes_for(counted.at);
     (size < needed).then_some(needed)
 }
 
