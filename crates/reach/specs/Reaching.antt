@@ -6,14 +6,13 @@ use Rattle.std.proofs.Math.Bool.{and-true}
 use Rattle.std.specs.Int.{from_bool}
 use Rattle.std.specs.List.{push}
 use Rattle.std.specs.Int.Bits.{bit_or, bit_and}
-use Rattle.std.specs.Int.Count.{count_trailing_zeros}
 use Rattle.syntax.specs.declared.Pattern.{Pattern}
 use Rattle.syntax.specs.Letter.{is_letter, letter_limit}
 use Rattle.syntax.specs.Trees.{root}
 use Rattle.syntax.specs.TreeLaws.{Rules}
 use Rattle.bits.specs.Bits.{bit, test_bit}
-use Rattle.bits.specs.Joining.{Joining, joining_start, joining_next, joining_end}
-use Rattle.bits.specs.Lowest.{lowest_cleared}
+use Rattle.bits.specs.Joining.{Joining, joining_next, joining_end}
+use Rattle.bits.specs.Ones.{Lowest, given_left}
 use Rattle.bits.specs.Unions.{pick, union, union_same}
 use Rattle.semantics.specs.Begins.{Reach, Resumes}
 use Rattle.semantics.specs.Sweeps.{at_end}
@@ -32,29 +31,18 @@ use Rattle.reach.specs.FrontWordLaws.{reach_words-reach}
 use Rattle.reach.specs.StateEnds.{resume_of, resume_of_resumes}
 
 -- ---- words joined for each leaf of a set
-pub record Joined (set : ℕ) (choice : ℕ → Bool) (words : ℕ → ℕ) (rest joined : ℕ) : Type 0 where
-  pub few : rest < 2 ^ 64
-  pub so_far : Joining 64 set choice words rest joined
-
 module _ (set : ℕ) (o : ℕ → Bool) (m : ℕ → ℕ) where
-  pub joined-start : set < 2 ^ 64 → Joined set o m set 0
-  joined-start h = record { few = h; so_far = joining_start 64 set o m }
+  pub joined_next : (rest left a x v : ℕ) → Joining 64 set o m rest a → Lowest rest x left → v ≡ pick (o x) (m x) → Joining 64 set o m left (bit_or a v)
+  joined_next rest left a x v q g f = rw (given_left g, f) (joining_next 64 set o m rest a x q g.some g.few g.is)
 
-  pub joined_next : (rest a x v : ℕ) → Joined set o m rest a → 1 ≤ rest → x ≡ count_trailing_zeros 64 rest → v ≡ pick (o x) (m x)
-      → Joined set o m (bit_and rest (rest - 1)) (bit_or a v)
-  joined_next rest a x v q some i f = rw (lowest_cleared 64 rest x some q.few i, f) (record {
-    few = omega (arith, q.few);
-    so_far = joining_next 64 set o m rest a x q.so_far some q.few i;
-  })
-
-  pub joined_end : (rest a : ℕ) → Joined set o m rest a → rest ≡ 0 → a ≡ union 64 (λ x. test_bit set x && o x) m
-  joined_end rest a q e = joining_end 64 set o m a (rw e at q.so_far)
+  pub joined_end : (rest a : ℕ) → Joining 64 set o m rest a → rest ≡ 0 → a ≡ union 64 (λ x. test_bit set x && o x) m
+  joined_end rest a q e = joining_end 64 set o m a (rw e at q)
 
 -- the leaves that are matched
 abbrev pub met : (one : List ℕ) → (nodes : ℕ) → (leaf : ℕ) → Bool
 met os n y = has_any (bit_and (entry os y) n)
 
-pub matched_end : (os : List ℕ) (n k rest a : ℕ) → Joined k (met os n) (λ y. 1 * 2 ^ y) rest a → rest ≡ 0 → a ≡ matched_leaves os n k
+pub matched_end : (os : List ℕ) (n k rest a : ℕ) → Joining 64 k (met os n) (λ y. 1 * 2 ^ y) rest a → rest ≡ 0 → a ≡ matched_leaves os n k
 unfolding matched_leaves
 matched_end os n k rest a q e = joined_end k (met os n) (λ y. 1 * 2 ^ y) rest a q e
 
@@ -62,7 +50,7 @@ matched_end os n k rest a q e = joined_end k (met os n) (λ y. 1 * 2 ^ y) rest a
 abbrev pub each : ℕ → Bool
 each x = true
 
-pub following_end : (ts : List ℕ) (m rest a : ℕ) → Joined m each (λ y. state_word (follower_in ts y)) rest a → rest ≡ 0 → a ≡ following ts m
+pub following_end : (ts : List ℕ) (m rest a : ℕ) → Joining 64 m each (λ y. state_word (follower_in ts y)) rest a → rest ≡ 0 → a ≡ following ts m
 unfolding following
 following_end ts m rest a q e =
     joined_end m each (λ y. state_word (follower_in ts y)) rest a q e

@@ -13,6 +13,7 @@ ghost use Rattle.reach.specs.Locate.{Tells, Locates};
 ghost use Rattle.reach.specs.FrontWords.{matched_leaves, state_word, following, reach_words, resume_words};
 ghost use Rattle.reach.specs.Reaching.{Locatable};
 
+use bits::ones::Ones;
 use checks::check_tape;
 use masks::scatter::put_takers;
 use masks::{LETTER_CELLS, put_masks};
@@ -32,11 +33,8 @@ pub struct Positions {
 fn matched(one: &[u64; 64], nodes: u64, takers: u64) -> u64
     ensures { result ≡ matched_leaves one.now nodes takers }
 {
-    let mut rest = takers;
     let mut leaves = 0;
-    while rest != 0 {
-        let i = rest.trailing_zeros() as usize;
-        rest &= rest - 1;
+    for i in Ones(takers) {
         leaves |= u64::from(one[i] & nodes != 0) << i;
     }
     leaves
@@ -53,11 +51,8 @@ fn state_bit(state: u8) -> u64
 fn follow(table: &[u64; 64], leaves: u64) -> u64
     ensures { result ≡ following table.now leaves }
 {
-    let mut rest = leaves;
     let mut nodes = 0;
-    while rest != 0 {
-        let i = rest.trailing_zeros() as usize;
-        rest &= rest - 1;
+    for i in Ones(leaves) {
         nodes |= state_bit(follower_at(table, i));
     }
     nodes

@@ -1,11 +1,9 @@
 -- `reach::follow` meets its contract.
-use Rattle.reach.specs.FrontWords.{state_word}
+use Rattle.bits.specs.Joining.{Joining}
 use Rattle.table.specs.Cells.{follower_in}
-use Rattle.reach.specs.Reaching.{Joined, each}
+use Rattle.reach.specs.FrontWords.{state_word}
+use Rattle.reach.specs.Reaching.{each}
 use Rattle.reach.proofs.follow.Given as goal
 
-abbrev pub invariant-loop-rest : goal.invariant-loop-rest
-invariant-loop-rest l = Joined l.leaves each (λ y. state_word (follower_in l.table y)) l.rest l.nodes
-
-abbrev pub decreases-loop-rest : goal.decreases-loop-rest
-decreases-loop-rest l = l.rest
+abbrev pub invariant-loop-i : goal.invariant-loop-i
+invariant-loop-i l = Joining 64 l.leaves each (λ y. state_word (follower_in l.table y)) l.i-iterator.0 l.nodes
