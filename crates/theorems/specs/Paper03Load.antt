@@ -1,8 +1,7 @@
 -- Document 03's lines: one of good form by 03 is one here, and says the same node.
-use Rattle.std.specs.Prelude.{◌≡◌, refl, Bool, true, false, ◌&&◌, ◌||◌, cond, List, [], ◌∷◌, map, ℕ, suc, ◌-◌, ◌≤◌, ◌<◌, ltb, leb, eqb, length, get_or}
+use Rattle.std.specs.Prelude.{◌≡◌, refl, Bool, true, false, ◌&&◌, ◌||◌, cond, List, [], ◌∷◌, map, ℕ, suc, ◌-◌, ◌≤◌, ◌<◌, ltb, leb, eqb, length, get_or, None, Some}
 use Rattle.std.proofs.Common.{sym, ap, ap₂, subst, ◌∙◌, arith, leb-false, le-leb, ltb-true, lt-ltb, eqb-true, eq-eqb}
 use Rattle.std.proofs.lemmas.Bool.{false≢true}
-use Rattle.std.proofs.Math.Option.{none, some}
 use Rattle.syntax.specs.declared.Leaf.TheVariants.{Nothing, Letter, Range}
 use Rattle.syntax.specs.declared.Node.{Node as OwnNode}
 use Rattle.syntax.specs.declared.Node.TheVariants.{Leaf as LeafNode, Sequence, Alternative, Star}
@@ -90,7 +89,7 @@ sizes k ws h =
 
 -- the node that the fields behind the account say
 abbrev Says : (c : ℕ) → (more : List (List ℕ)) → (kind account : ℕ) → (ws : List (List ℕ)) → Type 0
-Says c more k a ws = (n : OwnNode) × (node_of c more ≡ some n) × (node_by k a ws ≡ node_as a n)
+Says c more k a ws = (n : OwnNode) × (node_of c more ≡ Some n) × (node_by k a ws ≡ node_as a n)
 
 too_many : (k : ℕ) → k ≡ 7 → ltb k 7 ≡ true → ⊥
 too_many k e h = let z = ltb-true k 7 h in omega arith
@@ -197,7 +196,7 @@ account_few c h = let l = ltb-true c 201 h in le-leb c account_limit (omega arit
 -- the fields of a line, from the first on
 by_fields : (i : ℕ) (ws : List (List ℕ)) → i < 64 → eqb (place_value (field ws 0)) i ≡ true → ltb (account_value (field ws 2)) 201 ≡ true
     → ltb (kind_value (field ws 1)) 7 ≡ true → needs (kind_value (field ws 1)) ws ≡ true
-    → (l : Line) × (line_of i ws ≡ some l) × (node_by (kind_value (field ws 1)) (account_value (field ws 2)) ws ≡ line_as l)
+    → (l : Line) × (line_of i ws ≡ Some l) × (node_by (kind_value (field ws 1)) (account_value (field ws 2)) ws ≡ line_as l)
 unfolding line_of field
 by_fields i [] s a b c h = let z = sizes (kind_value []) [] h in absurd (omega arith)
 by_fields i (p ∷ []) s a b c h = let z = sizes (kind_value []) (p ∷ []) h in absurd (omega arith)
@@ -218,21 +217,21 @@ by_fields i (p ∷ q ∷ u ∷ more) s a b c h = done (node more h)
     own = let e = eqb-true (place_value p) i a in place_same p (omega arith) ∙ e
 
     done : Says (single q) more (kind_value q) (account_value u) (p ∷ q ∷ u ∷ more)
-        → (l : Line) × (cond (eqb (place p) i) (with_account (account u) (node_of (single q) more)) none ≡ some l)
+        → (l : Line) × (cond (eqb (place p) i) (with_account (account u) (node_of (single q) more)) None ≡ Some l)
         × (node_by (kind_value q) (account_value u) (p ∷ q ∷ u ∷ more) ≡ line_as l)
     done (n, e, f) = (
       record { account = account_value u; node = n },
-      ap (λ y. cond y (with_account (account u) (node_of (single q) more)) none) (eq-eqb (place p) i own)
+      ap (λ y. cond y (with_account (account u) (node_of (single q) more)) None) (eq-eqb (place p) i own)
           ∙ ap₂ with_account (sym (account_same u)) e ∙ ap (λ y. when y (record { account = account_value u; node = n })) (account_few (account_value u) b),
       f,
     )
 
-ended : (i : ℕ) (ws : List (List ℕ)) (l : Line) (closed : Bool) → closed ≡ true → line_of i ws ≡ some l → cond closed (line_of i ws) none ≡ some l
+ended : (i : ℕ) (ws : List (List ℕ)) (l : Line) (closed : Bool) → closed ≡ true → line_of i ws ≡ Some l → cond closed (line_of i ws) None ≡ Some l
 ended i ws l true c e = e
 ended i ws l false c e = absurd (false≢true c)
 
 -- a line of good form by 03 is one here, and the same node
-pub line_in : (i : ℕ) (x : TextLine) → i < 64 → line_good i x ≡ true → (l : Line) × (row_line i (row_of x) ≡ some l) × (node_in x ≡ line_as l)
+pub line_in : (i : ℕ) (x : TextLine) → i < 64 → line_good i x ≡ true → (l : Line) × (row_line i (row_of x) ≡ Some l) × (node_in x ≡ line_as l)
 unfolding line_good node_in row_line
 line_in i x s h =
     let ws = fields x.text in

@@ -1,9 +1,9 @@
 -- Document 03's loading refuses what loading refuses, with the same number and line, for every text.
-use Rattle.std.specs.Prelude.{◌≡◌, Bool, false, ◌&&◌, cond, ℕ, suc, ◌-◌, ◌≤◌, ◌<◌, leb, eqb, get_or}
+use Rattle.std.specs.Prelude.{◌≡◌, Bool, false, ◌&&◌, cond, ℕ, suc, ◌-◌, ◌≤◌, ◌<◌, leb, eqb, get_or, Option, None, Some}
 use Rattle.std.proofs.Math.Path.{refl, sym, ap, subst}
 use Rattle.std.proofs.Common.{ap₂, ◌∙◌, true≢false, arith, leb-true, leb-false, le-ltb, lt-ltb, eqb-true, ne_eqb}
 use Rattle.std.proofs.Math.Bool.{true}
-use Rattle.std.proofs.Math.Option.{Option, none, some, none-ne-some}
+use Rattle.std.proofs.lemmas.Option.{none-some}
 use mathlib.Core.List.{List, [], ◌∷◌, map}
 use Rattle.std.proofs.Math.Dec.{ltb}
 use Rattle.std.proofs.Math.ListN.{length}
@@ -29,9 +29,9 @@ use Rattle.theorems.specs.Paper03Load.{kind_by, kind_same, needs, line_in, forme
 use Rattle.theorems.specs.Paper03Tree.{tree_refused, tree_same, as_many}
 
 -- ── a line that says a node is of good form by 03 ──
-when_yes : {A : Type 0} (b : Bool) (x y : A) → when b x ≡ some y → b ≡ true
+when_yes : {A : Type 0} (b : Bool) (x y : A) → when b x ≡ Some y → b ≡ true
 when_yes true x y e = refl
-when_yes false x y e = absurd (none-ne-some y e)
+when_yes false x y e = absurd (none-some y e)
 
 kind_of : (q : List ℕ) (c : ℕ) → eqb (single q) c ≡ true → kind_value q ≡ kind_by c
 kind_of q c e = kind_same q ∙ ap kind_by (eqb-true (single q) c e)
@@ -42,30 +42,30 @@ known : (q : List ℕ) (ws : List (List ℕ)) (c : ℕ) → eqb (single q) c ≡
 known q ws c e l h = let k = kind_of q c e in (ap (λ j. ltb j 7) k ∙ l, ap (λ j. needs j ws) k ∙ h)
 
 module _ (p q u : List ℕ) where
-  out_three : (n : OwnNode) → node_of (single q) [] ≡ some n
+  out_three : (n : OwnNode) → node_of (single q) [] ≡ Some n
       → (ltb (kind_value q) 7 ≡ true) × (needs (kind_value q) (p ∷ q ∷ u ∷ []) ≡ true)
   unfolding node_of node_of_none field
   out_three n e = known q (p ∷ q ∷ u ∷ []) 69 (when_yes (eqb (single q) 69) (LeafNode Nothing) n e) refl refl
 
-  out_four : (x : List ℕ) (n : OwnNode) → node_of (single q) (x ∷ []) ≡ some n
+  out_four : (x : List ℕ) (n : OwnNode) → node_of (single q) (x ∷ []) ≡ Some n
       → (ltb (kind_value q) 7 ≡ true) × (needs (kind_value q) (p ∷ q ∷ u ∷ x ∷ []) ≡ true)
   unfolding node_of node_of_one field
   out_four x n e = go (eqb (single q) 76) refl (eqb (single q) 75) refl (eqb (single q) 90) refl e
     where
-      star : (again : Bool) → star_of again (place x) ≡ some n → is_place x ≡ true
+      star : (again : Bool) → star_of again (place x) ≡ Some n → is_place x ≡ true
       star again f = is_place-back x (when_yes (ltb (place x) 64) (Star again (place x)) n f)
 
       go : (l : Bool) → eqb (single q) 76 ≡ l → (k : Bool) → eqb (single q) 75 ≡ k → (z : Bool) → eqb (single q) 90 ≡ z
           → cond l (when (is_letter (single x)) (LeafNode (Letter (single x))))
-          (cond k (star_of false (place x)) (cond z (star_of true (place x)) none)) ≡ some n
+          (cond k (star_of false (place x)) (cond z (star_of true (place x)) None)) ≡ Some n
           → (ltb (kind_value q) 7 ≡ true) × (needs (kind_value q) (p ∷ q ∷ u ∷ x ∷ []) ≡ true)
       go true el k ek z ez f =
           known q (p ∷ q ∷ u ∷ x ∷ []) 76 el refl (letter_back x (when_yes (is_letter (single x)) (LeafNode (Letter (single x))) n f)).0
       go false el true ek z ez f = known q (p ∷ q ∷ u ∷ x ∷ []) 75 ek refl (star false f)
       go false el false ek true ez f = known q (p ∷ q ∷ u ∷ x ∷ []) 90 ez refl (star true f)
-      go false el false ek false ez f = absurd (none-ne-some n f)
+      go false el false ek false ez f = absurd (none-some n f)
 
-  out_five : (x y : List ℕ) (n : OwnNode) → node_of (single q) (x ∷ y ∷ []) ≡ some n
+  out_five : (x y : List ℕ) (n : OwnNode) → node_of (single q) (x ∷ y ∷ []) ≡ Some n
       → (ltb (kind_value q) 7 ≡ true) × (needs (kind_value q) (p ∷ q ∷ u ∷ x ∷ y ∷ []) ≡ true)
   unfolding node_of node_of_two range_of parts_of field
   out_five x y n e = go (eqb (single q) 82) refl (eqb (single q) 83) refl (eqb (single q) 65) refl e
@@ -85,7 +85,7 @@ module _ (p q u : List ℕ) where
       go : (r : Bool) → eqb (single q) 82 ≡ r → (s : Bool) → eqb (single q) 83 ≡ s → (a : Bool) → eqb (single q) 65 ≡ a
           → cond r (when ((is_letter (single x) && is_letter (single y)) && leb (single x) (single y)) (LeafNode (Range (single x) (single y))))
           (cond s (when (ltb (place x) 64 && ltb (place y) 64) (Sequence (place x) (place y)))
-          (cond a (when (ltb (place x) 64 && ltb (place y) 64) (Alternative (place x) (place y))) none)) ≡ some n
+          (cond a (when (ltb (place x) 64 && ltb (place y) 64) (Alternative (place x) (place y))) None)) ≡ Some n
           → (ltb (kind_value q) 7 ≡ true) × (needs (kind_value q) (p ∷ q ∷ u ∷ x ∷ y ∷ []) ≡ true)
       go true er s es a ea f =
           known q (p ∷ q ∷ u ∷ x ∷ y ∷ []) 82 er refl
@@ -94,15 +94,15 @@ module _ (p q u : List ℕ) where
           known q (p ∷ q ∷ u ∷ x ∷ y ∷ []) 83 es refl (places (when_yes (ltb (place x) 64 && ltb (place y) 64) (Sequence (place x) (place y)) n f))
       go false er false es true ea f =
           known q (p ∷ q ∷ u ∷ x ∷ y ∷ []) 65 ea refl (places (when_yes (ltb (place x) 64 && ltb (place y) 64) (Alternative (place x) (place y)) n f))
-      go false er false es false ea f = absurd (none-ne-some n f)
+      go false er false es false ea f = absurd (none-some n f)
 
-  out_more : (more : List (List ℕ)) (n : OwnNode) → node_of (single q) more ≡ some n
+  out_more : (more : List (List ℕ)) (n : OwnNode) → node_of (single q) more ≡ Some n
       → (ltb (kind_value q) 7 ≡ true) × (needs (kind_value q) (p ∷ q ∷ u ∷ more) ≡ true)
   unfolding node_of
   out_more [] n e = out_three n e
   out_more (x ∷ []) n e = out_four x n e
   out_more (x ∷ y ∷ []) n e = out_five x y n e
-  out_more (x ∷ y ∷ z ∷ ws) n e = absurd (none-ne-some n e)
+  out_more (x ∷ y ∷ z ∷ ws) n e = absurd (none-some n e)
 
 account-below : (c : ℕ) → leb c account_limit ≡ true → ltb c 201 ≡ true
 account-below c h = let l = leb-true c account_limit h in lt-ltb c 201 (omega arith)
@@ -113,20 +113,20 @@ Asks i ws =
     (eqb (place_value (field ws 0)) i ≡ true) × (ltb (account_value (field ws 2)) 201 ≡ true)
     × ((ltb (kind_value (field ws 1)) 7 ≡ true) × (needs (kind_value (field ws 1)) ws ≡ true))
 
-fields_out : (i : ℕ) (ws : List (List ℕ)) (l : Line) → i < 64 → line_of i ws ≡ some l → Asks i ws
+fields_out : (i : ℕ) (ws : List (List ℕ)) (l : Line) → i < 64 → line_of i ws ≡ Some l → Asks i ws
 unfolding line_of field
-fields_out i [] l s e = absurd (none-ne-some l e)
-fields_out i (p ∷ []) l s e = absurd (none-ne-some l e)
-fields_out i (p ∷ q ∷ []) l s e = absurd (none-ne-some l e)
+fields_out i [] l s e = absurd (none-some l e)
+fields_out i (p ∷ []) l s e = absurd (none-some l e)
+fields_out i (p ∷ q ∷ []) l s e = absurd (none-some l e)
 fields_out i (p ∷ q ∷ u ∷ more) l s e = go (eqb (place p) i) refl (node_of (single q) more) refl e
   where
     go : (b : Bool) → eqb (place p) i ≡ b → (o : Option OwnNode) → node_of (single q) more ≡ o
-        → cond b (with_account (account u) o) none ≡ some l
+        → cond b (with_account (account u) o) None ≡ Some l
         → (eqb (place_value p) i ≡ true) × (ltb (account_value u) 201 ≡ true)
         × ((ltb (kind_value q) 7 ≡ true) × (needs (kind_value q) (p ∷ q ∷ u ∷ more) ≡ true))
-    go false b o f g = absurd (none-ne-some l g)
-    go true b none f g = absurd (none-ne-some l g)
-    go true b (some n) f g =
+    go false b o f g = absurd (none-some l g)
+    go true b None f g = absurd (none-some l g)
+    go true b (Some n) f g =
         let k = eqb-true (place p) i b in (
           ap (λ j. eqb j i) (place-back p (omega arith)) ∙ b,
           ap (λ j. ltb j 201) (account_same u)
@@ -134,12 +134,12 @@ fields_out i (p ∷ q ∷ u ∷ more) l s e = go (eqb (place p) i) refl (node_of
           out_more p q u more n f,
         )
 
-line_out : (i : ℕ) (x : TextLine) (l : Line) → i < 64 → row_line i (row_of x) ≡ some l → line_good i x ≡ true
+line_out : (i : ℕ) (x : TextLine) (l : Line) → i < 64 → row_line i (row_of x) ≡ Some l → line_good i x ≡ true
 unfolding line_good row_line
 line_out i x l s e = go x.closed refl e
   where
-    go : (b : Bool) → x.closed ≡ b → cond b (line_of i (fields x.text)) none ≡ some l → line_good i x ≡ true
-    go false c f = absurd (none-ne-some l f)
+    go : (b : Bool) → x.closed ≡ b → cond b (line_of i (fields x.text)) None ≡ Some l → line_good i x ≡ true
+    go false c f = absurd (none-some l f)
     go true c f =
         let (a, b, d) = fields_out i (fields x.text) l s f in
         and_intro (and_intro (and_intro c a) (and_intro b d.0)) d.1
@@ -156,11 +156,11 @@ forms_same i (x ∷ ls) = go (leb 64 i) refl (row_line i (row_of x)) refl (forms
   where
     good_is : i < 64 → (o : Option Line) → row_line i (row_of x) ≡ o → (c : Bool) → line_good i x ≡ c → (f : Forms) → forms_from (suc i) ls ≡ forms_refusal f
         → cond c (forms_from (suc i) ls) (refusal 1 i) ≡ forms_refusal (line_front i o f)
-    good_is s none e false q f h = refl
-    good_is s none e true q f h = let (l, r, n) = line_in i x s q in absurd (none-ne-some l (sym e ∙ r))
-    good_is s (some l) e false q f h = absurd (true≢false (sym (line_out i x l s e) ∙ q))
-    good_is s (some l) e true q (good xs) h = h
-    good_is s (some l) e true q (fault j) h = h
+    good_is s None e false q f h = refl
+    good_is s None e true q f h = let (l, r, n) = line_in i x s q in absurd (none-some l (sym e ∙ r))
+    good_is s (Some l) e false q f h = absurd (true≢false (sym (line_out i x l s e) ∙ q))
+    good_is s (Some l) e true q (good xs) h = h
+    good_is s (Some l) e true q (fault j) h = h
 
     go : (b : Bool) → leb 64 i ≡ b → (o : Option Line) → row_line i (row_of x) ≡ o → (f : Forms) → forms_from (suc i) ls ≡ forms_refusal f
         → cond b (refusal 1 64) (cond (line_good i x) (forms_from (suc i) ls) (refusal 1 i)) ≡ forms_refusal (cond (ltb i 64) (line_front i o f) (fault 64))
@@ -177,8 +177,8 @@ pub record Agrees (r : Refusal) (a : Answer) : Type 0 where
 
 tree_agrees : (p : Pattern) (o : Option ℕ) → Agrees (tree_refused o) (tree_answer p o)
 unfolding refusal
-tree_agrees p none = record { numbers = refl; lines = λ h. absurd (omega arith) }
-tree_agrees p (some l) = record { numbers = refl; lines = λ h. refl }
+tree_agrees p None = record { numbers = refl; lines = λ h. absurd (omega arith) }
+tree_agrees p (Some l) = record { numbers = refl; lines = λ h. refl }
 
 abbrev refusal_of : List TextLine → Refusal
 refusal_of ls = cond (eqb (length ls) 0) (refusal 1 0) (or_refusal (forms_from 0 ls) (tree_refusal (nodes_in ls)))

@@ -1,10 +1,9 @@
 -- Document 03's tree faults are those of a table; and a text that 03 accepts loads, its nodes the lines of the table that loading gives.
-use Rattle.std.specs.Prelude.{◌≡◌, Bool, ◌&&◌, ◌||◌, not, ltb, leb, eqb, get_or, replicate}
+use Rattle.std.specs.Prelude.{◌≡◌, Bool, ◌&&◌, ◌||◌, not, ltb, leb, eqb, get_or, replicate, Option, None, Some}
 use Rattle.std.proofs.Math.Path.{refl, ap, ap₂}
 use Rattle.std.proofs.Common.{sym, ◌∙◌, true≢false, le-leb, ltb-true, ltb-false, eqb-true}
 use Rattle.std.proofs.Math.Bool.{true, false, cond}
 use Rattle.std.proofs.lemmas.Bool.{false≢true, lt-leb, eqb-false}
-use Rattle.std.proofs.Math.Option.{Option, none, some}
 use mathlib.Core.List.{List, [], ◌∷◌, ◌++◌, map}
 use Prim.Native.Nat.{ℕ, zero, suc, ◌+◌, ◌-◌, ◌<◌}
 use native.Mathlib.Omega.{arith}
@@ -72,8 +71,8 @@ bad_same i seen (q ∷ qs) =
 
 -- what 03 reports of a tree fault
 abbrev pub tree_refused : Option ℕ → Refusal
-tree_refused none = refusal 0 0
-tree_refused (some l) = refusal 2 l
+tree_refused None = refusal 0 0
+tree_refused (Some l) = refusal 2 l
 
 -- ── the lines from one on ──
 module _ (p : Pattern) where
@@ -100,7 +99,7 @@ module _ (p : Pattern) where
       bad : part_bad i (named_below p i) (parts_03 (line_as z)) ≡ wrongly_names p i
       bad = unfold wrongly_names in ap (part_bad i (named_below p i)) (named i z zs h) ∙ bad_same i (named_below p i) (parts (node_at p i))
 
-      by : (b : Bool) (o : Option ℕ) → cond b (refusal 2 i) (tree_refused o) ≡ tree_refused (cond b (some i) o)
+      by : (b : Bool) (o : Option ℕ) → cond b (refusal 2 i) (tree_refused o) ≡ tree_refused (cond b (Some i) o)
       by true o = refl
       by false o = refl
 
@@ -129,7 +128,7 @@ unnamed_same zero i ns f h = refl
 unnamed_same (suc k) i ns f h = go (member_03 i ns) (f i) (ap not (member_same i ns) ∙ h i) (lowest f (suc i) k) (unnamed_same k (suc i) ns f h)
   where
     go : (b c : Bool) → not b ≡ c → (o : Option ℕ) → unnamed_from k (suc i) ns ≡ tree_refused o
-        → cond b (unnamed_from k (suc i) ns) (refusal 2 i) ≡ tree_refused (cond c (some i) o)
+        → cond b (unnamed_from k (suc i) ns) (refusal 2 i) ≡ tree_refused (cond c (Some i) o)
     go true true e o q = absurd (false≢true e)
     go true false e o q = q
     go false true e o q = refl
@@ -182,16 +181,16 @@ tree_same xs =
     no_more false = refl
 
     joined : (a b : Option ℕ) → or_refusal (tree_refused a) (tree_refused b) ≡ tree_refused (or_else a b)
-    joined none b = unfold or_refusal refusal in refl
-    joined (some l) b = unfold or_refusal refusal in refl
+    joined None b = unfold or_refusal refusal in refl
+    joined (Some l) b = unfold or_refusal refusal in refl
 
-no_fault : (xs : List Line) → (tree_refusal (map line_as xs)).number ≡ 0 → tree_fault (table xs) ≡ none
+no_fault : (xs : List Line) → (tree_refusal (map line_as xs)).number ≡ 0 → tree_fault (table xs) ≡ None
 unfolding refusal
 no_fault xs h = go (tree_fault (table xs)) (sym (ap (λ r. r.number) (tree_same xs)) ∙ h)
   where
-    go : (o : Option ℕ) → (tree_refused o).number ≡ 0 → o ≡ none
-    go none e = refl
-    go (some l) e = absurd (omega arith)
+    go : (o : Option ℕ) → (tree_refused o).number ≡ 0 → o ≡ None
+    go None e = refl
+    go (Some l) e = absurd (omega arith)
 
 -- ── loading ──
 pub record Loads03 (text : List ℕ) : Type 0 where
@@ -200,7 +199,7 @@ pub record Loads03 (text : List ℕ) : Type 0 where
   pub gives : load_table text ≡ table own
   pub nodes : loaded text ≡ map line_as own
 
-accepted : (text : List ℕ) (xs : List Line) → forms 0 (rows text) ≡ good xs → loaded text ≡ map line_as xs → tree_fault (table xs) ≡ none
+accepted : (text : List ℕ) (xs : List Line) → forms 0 (rows text) ≡ good xs → loaded text ≡ map line_as xs → tree_fault (table xs) ≡ None
     → (length xs ≡ 0 → ⊥) → Loads03 text
 accepted text [] e ns f some-line = absurd (some-line refl)
 accepted text (x ∷ xs) e ns f some-line = record {

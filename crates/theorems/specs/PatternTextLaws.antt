@@ -1,9 +1,8 @@
 -- Every table that obeys the rules is the table of a text: loading the text of its lines gives it back.
-use Rattle.std.specs.Prelude.{◌≡◌, Bool, true, false, ◌&&◌, not, cond, List, [], ◌∷◌, ◌++◌, ℕ, zero, suc, ◌+◌, ◌≤◌, ◌<◌, eqb, leb, get_or}
+use Rattle.std.specs.Prelude.{◌≡◌, Bool, true, false, ◌&&◌, not, cond, List, [], ◌∷◌, ◌++◌, ℕ, zero, suc, ◌+◌, ◌≤◌, ◌<◌, eqb, leb, get_or, Option, None, Some}
 use Rattle.std.proofs.Math.Path.{refl, subst}
 use Rattle.std.proofs.Common.{sym, ap, ap₂, ◌∙◌, true≢false, append_assoc, arith}
 use Rattle.std.proofs.lemmas.Bool.{false≢true}
-use Rattle.std.proofs.Math.Option.{Option, none, some}
 use Rattle.std.proofs.Math.Decide.{dec_lt}
 use borrow.Author.Tests.{eqb-true, eq-eqb, ne_eqb, lt-ltb, le-leb, leb-true, not-true}
 use Rattle.std.proofs.Math.ListN.{length}
@@ -132,7 +131,7 @@ joined-rows f (g ∷ gs) rest h =
 abbrev Placed : Node → Type 0
 Placed k = (node_good k ≡ true) × Below 64 k
 
-node-back : (k : Node) → Placed k → node_of (kind_of k) (needs_of k) ≡ some k
+node-back : (k : Node) → Placed k → node_of (kind_of k) (needs_of k) ≡ Some k
 unfolding node_of node_of_none node_of_one node_of_two range_of parts_of single
 node-back (LeafNode Nothing) h = refl
 node-back (LeafNode (Letter c)) h = rw h.0
@@ -180,7 +179,7 @@ module _ (i : ℕ) (x : Line) (g : GoodLine i x) where
   fields-plain =
       rw (decimal-plain i (omega (arith, g.few)), kind_plain x.node, account-plain x.account account_low) (needs-plain x.node placed)
 
-  line-back : row_line i (row_of (fields_of i x)) ≡ some x
+  line-back : row_line i (row_of (fields_of i x)) ≡ Some x
   unfolding row_line line_of single
   line-back =
       rw (
@@ -224,16 +223,16 @@ below_more i (Alternative p q) l h = (omega (arith, h.0), omega (arith, h.1))
 below_more i (Star again p) l h = omega arith
 
 -- ── loading ──
-no_fault : (p : Pattern) → obeys p ≡ true → tree_fault p ≡ none
+no_fault : (p : Pattern) → obeys p ≡ true → tree_fault p ≡ None
 unfolding obeys
 no_fault p h =
     go (tree_fault p)
     (and_snd (is_none (lowest (badly_formed p) 0 p.count)) (is_none (tree_fault p))
     (and_snd (leb 1 p.count && leb p.count 64) (is_none (lowest (badly_formed p) 0 p.count) && is_none (tree_fault p)) h))
   where
-    go : (o : Option ℕ) → is_none o ≡ true → o ≡ none
-    go none e = refl
-    go (some l) e = absurd (false≢true e)
+    go : (o : Option ℕ) → is_none o ≡ true → o ≡ None
+    go None e = refl
+    go (Some l) e = absurd (false≢true e)
 
 module _ (xs : List Line) (h : obeys (table xs) ≡ true) where
   rules : Rules (table xs)
@@ -258,13 +257,13 @@ module _ (xs : List Line) (h : obeys (table xs) ≡ true) where
   pub text_loads : load_answer (text_of xs) ≡ answer 0 (length xs)
   text_loads = load_answer_is (text_of xs) ∙ ap forms_answer forms_are ∙ go xs rules (no_fault (table xs) h)
     where
-      go : (ys : List Line) → Rules (table ys) → tree_fault (table ys) ≡ none → forms_answer (good ys) ≡ answer 0 (length ys)
+      go : (ys : List Line) → Rules (table ys) → tree_fault (table ys) ≡ None → forms_answer (good ys) ≡ answer 0 (length ys)
       go [] r e = absurd (omega (arith, r.one, table_count []))
       go (y ∷ ys) r e = ap (tree_answer (table (y ∷ ys))) e ∙ ap (answer 0) (table_count (y ∷ ys))
 
   pub text_table : load_table (text_of xs) ≡ table xs
   text_table = load_table_is (text_of xs) ∙ ap forms_table forms_are ∙ go xs rules (no_fault (table xs) h)
     where
-      go : (ys : List Line) → Rules (table ys) → tree_fault (table ys) ≡ none → forms_table (good ys) ≡ table ys
+      go : (ys : List Line) → Rules (table ys) → tree_fault (table ys) ≡ None → forms_table (good ys) ≡ table ys
       go [] r e = absurd (omega (arith, r.one, table_count []))
       go (y ∷ ys) r e = ap (tree_table (table (y ∷ ys))) e

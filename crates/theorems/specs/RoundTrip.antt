@@ -24,14 +24,12 @@ use Rattle.semantics.specs.Sweeps.{greedy}
 use Rattle.semantics.proofs.CodeLaws.{value_of-code}
 use Rattle.semantics.proofs.GreedyLaws.{canonical_greedy}
 use Rattle.steps.specs.StateSets.{words}
-use Rattle.totals.specs.declared.Totalled.{Totalled}
-use Rattle.totals.specs.declared.TotalsOutcome.{TotalsOutcome}
-use Rattle.totals.specs.declared.TotalsOutcome.TheVariants.{Added, Refused as NotAdded}
 use Rattle.codes.specs.Flatten.{flattened_answer, Flattens}
 use Rattle.entries.specs.Gather.{entries_by, entries_of}
-use Rattle.totals.specs.Totals.{totals_outcome, Totals}
-use Rattle.spans.specs.declared.Spanned.{Spanned}
-use Rattle.spans.specs.Spans.{visit_by, span_visit, span_answer, start_of, size_of, span_shown, span_outcome, Spans}
+use Rattle.totals.specs.Totals.{Totals}
+use Rattle.totals.specs.Unique.{totals_one}
+use Rattle.spans.specs.declared.Span.{Span}
+use Rattle.spans.specs.Spans.{visit_by, span_visit, span_answer, start_of, size_of, span_shown, span_outcome, span_given, Spans}
 use Rattle.parser.specs.Parse.{Parses}
 use Rattle.canonical.specs.Canonicalize.{Canonicalizes}
 use Rattle.canonical.specs.CanonicalLaws.{laid, settle_read}
@@ -54,10 +52,6 @@ written_all n ys h = take_all (cell_count 8 n) ys h
 letters-given : (r : Result ℕ Refusal) (n : ℕ) → flattened_answer r ≡ answer 0 n → r ≡ Ok n
 letters-given (Ok m) n e = ap (λ a. Ok a.value) e
 letters-given (Err why) n e = let z : number why ≡ 0 = ap (λ a. a.number) e in absurd (omega (arith, number_positive why))
-
-added-given : (r : TotalsOutcome) → totals_outcome r ≡ answer 0 0 → r ≡ Added
-added-given Added e = refl
-added-given (NotAdded why) e = let z : number why ≡ 0 = ap (λ a. a.number) e in absurd (omega (arith, number_positive why))
 
 module _ (p : Pattern) (tape ws us xs ys : List ℕ) (n : ℕ) (h : Parses p tape ws us xs ys (Ok n)) where
   abbrev best : List Bool
@@ -128,7 +122,7 @@ module _ (p : Pattern) (tape ws us xs ys : List ℕ) (n : ℕ) (h : Parses p tap
         of_best (λ l k. value_of (root p) (held 8 l k) ≡ some v)
         (ap (value_of (root p)) (held-pack 8 (omega arith) best ∙ e) ∙ value_of-code (root p) v)
 
-    pub totals-greedy : Totals p (written n ys) n (record { outcome = Added; litres = totals (accounts (root p) v) })
+    pub totals-greedy : Totals p (written n ys) n (Ok (totals (accounts (root p) v)))
     unfolding entries_of
     totals-greedy =
         let d = is_read in
@@ -138,8 +132,8 @@ module _ (p : Pattern) (tape ws us xs ys : List ℕ) (n : ℕ) (h : Parses p tap
           gives = sym (totals_adds p (written n ys) n d.good whole few_spelled ∙ ap (λ o. totals (entries_by (root p) o)) value_is);
         }
 
-    pub parse_totals : (r : Totalled) → Totals p (written n ys) n r → (r.outcome ≡ Added) × (r.litres ≡ totals (accounts (root p) v))
-    parse_totals r t = let s = totals-greedy in (added-given r.outcome (t.answers ∙ sym s.answers), t.gives ∙ sym s.gives)
+    pub parse_totals : (r : Result (List ℕ) Refusal) → Totals p (written n ys) n r → r ≡ Ok (totals (accounts (root p) v))
+    parse_totals r t = totals_one p (written n ys) n r (Ok (totals (accounts (root p) v))) t totals-greedy
 
     module _ (l k : ℕ) where
       visit_is : span_visit p (written n ys) n l k ≡ visit (root p) v l k
@@ -155,9 +149,9 @@ module _ (p : Pattern) (tape ws us xs ys : List ℕ) (n : ℕ) (h : Parses p tap
             span_shows p (written n ys) n d.good whole few_spelled tape parsed_spells d.letters l k ∙ visit_is,
           )
 
-      pub parse_spans : (r : Spanned) → Spans p tape (written n ys) n l k r
-          → (span_outcome r.outcome ≡ visit_answer (visit (root p) v l k)) × (r.start ≡ start_of (visit (root p) v l k))
-          × (r.length ≡ size_of (visit (root p) v l k))
+      pub parse_spans : (r : Result Span Refusal) → Spans p tape (written n ys) n l k r
+          → (span_outcome r ≡ visit_answer (visit (root p) v l k)) × ((span_given r).start ≡ start_of (visit (root p) v l k))
+          × ((span_given r).length ≡ size_of (visit (root p) v l k))
       parse_spans r s =
           let g = span_greedy in
           (s.answers ∙ g.0, s.starts ∙ ap start_of g.1, s.lengths ∙ ap size_of g.1)

@@ -1,8 +1,9 @@
 -- Every piece stands by itself: from the promises and the theory only.
-use Rattle.std.specs.Prelude.{◌≡◌, Bool, true, List, [], ◌∷◌, ℕ, ◌+◌, ◌≤◌, length, take, drop, Ok}
+use Rattle.std.specs.Prelude.{◌≡◌, Bool, true, List, [], ◌∷◌, ℕ, ◌+◌, ◌≤◌, length, take, drop, Ok, Result}
 use Rattle.std.proofs.Math.Path.{refl, sym, ap}
 use Rattle.std.proofs.Common.{subst, ◌∙◌, arith, length-take, length-drop}
 use Rattle.std.proofs.Math.Option.{Option, map, none, some}
+use Rattle.refusals.specs.declared.Refusal.{Refusal}
 use Rattle.syntax.specs.declared.Pattern.{Pattern}
 use Rattle.syntax.specs.Letter.{first_bad, letter_limit}
 use Rattle.syntax.specs.Table.{obeys}
@@ -26,8 +27,8 @@ use Rattle.canonical.specs.CanonicalLaws.{spelled, letters_good, settles}
 use Rattle.canonical.specs.RoundTrip.{canonical_whole, canonical_spells}
 use Rattle.canonical.specs.Unique.{canonicalized_same}
 use Rattle.canonical.specs.Demand.{tape_of, spells}
-use Rattle.spans.specs.declared.Spanned.{Spanned}
-use Rattle.spans.specs.Spans.{visit_by, span_visit, span_answer, start_of, size_of, span_shown, span_outcome, Spans}
+use Rattle.spans.specs.declared.Span.{Span}
+use Rattle.spans.specs.Spans.{visit_by, span_visit, span_answer, start_of, size_of, span_shown, span_outcome, span_given, Spans}
 use Rattle.theorems.specs.Passed.{visit_answer, flatten_answers, span_answers, span_shows}
 use Rattle.theorems.specs.StandsAlone.{ShowsCut, HasCode, CutAlone, AloneAt, StandsAlone}
 
@@ -79,13 +80,13 @@ module _ (q : Pattern) (good : obeys q ≡ true) (w : List ℕ) (few : length w 
           span_shows q (pack 8 bs) (length bs) good whole short w own letters l k ∙ cut_shown,
         )
 
-    shows : (r : Spanned) → Spans q w (pack 8 bs) (length bs) l k r → ShowsCut (code_cut (root q) bs l k) r
+    shows : (r : Result Span Refusal) → Spans q w (pack 8 bs) (length bs) l k r → ShowsCut (code_cut (root q) bs l k) r
     shows r s =
         let (a, v) = span_cut in
         go (code_cut (root q) bs l k) (s.answers ∙ a) (s.starts ∙ ap start_of v) (s.lengths ∙ ap size_of v)
       where
-        go : (o : Option Cut) → span_outcome r.outcome ≡ visit_answer (map seen o) → r.start ≡ start_of (map seen o)
-            → r.length ≡ size_of (map seen o) → ShowsCut o r
+        go : (o : Option Cut) → span_outcome r ≡ visit_answer (map seen o) → (span_given r).start ≡ start_of (map seen o)
+            → (span_given r).length ≡ size_of (map seen o) → ShowsCut o r
         go none e f g = e
         go (some x) e f g = (e, f, g)
 
