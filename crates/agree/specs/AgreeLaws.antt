@@ -47,7 +47,7 @@ pub record Left (p : Pattern) (code : List ℕ) (count k : ℕ) (ts us ws vs xs 
   pub room : cell_count 8 k ≤ length xs
   pub code_is : ys ≡ in_front (pack 8 (best p code count)) xs
 
-module _ (p : Pattern) (code : List ℕ) (count k : ℕ) (ts us ws vs xs ys : List ℕ) (r : Result ℕ Refusal)
+module _ {p : Pattern} {code : List ℕ} {count k : ℕ} {ts us ws vs xs ys : List ℕ} {r : Result ℕ Refusal}
     (h : Canonicalizes p code count ts us ws vs xs ys r) (e : r ≡ Ok k) where
   -- it was not refused before the sweeps
   passed : (settle_early p code count (length ts) (length ws)).number ≡ 0
@@ -136,9 +136,9 @@ all_worked : (a a' b b' c c' : List ℕ) → a ≡ a' → b ≡ b' → c ≡ c' 
 all_worked a a' b b' c c' e f g = ap (λ z. worked z b c) e ∙ ap (λ z. worked a' z c) f ∙ ap (worked a' b') g
 
 back :
-    (p : Pattern) (code : List ℕ) (count : ℕ) (ts us ws vs xs ys : List ℕ) (r : Result ℕ Refusal) → Canonicalizes p code count ts us ws vs xs ys r
+    {p : Pattern} {code : List ℕ} {count : ℕ} {ts us ws vs xs ys : List ℕ} {r : Result ℕ Refusal} → Canonicalizes p code count ts us ws vs xs ys r
     → IsSettled p code count (length ts) (length ws) → Back p code count (worked ts ws xs) (worked us vs ys) r
-back p code count ts us ws vs xs ys r h s = record {
+back {p} {code} {count} {ts} {us} {ws} {vs} {xs} {ys} {r} h s = record {
   short = λ l.
       let m = greedily.1.short s.bits s.earliest (subst (λ n. length xs < n) size l) in
       (canonicalized_same r (Err (CodeTooShort (length code))) (m.0 ∙ ap (λ n. refused (CodeTooShort n)) (sym size)), left_by xs m.1);
@@ -208,87 +208,79 @@ same_refusal r v w e f = cc
 same_bits : (r : Result ℕ Refusal) (n m : ℕ) → r ≡ Ok n → r ≡ Ok m → n ≡ m
 same_bits r n m e f = cc
 
-module _
-    (p : Pattern)
-    (one : List ℕ)
-    (n : ℕ)
-    (two : List ℕ)
-    (m : ℕ)
-    (ts us ws vs gs hs : List ℕ)
-    (third : Result ℕ Refusal)
-    (h : Canonicalizes p one n ts us ws vs gs hs third)
-  where
-    pub again_first : (why : Refusal) → third ≡ Err why → ComesBack p one n two m (worked ts ws gs) (worked us vs hs) (Err why)
-    again_first why e s t =
-        let q = back p one n ts us ws vs gs hs third h s in
+module _ (two : List ℕ) (m : ℕ) {p : Pattern} {one : List ℕ} {n : ℕ} {ts us ws vs gs hs : List ℕ} {third : Result ℕ Refusal}
+    (h : Canonicalizes p one n ts us ws vs gs hs third) where
+  pub again_first : (why : Refusal) → third ≡ Err why → ComesBack p one n two m (worked ts ws gs) (worked us vs hs) (Err why)
+  again_first why e s t =
+      let q = back h s in
+      record {
+        first_short = λ l. let a = q.short l in (ap Err (same_refusal third why (CodeTooShort (length one)) e a.0), a.1);
+        second_short = λ l j. absurd (refused-not third why n e (q.fits l).0);
+        compares = λ l j. absurd (refused-not third why n e (q.fits l).0);
+      }
+
+  module _ {k : ℕ} (e : third ≡ Ok k) {us' vs' is : List ℕ} {fourth : Result ℕ Refusal} (f : Canonicalizes p two m us us' vs vs' hs is fourth) where
+    -- the first came back, so the second is settled again in buffers of the same lengths
+    kept-length : IsSettled p one n (length ts) (length ws) → length hs ≡ length gs
+    kept-length s = go (dec_le (length one) (length gs))
+      where
+        go : Dec (length one ≤ length gs) → length hs ≡ length gs
+        go (yes l) = ap (λ z. length z.again) ((back h s).fits l).1 ∙ length-in_front one gs l
+        go (no l) = ap (λ z. length z.again) ((back h s).short (omega arith)).1
+
+    second_back : IsSettled p one n (length ts) (length ws) → IsSettled p two m (length ts) (length ws)
+        → Back p two m (worked us vs hs) (worked us' vs' is) fourth
+    second_back s t =
+        let a : length us ≡ length ts = tape-length h e in
+        let b : length vs ≡ length ws = words-kept h e in
+        let t' : IsSettled p two m (length us) (length vs) = record {
+          good = t.good;
+          letters = t.letters;
+          few = t.few;
+          bits = t.bits;
+          earliest = t.earliest;
+          bytes_are = t.bytes_are;
+          count_is = t.count_is;
+          tape-room = subst (λ z. length t.letters ≤ z) (sym a) t.tape-room;
+          word_room = subst (λ z. 2 * (length t.letters + 1) ≤ z) (sym b) t.word_room;
+        } in
+        back f t'
+
+    pub again_second : (why : Refusal) → fourth ≡ Err why → ComesBack p one n two m (worked ts ws gs) (worked us' vs' is) (Err why)
+    again_second why d s t =
+        let q = back h s in
+        let w = second_back s t in
+        let same = kept-length s in
         record {
-          first_short = λ l. let a = q.short l in (ap Err (same_refusal third why (CodeTooShort (length one)) e a.0), a.1);
-          second_short = λ l j. absurd (refused-not third why n e (q.fits l).0);
-          compares = λ l j. absurd (refused-not third why n e (q.fits l).0);
+          first_short = λ l. absurd (refused-not third (CodeTooShort (length one)) k (q.short l).0 e);
+          second_short = λ l j.
+              let a = w.short (omega (arith, same, j)) in
+              (ap Err (same_refusal fourth why (CodeTooShort (length two)) d a.0), a.1 ∙ ap (filled p two m) (q.fits l).1);
+          compares = λ l j. absurd (refused-not fourth why m d (w.fits (omega (arith, same, j))).0);
         }
 
-    module _ (k : ℕ) (e : third ≡ Ok k) (us' vs' is : List ℕ) (fourth : Result ℕ Refusal) (f : Canonicalizes p two m us us' vs vs' hs is fourth) where
-      -- the first came back, so the second is settled again in buffers of the same lengths
-      kept-length : IsSettled p one n (length ts) (length ws) → length hs ≡ length gs
-      kept-length s = go (dec_le (length one) (length gs))
-        where
-          go : Dec (length one ≤ length gs) → length hs ≡ length gs
-          go (yes l) = ap (λ z. length z.again) ((back p one n ts us ws vs gs hs third h s).fits l).1 ∙ length-in_front one gs l
-          go (no l) = ap (λ z. length z.again) ((back p one n ts us ws vs gs hs third h s).short (omega arith)).1
-
-      second_back : IsSettled p one n (length ts) (length ws) → IsSettled p two m (length ts) (length ws)
-          → Back p two m (worked us vs hs) (worked us' vs' is) fourth
-      second_back s t =
-          let a : length us ≡ length ts = tape-length p one n k ts us ws vs gs hs third h e in
-          let b : length vs ≡ length ws = words-kept p one n k ts us ws vs gs hs third h e in
-          let t' : IsSettled p two m (length us) (length vs) = record {
-            good = t.good;
-            letters = t.letters;
-            few = t.few;
-            bits = t.bits;
-            earliest = t.earliest;
-            bytes_are = t.bytes_are;
-            count_is = t.count_is;
-            tape-room = subst (λ z. length t.letters ≤ z) (sym a) t.tape-room;
-            word_room = subst (λ z. 2 * (length t.letters + 1) ≤ z) (sym b) t.word_room;
-          } in
-          back p two m us us' vs vs' hs is fourth f t'
-
-      pub again_second : (why : Refusal) → fourth ≡ Err why → ComesBack p one n two m (worked ts ws gs) (worked us' vs' is) (Err why)
-      again_second why d s t =
-          let q = back p one n ts us ws vs gs hs third h s in
-          let w = second_back s t in
-          let same = kept-length s in
-          record {
-            first_short = λ l. absurd (refused-not third (CodeTooShort (length one)) k (q.short l).0 e);
-            second_short = λ l j.
-                let a = w.short (omega (arith, same, j)) in
-                (ap Err (same_refusal fourth why (CodeTooShort (length two)) d a.0), a.1 ∙ ap (filled p two m) (q.fits l).1);
-            compares = λ l j. absurd (refused-not fourth why m d (w.fits (omega (arith, same, j))).0);
-          }
-
-      pub again-both :
-          (l i j : ℕ) → fourth ≡ Ok l → i ≡ cell_count 8 k → j ≡ cell_count 8 l → (x y r : Bool) → (x ≡ true) ↔ Equal one (take i hs) n k
-          → (y ≡ true) ↔ Equal two (take j is) m l
-          → (x ≡ true → y ≡ true → (r ≡ true) ↔ Equal one two n m) → ComesBack p one n two m (worked ts ws gs) (worked us' vs' is) (Ok r)
-      again-both l i j d ei ej x y r ex ey er s t =
-          let q = back p one n ts us ws vs gs hs third h s in
-          let w = second_back s t in
-          let same = kept-length s in
-          record {
-            first_short = λ a. absurd (refused-not third (CodeTooShort (length one)) k (q.short a).0 e);
-            second_short = λ a b. absurd (refused-not fourth (CodeTooShort (length two)) l (w.short (omega (arith, same, b))).0 d);
-            compares = λ a b.
-                let first = q.fits a in
-                let second = w.fits (omega (arith, same, b)) in
-                let tx : x ≡ true =
-                back_equal one n k i gs hs x (same_bits third k n e first.0) ei (settled-size p one n (length ts) (length ws) s)
-                (ap (λ v. v.again) first.1) ex in
-                let ty : y ≡ true =
-                back_equal two m l j hs is y (same_bits fourth l m d second.0) ej (settled-size p two m (length ts) (length ws) t)
-                (ap (λ v. v.again) second.1) ey in
-                (concluded_by one two n m r (er tx ty), second.1 ∙ ap (written p two m) first.1);
-          }
+    pub again-both :
+        {l i j : ℕ} → fourth ≡ Ok l → i ≡ cell_count 8 k → j ≡ cell_count 8 l → (x y r : Bool) → (x ≡ true) ↔ Equal one (take i hs) n k
+        → (y ≡ true) ↔ Equal two (take j is) m l
+        → (x ≡ true → y ≡ true → (r ≡ true) ↔ Equal one two n m) → ComesBack p one n two m (worked ts ws gs) (worked us' vs' is) (Ok r)
+    again-both {l} {i} {j} d ei ej x y r ex ey er s t =
+        let q = back h s in
+        let w = second_back s t in
+        let same = kept-length s in
+        record {
+          first_short = λ a. absurd (refused-not third (CodeTooShort (length one)) k (q.short a).0 e);
+          second_short = λ a b. absurd (refused-not fourth (CodeTooShort (length two)) l (w.short (omega (arith, same, b))).0 d);
+          compares = λ a b.
+              let first = q.fits a in
+              let second = w.fits (omega (arith, same, b)) in
+              let tx : x ≡ true =
+              back_equal one n k i gs hs x (same_bits third k n e first.0) ei (settled-size p one n (length ts) (length ws) s)
+              (ap (λ v. v.again) first.1) ex in
+              let ty : y ≡ true =
+              back_equal two m l j hs is y (same_bits fourth l m d second.0) ej (settled-size p two m (length ts) (length ws) t)
+              (ap (λ v. v.again) second.1) ey in
+              (concluded_by one two n m r (er tx ty), second.1 ∙ ap (written p two m) first.1);
+        }
 
 -- ── the answer of a run ──
 verdict-first :
@@ -325,12 +317,12 @@ module _
         (k l i j : ℕ) → first ≡ Ok k → second ≡ Ok l → i ≡ cell_count 8 k → j ≡ cell_count 8 l → (r : Result Bool Refusal)
         → ComesBack p (take i xs) k (take j ys) l (worked us' vs' gs) left_in r → Verdict first second p xs ys (worked us' vs' gs) left_in r
     verdict-both k l i j e d ei ej r w =
-        let a : length us ≡ length ts = tape-length p one n k ts us ws vs os xs first h e in
-        let b : length vs ≡ length ws = words-kept p one n k ts us ws vs os xs first h e in
-        let a' : length us' ≡ length us = tape-length p two m l us us' vs vs' bs ys second f d in
-        let b' : length vs' ≡ length vs = words-kept p two m l us us' vs vs' bs ys second f d in
-        let s = left-settled p one n k ts us ws vs os xs first h e (length us') (length vs') (a' ∙ a) (b' ∙ b) in
-        let t = left-settled p two m l us us' vs vs' bs ys second f d (length us') (length vs') a' b' in
+        let a : length us ≡ length ts = tape-length h e in
+        let b : length vs ≡ length ws = words-kept h e in
+        let a' : length us' ≡ length us = tape-length f d in
+        let b' : length vs' ≡ length vs = words-kept f d in
+        let s = left-settled h e (length us') (length vs') (a' ∙ a) (b' ∙ b) in
+        let t = left-settled f d (length us') (length vs') a' b' in
         let w' : ComesBack p (front xs k) k (front ys l) l (worked us' vs' gs) left_in r =
         subst (λ z. ComesBack p (take z xs) k (front ys l) l (worked us' vs' gs) left_in r) ei
         (subst (λ z. ComesBack p (take i xs) k (take z ys) l (worked us' vs' gs) left_in r) ej w) in
@@ -392,22 +384,22 @@ module _
       result = second;
       kept = f;
       tape-room =
-          subst (λ z. length (spells d) ≤ z) (sym (tape-length p c.bytes c.count settled_c.count ts us ws vs os xs first h first_is)) sd.tape-room;
+          subst (λ z. length (spells d) ≤ z) (sym (tape-length h first_is)) sd.tape-room;
       word_room =
           subst (λ z. 2 * (length (spells d) + 1) ≤ z)
-          (sym (words-kept p c.bytes c.count settled_c.count ts us ws vs os xs first h first_is)) sd.word_room;
+          (sym (words-kept h first_is)) sd.word_room;
       code-room = sd.code-room;
     }
 
     compared : (k l : ℕ) → first ≡ Ok k → second ≡ Ok l → Compares (front xs k) k (front ys l) l r
     compared k l e q =
-        let a = left p c.bytes c.count k ts us ws vs os xs first h e in
-        let b = left p d.bytes d.count l us us' vs vs' bs ys second f q in
+        let a = left h e in
+        let b = left f q in
         let x : length (front xs k) ≤ length gs =
-        subst (λ z. z ≤ length gs) (sym (ap length (left-front p c.bytes c.count k ts us ws vs os xs first h e)
+        subst (λ z. z ≤ length gs) (sym (ap length (left-front h e)
         ∙ length-pack 8 (greedy (root p) (spells c)))) (gc.code-room (greedy (root p) (spells c)) a.canonical) in
         let y : length (front ys l) ≤ length gs =
-        subst (λ z. z ≤ length gs) (sym (ap length (left-front p d.bytes d.count l us us' vs vs' bs ys second f q)
+        subst (λ z. z ≤ length gs) (sym (ap length (left-front f q)
         ∙ length-pack 8 (greedy (root p) (spells d)))) (gd.code-room (greedy (root p) (spells d)) b.canonical) in
         ((w.both k l e q).compares x y).0
 
@@ -447,32 +439,23 @@ agrees p one n two m ts us us' ws vs vs' os xs bs ys gs left_in first second h f
 }
 
 -- one law for each way of the code
-module _
-    (p : Pattern)
-    (one : List ℕ)
-    (n : ℕ)
-    (two : List ℕ)
-    (m : ℕ)
-    (ts us us' ws vs vs' os xs bs ys gs : List ℕ)
-    (first second : Result ℕ Refusal)
-    (h : Canonicalizes p one n ts us ws vs os xs first)
-    (f : Canonicalizes p two m us us' vs vs' bs ys second)
-  where
-    pub agrees_first : (why : Refusal) → first ≡ Err why → Agrees p one n two m (worked ts ws gs) (worked us' vs' gs) os xs bs ys (Err why)
-    agrees_first why e =
-        agrees p one n two m ts us us' ws vs vs' os xs bs ys gs (worked us' vs' gs) first second h f (Err why)
-        (verdict-first first second p xs ys (worked us' vs' gs) why e)
+module _ {p : Pattern} {one : List ℕ} {n : ℕ} {two : List ℕ} {m : ℕ} {ts us us' ws vs vs' os xs bs ys gs : List ℕ} {first second : Result ℕ Refusal}
+    (h : Canonicalizes p one n ts us ws vs os xs first) (f : Canonicalizes p two m us us' vs vs' bs ys second) where
+  pub agrees_first : (why : Refusal) → first ≡ Err why → Agrees p one n two m (worked ts ws gs) (worked us' vs' gs) os xs bs ys (Err why)
+  agrees_first why e =
+      agrees p one n two m ts us us' ws vs vs' os xs bs ys gs (worked us' vs' gs) first second h f (Err why)
+      (verdict-first first second p xs ys (worked us' vs' gs) why e)
 
-    pub agrees-second :
-        (k : ℕ) (why : Refusal) → first ≡ Ok k → second ≡ Err why
-        → Agrees p one n two m (worked ts ws gs) (worked us' vs' gs) os xs bs ys (Err why)
-    agrees-second k why e d =
-        agrees p one n two m ts us us' ws vs vs' os xs bs ys gs (worked us' vs' gs) first second h f (Err why)
-        (verdict-second first second p xs ys (worked us' vs' gs) k why e d)
+  pub agrees-second :
+      (k : ℕ) (why : Refusal) → first ≡ Ok k → second ≡ Err why
+      → Agrees p one n two m (worked ts ws gs) (worked us' vs' gs) os xs bs ys (Err why)
+  agrees-second k why e d =
+      agrees p one n two m ts us us' ws vs vs' os xs bs ys gs (worked us' vs' gs) first second h f (Err why)
+      (verdict-second first second p xs ys (worked us' vs' gs) k why e d)
 
-    pub agrees-both :
-        (left_in : Worked) (k l i j : ℕ) → first ≡ Ok k → second ≡ Ok l → i ≡ cell_count 8 k → j ≡ cell_count 8 l → (r : Result Bool Refusal)
-        → ComesBack p (take i xs) k (take j ys) l (worked us' vs' gs) left_in r → Agrees p one n two m (worked ts ws gs) left_in os xs bs ys r
-    agrees-both left_in k l i j e d ei ej r w =
-        agrees p one n two m ts us us' ws vs vs' os xs bs ys gs left_in first second h f r
-        (verdict-both p one n two m ts us us' ws vs vs' os xs bs ys gs left_in first second h f k l i j e d ei ej r w)
+  pub agrees-both :
+      (left_in : Worked) (k l i j : ℕ) → first ≡ Ok k → second ≡ Ok l → i ≡ cell_count 8 k → j ≡ cell_count 8 l → (r : Result Bool Refusal)
+      → ComesBack p (take i xs) k (take j ys) l (worked us' vs' gs) left_in r → Agrees p one n two m (worked ts ws gs) left_in os xs bs ys r
+  agrees-both left_in k l i j e d ei ej r w =
+      agrees p one n two m ts us us' ws vs vs' os xs bs ys gs left_in first second h f r
+      (verdict-both p one n two m ts us us' ws vs vs' os xs bs ys gs left_in first second h f k l i j e d ei ej r w)

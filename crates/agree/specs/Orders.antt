@@ -24,8 +24,8 @@ module _ (p : Pattern) (one : List ℕ) (n : ℕ) (two : List ℕ) (m : ℕ) (le
   only_second k e why f =
       let c = h.first in
       let d = h.second in
-      let ts = tape-length p one n k lent.tape c.tape_now lent.words c.words_now a a_now c.result c.kept e in
-      let ws = words-kept p one n k lent.tape c.tape_now lent.words c.words_now a a_now c.result c.kept e in
+      let ts = tape-length c.kept e in
+      let ws = words-kept c.kept e in
       let g : First why (settle_order p two m (length c.tape_now) (length c.words_now)) =
       subst (λ i. First why (settle_order p two m i (length c.words_now))) (sym ts)
       (subst (λ i. First why (settle_order p two m (length lent.tape) i)) (sym ws) f) in
