@@ -1,7 +1,7 @@
 -- How a field that was read cuts the first line of a text.
 use Rattle.std.specs.Prelude.{◌≡◌, refl, Bool, true, false, ◌||◌, not, cond, List, [], ◌∷◌, ℕ, zero, suc, ◌+◌, ◌≤◌, ◌<◌, eqb, ltb, length, get_or, drop, take, None, Some, position}
 use Rattle.std.specs.List.{position_or_len}
-use Rattle.std.proofs.Common.{sym, ap, ◌∙◌, true≢false, arith, eqb-true, ne_eqb, ltb-false, le-ltb, length-take, get_or-take}
+use Rattle.std.proofs.Common.{sym, ap, ◌∙◌, true≢false, arith, eqb-true, ne_eqb, ltb-false, le-ltb}
 use Rattle.std.proofs.lemmas.List.Quantifiers.{position-Some}
 use Rattle.fields.specs.Text.{byte_front}
 use Rattle.fields.specs.Fields.{stops, field_size}
