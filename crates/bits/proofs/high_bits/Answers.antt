@@ -2,7 +2,7 @@
 use native.Mathlib.Omega.{arith}
 use mathlib.Core.Path.{ap, ◌∙◌}
 use Rattle.binary.specs.Bits.{high_bits}
-use Rattle.binary.specs.Writing.{high_shift, high_le}
+use Rattle.binary.specs.Writing.{high_shift}
 use Rattle.bits.proofs.high_bits.Goals as goal
 
 pub returns : goal.returns

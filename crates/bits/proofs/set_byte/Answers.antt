@@ -3,7 +3,7 @@ use native.Mathlib.Omega.{arith}
 use mathlib.Core.Path.{sym, ap, ◌∙◌}
 use Prim.Native.Nat.{◌+◌, ◌*◌, ◌-◌, ◌/◌, ◌%◌, ◌^◌}
 use lib.Bits.{bit_or}
-use lib.ListN.{set, length-set}
+use lib.ListN.{set}
 use Rattle.binary.specs.Writing.{write-whole, write-parts}
 use borrow.Author.Rules.{rules}
 use Rattle.bits.proofs.set_byte.Goals as goal

@@ -2,7 +2,6 @@
 use mathlib.Core.Path.{sym, ◌∙◌}
 use native.Mathlib.Omega.{arith}
 use Rattle.bits.specs.Handed.{handed_limit}
-use Rattle.entries.specs.Entering.{enters_few}
 use Rattle.entries.specs.Measures.{read-bad, read-failed, read_elsewhere, read_whole}
 use Rattle.entries.proofs.enter.Goals as goal
 
