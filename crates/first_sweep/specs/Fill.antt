@@ -13,9 +13,8 @@ use Rattle.steps.specs.declared.Words.{Words}
 use Rattle.steps.specs.StateSets.{words}
 use Rattle.semantics.specs.Sweeps.{at_end}
 use Rattle.table.specs.Cells.{Holds}
-use Rattle.masks.specs.Leaves.{letter_cells, letter_cell}
 use Rattle.masks.specs.Masks.{MasksOf}
-use Rattle.first_sweep.specs.Sweep.{stored_step, next_of, put_at, PutsWords, puts_length, Sweepable, laid, laid-length, Sweeps}
+use Rattle.first_sweep.specs.Sweep.{stored_step, next_of, put_at, PutsWords, puts_length, laid, laid-length, Sweeps}
 use Rattle.first_sweep.specs.SweepWords.{first_one, sweep_of, sweep_length, AllLetters, sweep_words}
 
 -- a tested table, "at most 3,600 letters, all from 33 to 126" (02, Job 3: or from 161 to 254), and 2 × (n + 1) words
@@ -25,15 +24,9 @@ pub record Fillable (p : Pattern) (tape words : List ℕ) : Type 0 where
   pub letters : (i : ℕ) → i < length tape → is_letter (get_or tape i 0) ≡ true
   pub room : 2 * (length tape + 1) ≤ length words
 
-pub small_letters : (w : List ℕ) → ((i : ℕ) → i < length w → is_letter (get_or w i 0) ≡ true) → (i : ℕ) → i < length w → get_or w i 0 < letter_cells
-small_letters w h i k = letter_cell (get_or w i 0) (h i k)
-
 pub all_letters : (w : List ℕ) → ((i : ℕ) → i < length w → is_letter (get_or w i 0) ≡ true) → AllLetters w
 all_letters [] h = tt
 all_letters (c ∷ w) h = (h 0 (omega arith), all_letters w (λ j k. h (suc j) (omega arith)))
-
-pub fill_sweepable : (p : Pattern) (tape old new : List ℕ) → Fillable p tape old → length new ≡ length old → Sweepable tape (length tape) new
-fill_sweepable p tape old new f e = record { inside = omega arith; few = f.few; small = small_letters tape f.letters; room = omega (arith, f.room) }
 
 -- two cells written one after the other
 two_set : (k a b : ℕ) (xs : List ℕ) → suc k < length xs → drop k (set (set xs k a) (suc k) b) ≡ a ∷ b ∷ drop (suc (suc k)) xs

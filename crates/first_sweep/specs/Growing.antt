@@ -15,8 +15,8 @@ use Rattle.masks.specs.Masks.{LeafMasks, MasksOf}
 use Rattle.steps.specs.declared.Words.{Words}
 use Rattle.steps.specs.StateSets.{state_set}
 use Rattle.steps.specs.Steps.{state_end}
-use Rattle.first_sweep.specs.Fill.{small_letters, all_letters}
-use Rattle.first_sweep.specs.Sweep.{Step, stored_step, next_of, put, put_at, PutsWords, Sweepable, laid, Sweeps}
+use Rattle.first_sweep.specs.Fill.{all_letters}
+use Rattle.first_sweep.specs.Sweep.{Step, stored_step, next_of, put, put_at, PutsWords, laid, Sweeps}
 use Rattle.first_sweep.specs.Tail.{tail_words}
 use Rattle.first_sweep.specs.Grow.{grown_by, grown, grown-length, grown-stored}
 
@@ -26,15 +26,6 @@ pub record Growable (p : Pattern) (page : List ℕ) (held : ℕ) (words : List �
   pub few : held + length page ≤ letter_limit
   pub letters : (i : ℕ) → i < length page → is_letter (get_or page i 0) ≡ true
   pub room : 2 * (held + length page + 1) ≤ length words
-
-pub grow_sweepable : (p : Pattern) (page : List ℕ) (held count : ℕ) (ws : List ℕ) → Growable p page held ws → count ≡ held + length page
-    → Sweepable page count ws
-grow_sweepable p page held count ws g e = record {
-  inside = omega arith;
-  few = omega (arith, g.few);
-  small = small_letters page g.letters;
-  room = omega (arith, g.room);
-}
 
 sets-append : (xs ys l : List ℕ) (i : ℕ) → sets l i (xs ++ ys) ≡ sets (sets l i xs) (i + length xs) ys
 sets-append [] ys l i = ap (λ k. sets l k ys) (sym (add-zero i))

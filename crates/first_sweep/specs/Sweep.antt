@@ -1,6 +1,6 @@
 -- THE FIRST SWEEP over masks as they are stored: the two words of each letter, from the last letter to the first, into the cells of its position.
 -- A fill counts positions from the tape's start, a page desk from the tape's end; all else is the same.
-use Rattle.std.specs.Prelude.{◌≡◌, refl, Bool, true, false, cond, List, [], ◌∷◌, ◌++◌, ℕ, zero, suc, ◌+◌, ◌-◌, ◌*◌, ◌≤◌, ◌<◌, length, get_or, drop, set}
+use Rattle.std.specs.Prelude.{◌≡◌, refl, Bool, false, cond, List, [], ◌∷◌, ◌++◌, ℕ, zero, suc, ◌+◌, ◌-◌, ◌*◌, ◌≤◌, ◌<◌, length, get_or, drop, set}
 use Rattle.std.proofs.Common.{sym, ap, ap₂, ◌∙◌, arith, length-set, drop-cons}
 use Rattle.std.proofs.Math.Seq.{drop-length}
 use Rattle.syntax.specs.Letter.{letter_limit}
@@ -49,12 +49,6 @@ pub record Sweepable (letters : List ℕ) (count : ℕ) (words : List ℕ) : Typ
   pub small : (i : ℕ) → i < length letters → get_or letters i 0 < letter_cells
   pub room : 2 * (count + 1) ≤ length words
 
--- a position's cells lie in the buffer
-cell_room : (letters : List ℕ) (count : ℕ) (words : List ℕ) (turned : Bool) (i : ℕ) → Sweepable letters count words
-    → i < length letters → cell_at count turned i + 1 < length words
-cell_room letters count words true i s h = omega (arith, s.room, s.inside)
-cell_room letters count words false i s h = omega (arith, s.room, s.inside)
-
 -- letters in two parts: the tape's end lies after the first part only if the second has no letter
 pub end_append : (last : Bool) (u v : List ℕ) → at_end last (u ++ v) ≡ at_end (at_end last v) u
 end_append last [] v = refl
@@ -82,9 +76,6 @@ module _ (f : Step) (count : ℕ) (turned : Bool) where
     sweeping_start =
         let d : drop (length letters) letters ≡ [] = drop-length letters in
         record { inside = omega arith; wrote = rw d refl; ahead = rw d refl; ends = rw d refl }
-
-    pub sweeping_same : (i next : ℕ) (last : Bool) (words : List ℕ) → Sweeping i next last words → length words ≡ length old
-    sweeping_same i next last words g = ap length g.wrote ∙ laid-length first final i (drop i letters) old
 
     -- counting down; z and o are what is written
     pub sweeping_down : (i next c at : ℕ) (last : Bool) (words now : List ℕ) (r : Words) (z o : ℕ) → 0 < i → Sweeping i next last words

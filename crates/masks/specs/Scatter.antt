@@ -99,29 +99,6 @@ pub record Scattered (f : ℕ → ℕ → Bool) (size i : ℕ) (cells : List ℕ
   pub bits : (x : ℕ) → x < size → (l : ℕ) → test_bit (entry cells x) l ≡ (ltb l i && f l x)
 
 module _ (f : ℕ → ℕ → Bool) (size : ℕ) where
-  pub scattered_next : (i : ℕ) (cells now : List ℕ) → Scattered f size i cells → Marked (f i) i cells now → Scattered f size (i + 1) now
-  scattered_next i cells now s m = record {
-    long = m.long ∙ s.long;
-    bits = λ x h l. m.bits x (omega (arith, s.long)) l ∙ ap (λ z. z || (f i x && eqb i l)) (s.bits x h l) ∙ go x l (dec_lt l i) (equal i l);
-  }
-    where
-      go : (x l : ℕ) → Dec (l < i) → Dec (i ≡ l) → ((ltb l i && f l x) || (f i x && eqb i l)) ≡ (ltb l (i + 1) && f l x)
-      go x l (yes a) (yes b) = absurd (omega arith)
-      go x l (yes a) (no b) = rw (lt-ltb l i a, lt-ltb l (i + 1) (omega arith), ne_eqb i l b) (drop_false (f l x) (f i x))
-        where
-          drop_false : (u v : Bool) → (u || (v && false)) ≡ u
-          drop_false true v = refl
-          drop_false false true = refl
-          drop_false false false = refl
-      go x l (no a) (yes b) =
-          rw (le-ltb l i (omega arith), lt-ltb l (i + 1) (omega arith))
-          (ap (λ z. f i x && z) (ap (eqb i) (sym b) ∙ eqb_self i) ∙ and-true (f i x) ∙ ap (λ z. f z x) b)
-      go x l (no a) (no b) = rw (le-ltb l i (omega arith), le-ltb l (i + 1) (omega arith), ne_eqb i l b) (none (f i x))
-        where
-          none : (v : Bool) → (v && false) ≡ false
-          none true = refl
-          none false = refl
-
   pub scattered_end : (n m : ℕ) (cells : List ℕ) → m ≤ size → Scattered f size n cells → Filled 0 (λ x. word_of n (λ l. f l x)) size m cells
   scattered_end n m cells h s = record {
     long = s.long;

@@ -12,12 +12,11 @@ use Rattle.bits.specs.Bits.{write, bits_of}
 use Rattle.table.specs.Cells.{follower_in, loops_in}
 use Rattle.bits.specs.Numbers.{length-bits_of}
 use Rattle.bits.specs.Writing.{write-write, length-write}
-use Rattle.semantics.specs.Code.{code_limit}
 use Rattle.semantics.specs.Value.{nonempty}
 use Rattle.semantics.specs.Sweeps.{After, after_round, can, another}
 use Rattle.second_sweep.specs.declared.Swept.{Swept}
 use Rattle.second_sweep.specs.Parts.{whole, short, seq_sweeps, side_sweeps, round_sweeps, stop_sweeps, nothing_sweeps, letter_sweeps, range_sweeps}
-use Rattle.second_sweep.specs.Sweeping.{put, Puts, is_open, may_stop, goes_on, Chooses, Knows, Wrote, CanSweep, LeafReady, LeafSwept}
+use Rattle.second_sweep.specs.Sweeping.{put, Puts, is_open, may_stop, goes_on, Chooses, Knows, Wrote, CanSweep, LeafSwept}
 
 -- ── writing ──
 module _ (xs : List ℕ) (at : ℕ) (cs : List Bool) where
@@ -320,9 +319,3 @@ module _ (tape : List ℕ) (i at : ℕ) (xs : List ℕ) where
       let k = taken_letter c in
       let x = get_or tape i 0 in
       wrote_same (x ∷ []) c.letters (bits_of 8 x) c.bits k.letters_are k.bits_are (wrote_range i at x xs)
-
-  -- what a leaf needs to be read and written
-  pub range_few : (low high : ℕ) → LeafReady (Range low high) tape i at → (i < length tape) × (at + 8 ≤ code_limit)
-  range_few low high r =
-      let k = taken_letter r.it in
-      (k.inside, omega (arith, r.it.few, ap length k.bits_are, length-bits_of 8 (get_or tape i 0)))

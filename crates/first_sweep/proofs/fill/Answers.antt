@@ -1,10 +1,8 @@
 -- `first_sweep::fill` meets its contract.
 use mathlib.Core.Path.{refl}
-use native.Mathlib.Omega.{arith}
 use Rattle.masks.specs.Leaves.{letter_cells}
 use Rattle.masks.specs.Making.{none_marked, holds_maskable, masks-of-pattern}
-use Rattle.first_sweep.specs.Sweep.{puts_length}
-use Rattle.first_sweep.specs.Fill.{fill_sweepable, filled-words}
+use Rattle.first_sweep.specs.Fill.{filled-words}
 use Rattle.first_sweep.proofs.fill.Goals as goal
 
 pub put_masks-end-requires : goal.put_masks-end-requires
@@ -13,12 +11,6 @@ put_masks-end-requires c = (holds_maskable _ c.requires.0.rules _ c.requires.1, 
 pub put_takers-requires : goal.put_takers-requires
 put_takers-requires c = let table = holds_maskable _ c.requires.0.rules _ c.requires.1 in
     (table.whole.few, table.good, none_marked letter_cells)
-
-pub put_words-requires : goal.put_words-requires
-put_words-requires c = omega (arith, c.requires.0.room)
-
-pub sweep-requires : goal.sweep-requires
-sweep-requires c = fill_sweepable _ _ _ _ c.requires.0 (puts_length _ _ _ _ _ c.put_words.ensures)
 
 pub returns : goal.returns
 returns c = filled-words _ _ _ _ _ _ _ _ _ _ _ _ _ _ _ c.requires.0 c.requires.1

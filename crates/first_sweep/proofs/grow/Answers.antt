@@ -2,7 +2,7 @@
 use mathlib.Core.Path.{refl}
 use Rattle.masks.specs.Leaves.{letter_cells}
 use Rattle.masks.specs.Making.{none_marked, holds_maskable, masks-of-pattern}
-use Rattle.first_sweep.specs.Growing.{grow_sweepable, grown-words}
+use Rattle.first_sweep.specs.Growing.{grown-words}
 use Rattle.first_sweep.proofs.grow.Goals as goal
 
 pub put_masks-next-requires : goal.put_masks-next-requires
@@ -11,9 +11,6 @@ put_masks-next-requires c = (holds_maskable _ c.requires.0.rules _ c.requires.1,
 pub put_takers-requires : goal.put_takers-requires
 put_takers-requires c = let table = holds_maskable _ c.requires.0.rules _ c.requires.1 in
     (table.whole.few, table.good, none_marked letter_cells)
-
-pub sweep-requires : goal.sweep-requires
-sweep-requires c = grow_sweepable _ _ _ _ _ c.requires.0 refl
 
 pub returns : goal.returns
 returns c = grown-words _ _ _ _ _ _ _ _ _ _ _ _ _ _ c.requires.0 c.requires.1

@@ -1,17 +1,6 @@
 -- `second_sweep::sweep_leaf` meets its contract.
-use native.Mathlib.Omega.{arith}
-use Rattle.second_sweep.specs.SweepLaws.{leaf_nothing, leaf_letter, leaf_range, range_few}
+use Rattle.second_sweep.specs.SweepLaws.{leaf_nothing, leaf_letter, leaf_range}
 use Rattle.second_sweep.proofs.sweep_leaf.Goals as goal
-
--- the position behind a letter has 16 bits
-
-pub overflow_add-next : goal.overflow_add-next
-overflow_add-next c = let ready = c.requires.it in
-    omega (arith, ready.within, ready.limited)
-
-pub bounds-tape-i : goal.bounds-tape-i
-bounds-tape-i c = let ready = rw c.in-Range.is at c.requires in
-    (range_few c.args.tape.now c.args.i c.args.at c.args.code.now _ _ ready).0
 
 pub returns-in-Nothing : goal.returns-in-Nothing
 returns-in-Nothing c = rw c.in-Nothing.is (leaf_nothing _ _ _ _)
