@@ -1,11 +1,11 @@
 -- The page desk: what its calls answer and what they leave, for every input. Definitions only.
-use Rattle.std.specs.Prelude.{◌≡◌, Bool, true, ◌&&◌, not, cond, List, [], ◌∷◌, ◌++◌, ℕ, suc, ◌+◌, ◌-◌, ◌*◌, eqb, leb, ltb, length, get_or, take, drop, set, replicate, Err, Ok, Result}
+use Rattle.std.specs.Prelude.{◌≡◌, Bool, true, ◌&&◌, not, cond, List, [], ◌∷◌, ◌++◌, ℕ, suc, ◌+◌, ◌-◌, ◌*◌, eqb, leb, ltb, length, get_or, take, drop, set, replicate, Result}
 use Rattle.std.proofs.lemmas.List.Edits.{sets}
 use Rattle.syntax.specs.declared.Pattern.{Pattern}
 use Rattle.syntax.specs.Letter.{is_letter, first_bad, letter_limit}
 use Rattle.syntax.specs.Table.{obeys}
 use Rattle.refusals.specs.declared.Refusal.TheVariants.{Tree as TreeFault, TapeByte, WordsTooShort, TapeTooShort}
-use Rattle.refusals.specs.Refusals.{number, value, Answer, answer}
+use Rattle.refusals.specs.Refusals.{number, value, Answer, answer, answer_by}
 use Rattle.bits.specs.Bits.{in_front}
 use Rattle.refusals.specs.Checks.{CheckOf, first_of}
 use Rattle.first_sweep.specs.Tail.{tail_words}
@@ -83,8 +83,7 @@ abbrev pub desk_refused : DeskRefusal → Answer
 desk_refused r = answer (desk_number r) (desk_value r)
 
 abbrev pub desk_answer : Result ℕ DeskRefusal → Answer
-desk_answer (Ok n) = answer 0 n
-desk_answer (Err r) = desk_refused r
+desk_answer = answer_by desk_refused
 
 abbrev pub DeskTest : Type 0
 DeskTest = CheckOf DeskRefusal

@@ -1,7 +1,7 @@
 -- A cause of the desk is known by its number and value.
-use Rattle.std.specs.Prelude.{◌≡◌, refl, List, [], ◌∷◌, ◌≤◌, Err, Ok, Result, ℕ}
-use Rattle.std.proofs.Common.{ap, arith}
-use Rattle.refusals.specs.RefusalLaws.{number_positive, said_same, wider_of, wrapped_known}
+use Rattle.std.specs.Prelude.{◌≡◌, refl, List, [], ◌∷◌, ◌≤◌, Result, ℕ}
+use Rattle.std.proofs.Common.{arith}
+use Rattle.refusals.specs.RefusalLaws.{number_positive, answer_same, said_same, wider_of, wrapped_known}
 use Rattle.desk.specs.declared.DeskRefusal.{DeskRefusal}
 use Rattle.desk.specs.declared.DeskRefusal.TheVariants.{Base, DeskLimits, DeskFull, DeskEmpty}
 use Rattle.desk.specs.Desks.{desk_number, desk_refused, desk_answer}
@@ -27,7 +27,4 @@ pub desk_refused_same : (r s : DeskRefusal) → desk_refused r ≡ desk_refused 
 desk_refused_same = said_same desk_refused (wider_of desk_refused Base added) known_by
 
 pub desk_answer_same : (r s : Result ℕ DeskRefusal) → desk_answer r ≡ desk_answer s → r ≡ s
-desk_answer_same (Ok n) (Ok m) e = ap (λ a. Ok a.value) e
-desk_answer_same (Ok n) (Err s) e = let z : 0 ≡ desk_number s = ap (λ a. a.number) e in absurd (omega (arith, desk_number_positive s))
-desk_answer_same (Err r) (Ok m) e = let z : desk_number r ≡ 0 = ap (λ a. a.number) e in absurd (omega (arith, desk_number_positive r))
-desk_answer_same (Err r) (Err s) e = ap Err (desk_refused_same r s e)
+desk_answer_same = answer_same desk_refused desk_refused_same desk_number_positive
