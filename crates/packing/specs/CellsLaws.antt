@@ -16,34 +16,7 @@ use Rattle.totals.specs.TotalsLaws.{sum_list}
 use Rattle.packing.specs.Packing.{unpacked, in_cells}
 use Rattle.packing.specs.Cells.{some_litres, beyond, cells_too_few, cells_answer, cells_totals, Gives}
 
--- ── the loop that looks for litres ──
-drop_one : (xs : List ℕ) (i : ℕ) → i < length xs → drop i xs ≡ get_or xs i 0 ∷ drop (suc i) xs
-drop_one [] i h = absurd (omega arith)
-drop_one (x ∷ xs) zero h = refl
-drop_one (x ∷ xs) (suc i) h = drop_one xs i (omega arith)
-
-drop_none : (xs : List ℕ) (i : ℕ) → length xs ≤ i → some_litres (drop i xs) ≡ false
-drop_none [] zero h = refl
-drop_none [] (suc i) h = refl
-drop_none (x ∷ xs) zero h = absurd (omega arith)
-drop_none (x ∷ xs) (suc i) h = drop_none xs i (omega arith)
-
-module _ (xs : List ℕ) (n i : ℕ) (same : beyond xs n ≡ beyond xs i) where
-  pub litres_found : i < length xs → 0 < get_or xs i 0 → true ≡ beyond xs n
-  unfolding beyond
-  litres_found h l = sym (same ∙ ap some_litres (drop_one xs i h) ∙ ap (λ b. b || some_litres (drop (suc i) xs)) (lt-ltb 0 (get_or xs i 0) l))
-
-  pub litres_next : i < length xs → get_or xs i 0 ≤ 0 → beyond xs n ≡ beyond xs (i + 1)
-  unfolding beyond
-  litres_next h l =
-      let e : suc i ≡ i + 1 = omega arith in
-      same ∙ ap some_litres (drop_one xs i h) ∙ ap (λ b. b || some_litres (drop (suc i) xs)) (le-ltb 0 (get_or xs i 0) l) ∙ ap (λ k. some_litres (drop k xs)) e
-
-  pub litres_none : length xs ≤ i → false ≡ beyond xs n
-  unfolding beyond
-  litres_none h = sym (same ∙ drop_none xs i h)
-
--- ── the two ways of handing out totals ──
+-- ── the ways of handing out totals ──
 module _ (a : Answer) (totals cells cells_now : List ℕ) (r : ℕ) where
   pub gives_none : true ≡ beyond totals (length cells) → cells_now ≡ in_cells no_litres cells → unpacked r ≡ cells_too_few → Gives a totals cells cells_now r
   unfolding cells_answer cells_totals

@@ -1,7 +1,11 @@
 -- Laws of a desk in bytes: each form gives the other back, what a desk of another length is answered, and one law for each way of the code.
 use Rattle.std.specs.Prelude.{◌≡◌, refl, Bool, true, false, ◌&&◌, eqb}
+use Rattle.std.specs.Prelude.{Result, Ok, Err, ⊤}
+use Rattle.std.specs.Option.{unwrap_or}
+use Rattle.std.specs.Result.{result_err}
 use Rattle.std.proofs.Math.Path.{sym, ap}
-use Rattle.std.proofs.Common.{◌∙◌, arith}
+use Rattle.std.proofs.Common.{◌∙◌, ap₂, arith}
+use borrow.Rule.Slice.PartMut.{put_mid}
 use Rattle.std.proofs.Math.Bool.{true≢false, not, cond, and-false}
 use mathlib.Core.List.{List, [], ◌∷◌, ◌++◌, append-nil}
 use Prim.Native.Nat.{ℕ, suc, ◌+◌, ◌-◌, ◌≤◌}
@@ -18,6 +22,7 @@ use Rattle.desk.specs.declared.DeskRefusal.TheVariants.{DeskLimits}
 use Rattle.desk.specs.Desks.{page_limit, good_page, limits_kept, desk_good, held, without_page, desk_refused, if_accepted}
 use Rattle.desk.specs.Desks.{open_order, put_order, withdraw_order, put_answer, withdraw_answer}
 use Rattle.desk.specs.Numbers.{desk_number_positive}
+use Rattle.desk.specs.Checking.{ChecksFirst}
 use Rattle.packing.specs.DeskBytes.{desk_bytes, broken_desk, desk_of_bytes, bytes_of_desk, other_opened, other_held, desk_laid}
 
 -- ── one form and back ──
@@ -38,22 +43,13 @@ module _ (bytes : List ℕ) where
   desk_other h = rw (ne_eqb (length bytes) desk_bytes h)
 
   -- the lengths are all the bytes behind the first
-  pub desk_read : length bytes ≡ desk_bytes → (lengths : List ℕ) → lengths ≡ sets (replicate page_limit 0) 0 (take (length bytes - 1) (drop 1 bytes))
+  pub desk_read : length bytes ≡ desk_bytes → (lengths : List ℕ) → lengths ≡ take (length bytes - 1) (drop 1 bytes)
       → record { count = get_or bytes 0 0; lengths = lengths } ≡ desk_of_bytes bytes
   unfolding desk_of_bytes
   desk_read e lengths f =
-      let behind = drop 1 bytes in
-      let size : length behind ≡ page_limit = length-drop 1 bytes ∙ (let z : length bytes - 1 ≡ page_limit = omega (arith, e) in z) in
-      let zeros : List ℕ = replicate page_limit 0 in
-      let all : take (length bytes - 1) behind ≡ behind = take_all (length bytes - 1) behind (omega (arith, e, size)) in
-      let laid : sets zeros 0 behind ≡ behind ++ drop (0 + length behind) zeros =
-      sets-eq behind zeros 0 (omega (arith, size, length-replicate {A = ℕ} page_limit 0)) in
-      let few : length zeros ≤ 0 + length behind = omega (arith, size, length-replicate {A = ℕ} page_limit 0) in
-      let none : drop (0 + length behind) zeros ≡ [] = drop_of_length-le zeros few in
-      let whole : lengths ≡ behind =
-      f ∙ ap (sets zeros 0) all ∙ laid ∙ ap (λ xs. behind ++ xs) none ∙ append-nil behind in
-      ap (λ xs. record { count = get_or bytes 0 0; lengths = xs }) whole
-      ∙ sym (ap (λ b. cond b (record { count = get_or bytes 0 0; lengths = behind }) broken_desk) (eq-eqb (length bytes) desk_bytes e))
+      let few : length (drop 1 bytes) ≤ length bytes - 1 = omega (arith, length-drop 1 bytes) in
+      ap (λ xs. record { count = get_or bytes 0 0; lengths = xs }) (f ∙ take_all (length bytes - 1) (drop 1 bytes) few)
+      ∙ sym (ap (λ b. cond b (record { count = get_or bytes 0 0; lengths = drop 1 bytes }) broken_desk) (eq-eqb (length bytes) desk_bytes e))
 
 -- ── `put_desk` ──
 first_set : (xs : List ℕ) (n : ℕ) → 1 ≤ length xs → take 1 (set xs 0 n) ≡ n ∷ []
@@ -65,18 +61,16 @@ module _ (d : Desk) (bytes : List ℕ) where
   unfolding desk_laid
   laid_other h = rw (ne_eqb (length bytes) desk_bytes h)
 
-  pub laid-right : length bytes ≡ desk_bytes → length d.lengths ≡ page_limit → (now : List ℕ) → now ≡ sets (set bytes 0 d.count) 1 d.lengths
-      → now ≡ desk_laid d bytes
+  -- the count in the first byte, and the lengths in all those behind it
+  pub laid-right : length bytes ≡ desk_bytes → (lengths : List ℕ) → lengths ≡ d.lengths
+      → put_mid 1 (length (set bytes 0 d.count) - 1) (set bytes 0 d.count) lengths ≡ desk_laid d bytes
   unfolding desk_laid
-  laid-right e s now f =
+  laid-right e lengths f =
       let counted = set bytes 0 d.count in
       let size : length counted ≡ desk_bytes = length-set bytes 0 d.count ∙ e in
-      let laid : sets counted 1 d.lengths ≡ (take 1 counted ++ d.lengths) ++ drop (1 + length d.lengths) counted =
-      sets-eq d.lengths counted 1 (omega (arith, size, s)) in
-      let few : length counted ≤ 1 + length d.lengths = omega (arith, size, s) in
-      let none : drop (1 + length d.lengths) counted ≡ [] = drop_of_length-le counted few in
-      f ∙ laid ∙ ap (λ xs. (take 1 counted ++ d.lengths) ++ xs) none ∙ append-nil (take 1 counted ++ d.lengths)
-      ∙ ap (λ xs. xs ++ d.lengths) (first_set bytes d.count (omega (arith, e)))
+      let few : length (drop 1 counted) ≤ length counted - 1 = omega (arith, length-drop 1 counted) in
+      ap (λ xs. take 1 counted ++ (lengths ++ xs)) (drop_of_length-le (drop 1 counted) few)
+      ∙ ap₂ (λ xs ys. xs ++ ys) (first_set bytes d.count (omega (arith, e))) (append-nil lengths ∙ f)
       ∙ sym (ap (λ b. cond b (bytes_of_desk d) bytes) (eq-eqb (length bytes) desk_bytes e))
 
 -- ── what is written behind a call ──
@@ -148,10 +142,16 @@ module _ (bytes : List ℕ) (h : length bytes ≡ desk_bytes → ⊥) (p : Patte
 
 -- ── `of_other_length` ──
 module _ (p : Pattern) (words : ℕ) where
-  pub other_first : (why : DeskRefusal) → First why (open_order p words) → desk_refused why ≡ other_opened p words
+  other_first : (why : DeskRefusal) → First why (open_order p words) → desk_refused why ≡ other_opened p words
   unfolding other_opened
   other_first why f = sym (first_said desk_refused f (desk_refused DeskLimits))
 
-  pub other_13 : Clear (open_order p words) → desk_refused DeskLimits ≡ other_opened p words
+  other_13 : Clear (open_order p words) → desk_refused DeskLimits ≡ other_opened p words
   unfolding other_opened
   other_13 c = sym (clear_said desk_refused (open_order p words) (desk_refused DeskLimits) c)
+
+  -- the cause that an opening finds first, or else 13
+  pub other_told : (r : Result ⊤ DeskRefusal) → ChecksFirst (open_order p words) r
+      → desk_refused (unwrap_or (result_err r) DeskLimits) ≡ other_opened p words
+  other_told (Ok tt) c = other_13 c
+  other_told (Err why) f = other_first why f

@@ -1,33 +1,12 @@
--- Laws of the loop that lays the totals into the lent cells.
-use Rattle.std.specs.Prelude.{◌≡◌, refl, List, ◌++◌, ℕ, suc, ◌+◌, ◌≤◌, ◌<◌, min, length, take, drop, get_or, set}
-use Rattle.std.proofs.Common.{sym, ap, ap₂, ◌∙◌, arith, length-set, length-take, take_all}
+-- Laws of laying totals into the lent cells.
+use Rattle.std.specs.Prelude.{◌≡◌, List, ◌++◌, ℕ, ◌+◌, ◌≤◌, min, length, take, drop, replicate}
+use Rattle.std.proofs.Common.{sym, ap, ap₂, ◌∙◌, arith, length-take, length-take-le, take_all}
 use Rattle.std.proofs.Math.Decide.{dec_le}
-use Rattle.std.proofs.Math.Seq.{paste, paste-zero, paste-suc}
+use Rattle.std.proofs.lemmas.List.{take-replicate, length-replicate}
+use Rattle.syntax.specs.Table.{account_limit}
 use Rattle.bits.specs.Bits.{in_front}
+use Rattle.totals.specs.Totals.{no_litres}
 use Rattle.packing.specs.Packing.{in_cells}
-
--- i totals are laid: the cells hold them in front of what they held
-pub record Laid (totals old now : List ℕ) (i : ℕ) : Type 0 where
-  pub within : i ≤ min (length totals) (length old)
-  pub size : length now ≡ length old
-  pub holds : now ≡ paste old 0 totals i
-
-pub laid_none : (totals old : List ℕ) → Laid totals old old 0
-laid_none totals old = record { within = omega arith; size = refl; holds = paste-zero old 0 totals }
-
-pub laid_one :
-    (totals old now : List ℕ) (i n : ℕ) → Laid totals old now i → n ≡ min (length totals) (length old) → i < n
-    → Laid totals old (set now i (get_or totals i 0)) (i + 1)
-laid_one totals old now i n l e h =
-    let j : suc i ≡ i + 1 = omega arith in
-    let k : i ≡ 0 + i = omega arith in
-    record {
-      within = omega (arith, h, e);
-      size = length-set now i (get_or totals i 0) ∙ l.size;
-      holds =
-          ap₂ (λ xs at. set xs at (get_or totals i 0)) l.holds k ∙ paste-suc old 0 totals i 0 (omega (arith, h, e)) (omega (arith, h, e))
-          ∙ ap (paste old 0 totals) j;
-    }
 
 -- no more of a list is taken than it has
 take_least : (xs : List ℕ) (n : ℕ) → take (min (length xs) n) xs ≡ take n xs
@@ -37,10 +16,19 @@ take_least xs n = go (dec_le (length xs) n)
     go (yes h) = let e : min (length xs) n ≡ length xs = omega arith in take_all (min (length xs) n) xs (omega arith) ∙ sym (take_all n xs h)
     go (no h) = let e : min (length xs) n ≡ n = omega arith in ap (λ k. take k xs) e
 
-pub laid_all : (totals old now : List ℕ) (i n : ℕ) → Laid totals old now i → n ≡ min (length totals) (length old) → n ≤ i → now ≡ in_cells totals old
+-- the front of the totals in the front of the cells
+pub laid : (totals cells front : List ℕ) (n : ℕ) → n ≡ min (length totals) (length cells) → front ≡ take n totals
+    → front ++ drop n cells ≡ in_cells totals cells
 unfolding in_front
-laid_all totals old now i n l e h =
-    let m : i ≡ min (length totals) (length old) = omega (arith, l.within, h, e) in
-    let f : take i totals ≡ take (length old) totals = ap (λ k. take k totals) m ∙ take_least totals (length old) in
-    let g : 0 + i ≡ length (take (length old) totals) = omega (arith, m, length-take (length old) totals) in
-    l.holds ∙ ap₂ (λ xs k. xs ++ drop k old) f g
+laid totals cells front n e f =
+    let all : take n totals ≡ take (length cells) totals = ap (λ k. take k totals) e ∙ take_least totals (length cells) in
+    let size : n ≡ length (take (length cells) totals) = omega (arith, e, length-take (length cells) totals) in
+    ap₂ (λ xs k. xs ++ drop k cells) (f ∙ all) size
+
+-- nothing but zeros there
+pub laid_zeros : (cells front : List ℕ) (n : ℕ) → n ≡ min (length cells) (account_limit + 1) → front ≡ replicate (length (take n cells)) 0
+    → front ++ drop n cells ≡ in_cells no_litres cells
+laid_zeros cells front n e f =
+    let size : length (take n cells) ≡ n = length-take-le n cells (omega (arith, e)) in
+    laid no_litres cells front n (omega (arith, e, length-replicate {A = ℕ} (account_limit + 1) 0))
+    (f ∙ ap (λ m. replicate m 0) size ∙ sym (take-replicate n (account_limit + 1) 0 (omega (arith, e))))

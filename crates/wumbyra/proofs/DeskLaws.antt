@@ -10,8 +10,7 @@ use Rattle.refusals.specs.Refusals.{answer}
 use Rattle.refusals.specs.Checks.{first_of}
 use Rattle.refusals.specs.CheckLaws.{clear_parts, zero-said}
 use Rattle.bits.specs.Bits.{in_front}
-use Rattle.loading.specs.declared.Loaded.{Loaded}
-use Rattle.loading.specs.Load.{load_table, Loads}
+use Rattle.loading.specs.Load.{load_table}
 use Rattle.first_sweep.specs.Tail.{tail_words}
 use Rattle.desk.specs.declared.Desk.{Desk}
 use Rattle.desk.specs.declared.DeskRefusal.TheVariants.{DeskLimits}
@@ -42,8 +41,8 @@ module _ (p : Pattern) (words bytes : ℕ) where
         (λ z. true≢false (sym (ap not (ne_eqb bytes desk_bytes h))
         ∙ (clear_parts (open_order p words) behind (zero-said desk_refused desk_number_positive (open_order p words ++ behind) (answer 0 0) z)).1.0))
 
-module _ (text : List ℕ) (l : Loaded) (g : Loads text l) (desk words : List ℕ) (r : ℕ) where
-  pub open_packed_other : (length desk ≡ desk_bytes → ⊥) → (n : ℕ) → unpacked r ≡ other_opened l.pattern n → n ≡ length words
+module _ (text : List ℕ) (l : Pattern) (g : l ≡ load_table text) (desk words : List ℕ) (r : ℕ) where
+  pub open_packed_other : (length desk ≡ desk_bytes → ⊥) → (n : ℕ) → unpacked r ≡ other_opened l n → n ≡ length words
       → DeskOpensText text desk desk words words r
   open_packed_other h n e w =
       let p = load_table text in
@@ -51,17 +50,17 @@ module _ (text : List ℕ) (l : Loaded) (g : Loads text l) (desk words : List �
       let not_said : eqb said.number 0 ≡ false = open_other_refused p (length words) (length desk) h in
       record {
         answers =
-            e ∙ ap₂ other_opened g.gives w ∙ sym (open_other p (length words) (length desk) h);
+            e ∙ ap₂ other_opened g w ∙ sym (open_other p (length words) (length desk) h);
         leaves = sym (ap (λ b. cond b (bytes_of_desk empty_desk) desk) not_said);
         words_left = sym (ap (λ b. cond b (in_front (tail_words p []) words) words) not_said);
       }
 
   module _ (h : length desk ≡ desk_bytes) (d : Desk) (f : d ≡ desk_of_bytes desk) (after : Desk) (words_now : List ℕ) (a : Result ℕ DeskRefusal)
-      (o : Opens l.pattern d after words words_now a) (desk_now : List ℕ) (k : desk_now ≡ desk_laid after desk) (e : unpacked r ≡ desk_answer a) where
+      (o : Opens l d after words words_now a) (desk_now : List ℕ) (k : desk_now ≡ desk_laid after desk) (e : unpacked r ≡ desk_answer a) where
     pub open_packed : DeskOpensText text desk desk_now words words_now r
     open_packed =
         let p = load_table text in
-        let q = subst (λ t. Opens t (desk_of_bytes desk) after words words_now a) g.gives (subst (λ x. Opens l.pattern x after words words_now a) f o) in
+        let q = subst (λ t. Opens t (desk_of_bytes desk) after words words_now a) g (subst (λ x. Opens l x after words words_now a) f o) in
         let said = desk_open_answer p (length words) (length desk) in
         let same : open_answer p (length words) ≡ said = sym (open_right p (length words) (length desk) h) in
         record {
@@ -72,15 +71,15 @@ module _ (text : List ℕ) (l : Loaded) (g : Loads text l) (desk words : List �
         }
 
 -- ── putting and withdrawing ──
-module _ (text : List ℕ) (l : Loaded) (g : Loads text l) (desk : List ℕ) (d : Desk) (f : d ≡ desk_of_bytes desk) (letters : List ℕ) where
+module _ (text : List ℕ) (l : Pattern) (g : l ≡ load_table text) (desk : List ℕ) (d : Desk) (f : d ≡ desk_of_bytes desk) (letters : List ℕ) where
   pub put-packed :
-      (page letters_now words words_now : List ℕ) (after : Desk) (a : Result ℕ DeskRefusal) → Puts l.pattern page d after letters letters_now words words_now a
+      (page letters_now words words_now : List ℕ) (after : Desk) (a : Result ℕ DeskRefusal) → Puts l page d after letters letters_now words words_now a
       → (desk_now : List ℕ) → desk_now ≡ desk_laid after desk → (r : ℕ) → unpacked r ≡ desk_answer a
       → DeskPutsText text desk desk_now page letters letters_now words words_now r
   put-packed page letters_now words words_now after a o desk_now k r e =
       let p = load_table text in
-      let here = subst (λ x. Puts l.pattern page x after letters letters_now words words_now a) f o in
-      let q = subst (λ t. Puts t page (desk_of_bytes desk) after letters letters_now words words_now a) g.gives here in
+      let here = subst (λ x. Puts l page x after letters letters_now words words_now a) f o in
+      let q = subst (λ t. Puts t page (desk_of_bytes desk) after letters letters_now words words_now a) g here in
       let new = with_page (desk_of_bytes desk) (length page) in
       record {
         after = after;
@@ -94,12 +93,12 @@ module _ (text : List ℕ) (l : Loaded) (g : Loads text l) (desk : List ℕ) (d 
       }
 
   pub withdraw-packed :
-      (after : Desk) (a : Result ℕ DeskRefusal) → Withdraws l.pattern d after letters a → (desk_now : List ℕ) → desk_now ≡ desk_laid after desk
+      (after : Desk) (a : Result ℕ DeskRefusal) → Withdraws l d after letters a → (desk_now : List ℕ) → desk_now ≡ desk_laid after desk
       → (r : ℕ) → unpacked r ≡ desk_answer a → DeskWithdrawsText text desk desk_now letters r
   withdraw-packed after a o desk_now k r e =
       let p = load_table text in
-      let here = subst (λ x. Withdraws l.pattern x after letters a) f o in
-      let q = subst (λ t. Withdraws t (desk_of_bytes desk) after letters a) g.gives here in
+      let here = subst (λ x. Withdraws l x after letters a) f o in
+      let q = subst (λ t. Withdraws t (desk_of_bytes desk) after letters a) g here in
       let new = without_page (desk_of_bytes desk) in
       record {
         after = after;

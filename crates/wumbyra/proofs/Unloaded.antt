@@ -1,5 +1,5 @@
 -- A text that does not load has a table of no lines, and every service on it answers 2 and 0.
-use Rattle.std.specs.Prelude.{◌≡◌, false, List, ℕ, zero, suc, ◌+◌, ◌≤◌, get_or, replicate}
+use Rattle.std.specs.Prelude.{◌≡◌, false, List, ℕ, ◌+◌, ◌≤◌}
 use Rattle.std.proofs.Math.Path.{refl, ap}
 use Rattle.std.proofs.Common.{◌∙◌, arith}
 use Rattle.refusals.specs.Refusals.{Answer, answer}
@@ -17,12 +17,8 @@ use Rattle.desk.specs.Desks.{put_answer, withdraw_answer}
 use Rattle.reach.specs.Locate.{locate_refusal}
 use Rattle.wumbyra.specs.Packed.{span_text, total_text, TotalsText, TermTotalsText, LocatesText}
 use Rattle.wumbyra.specs.Packed.{desk_open_answer, DeskOpensText, DeskPutsText, DeskWithdrawsText}
+use Rattle.wumbyra.specs.PackedLaws.{zeros}
 use Rattle.wumbyra.proofs.DeskRefused.{opens-refused, puts_refused, withdraws_refused}
-
-zeros : (n i : ℕ) → ◌≡◌ {A = ℕ} (get_or (replicate n 0) i 0) 0
-zeros zero i = refl
-zeros (suc n) zero = refl
-zeros (suc n) (suc i) = zeros n i
 
 refused_2 : (a : Answer) → a ≡ answer 2 0 → 1 ≤ a.number
 refused_2 a e = let n : a.number ≡ 2 = ap (λ x. x.number) e in omega (arith, n)

@@ -19,7 +19,7 @@ use Rattle.calendar.specs.Dates.{date_of}
 use Rattle.terms.specs.Terms.{term_of, terms_answer, terms_litres}
 use Rattle.parser.specs.Parse.{parsed_answer, Parses}
 use Rattle.canonical.specs.Canonicalize.{canonicalized_answer, Canonicalizes}
-use Rattle.reach.specs.declared.Located.{Located}
+use Rattle.reach.specs.declared.Positions.{Positions}
 use Rattle.reach.specs.Locate.{located_answer, Locates}
 use Rattle.first_sweep.specs.Tail.{tail_words}
 use Rattle.desk.specs.declared.Desk.{Desk}
@@ -57,7 +57,7 @@ span_text text tape code count l k = shown_answer (span_answer (load_table text)
 
 -- THE PROMISE of locating from C: what the service promises on the table of the text
 pub record LocatesText (text tape : List ℕ) (r : ℕ) : Type 0 where
-  pub located : Located
+  pub located : Result Positions Refusal
   pub answers : unpacked r ≡ located_answer located
   pub locates : Locates (load_table text) tape located
 

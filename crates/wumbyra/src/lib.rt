@@ -5,7 +5,7 @@
 #![tactic(auto)]
 
 ghost use Rattle.std.specs.Prelude.{◌≡◌};
-ghost use Rattle.loading.specs.Load.{load_answer};
+ghost use Rattle.loading.specs.Load.{load_answer, load_table};
 ghost use Rattle.packing.specs.Packing.{unpacked};
 ghost use Rattle.wumbyra.specs.Packed.{version_number, ParsesText, FlattensText, CanonicalizesText, LocatesText};
 ghost use Rattle.wumbyra.specs.Packed.{span_text, total_text, TotalsText, TermTotalsText};
@@ -14,17 +14,17 @@ ghost use Rattle.wumbyra.specs.Packed.{DeskOpensText, DeskPutsText, DeskWithdraw
 use calendar::date_of;
 use canonical::canonicalize;
 use codes::flatten;
-use desk::{open_desk, put_page, withdraw_page};
+use desk::{open, put, withdraw};
 use loading::load;
 use packing::{
-    DESK_BYTES, UPPER_16, desk_of, give_totals, litres_of, of_canonicalized, of_desk_answer,
-    of_flattened, of_located, of_other_length, of_outcome, of_parsed, of_term_totals, of_totals,
-    packed, put_desk, totals_number,
+    DESK_BYTES, desk_of, give_totals, halves, litres_of, of_answer, of_cause, of_located,
+    of_other_length, packed, put_desk,
 };
 use parser::parse;
 use reach::locate;
-use refusals::{number_of, value_of};
-use spans::{SpanOutcome, span};
+use refusals::Cause;
+use spans::span;
+use syntax::Pattern;
 use terms::{Term, term_totals};
 use totals::totals;
 
@@ -44,13 +44,21 @@ pub extern "C" fn wumbyra_version() -> u32
     VERSION_NUMBER
 }
 
+// The table of a text. One that does not load has a table of no lines, which every service refuses.
+fn pattern_of(text: &[u8]) -> Pattern
+    ensures { result ≡ load_table text.now }
+{
+    load(text).unwrap_or_else(|_| Pattern::new())
+}
+
 #[unsafe(no_mangle)]
 pub extern "C" fn wumbyra_load(text: &[u8]) -> u64
     ensures { unpacked result ≡ load_answer text.now }
 {
-    let loaded = load(text);
-    let outcome = loaded.outcome;
-    of_outcome(outcome)
+    match load(text) {
+        Ok(pattern) => packed(0, pattern.count as u32),
+        Err(why) => of_cause(&why),
+    }
 }
 
 #[unsafe(no_mangle)]
@@ -58,18 +66,14 @@ pub extern "C" fn wumbyra_parse(text: &[u8], tape: &[u8], words: &mut [u64], cod
     ensures { ParsesText text.now tape.now words.old words.new
         code.old code.new result }
 {
-    let loaded = load(text);
-    let parsed = parse(loaded.pattern, tape, words, code);
-    of_parsed(parsed)
+    of_answer(parse(pattern_of(text), tape, words, code))
 }
 
 #[unsafe(no_mangle)]
 pub extern "C" fn wumbyra_flatten(text: &[u8], code: &[u8], count: u32, tape: &mut [u8]) -> u64
     ensures { FlattensText text.now code.now count tape.old tape.new result }
 {
-    let loaded = load(text);
-    let flattened = flatten(loaded.pattern, code, count, tape);
-    of_flattened(flattened)
+    of_answer(flatten(pattern_of(text), code, count, tape))
 }
 
 #[unsafe(no_mangle)]
@@ -84,9 +88,8 @@ pub extern "C" fn wumbyra_canonicalize(
     ensures { CanonicalizesText text.now code.now count tape.old tape.new
         words.old words.new canonical.old canonical.new result }
 {
-    let loaded = load(text);
-    let canonicalized = canonicalize(loaded.pattern, code, count, tape, words, canonical);
-    of_canonicalized(canonicalized)
+    let settled = canonicalize(pattern_of(text), code, count, tape, words, canonical);
+    of_answer(settled)
 }
 
 // The value of a piece that is shown: its start in the upper 16 bits, its length in the lower 16.
@@ -101,12 +104,9 @@ pub extern "C" fn wumbyra_span(
 ) -> u64
     ensures { unpacked result ≡ span_text text.now tape.now code.now count node visit }
 {
-    let loaded = load(text);
-    let spanned = span(loaded.pattern, tape, code, count, node, visit);
-    let outcome = spanned.outcome;
-    match outcome {
-        SpanOutcome::Shown => packed(0, spanned.start * UPPER_16 + spanned.length),
-        SpanOutcome::Refused(why) => packed(number_of(why), value_of(why)),
+    match span(pattern_of(text), tape, code, count, node, visit) {
+        Ok(shown) => packed(0, halves(shown.start, shown.length)),
+        Err(why) => of_cause(&why),
     }
 }
 
@@ -115,31 +115,25 @@ pub extern "C" fn wumbyra_span(
 pub extern "C" fn wumbyra_locate(text: &[u8], tape: &[u8]) -> u64
     ensures { LocatesText text.now tape.now result }
 {
-    let loaded = load(text);
-    let located = locate(loaded.pattern, tape);
-    of_located(located)
+    of_located(locate(pattern_of(text), tape))
 }
 
+// The litres of one account. The value beside a cause's number is 0 here, as the totals are that are refused.
 #[unsafe(no_mangle)]
 pub extern "C" fn wumbyra_total(text: &[u8], code: &[u8], count: u32, account: u32) -> u64
     ensures { unpacked result ≡ total_text text.now code.now count account }
 {
-    let loaded = load(text);
-    let totalled = totals(loaded.pattern, code, count);
-    let outcome = totalled.outcome;
-    let litres = totalled.litres;
-    packed(totals_number(outcome), litres_of(&litres, account))
+    match totals(pattern_of(text), code, count) {
+        Ok(litres) => packed(0, litres_of(&litres, account)),
+        Err(why) => packed(why.number(), 0),
+    }
 }
 
 #[unsafe(no_mangle)]
 pub extern "C" fn wumbyra_totals(text: &[u8], code: &[u8], count: u32, litres: &mut [u32]) -> u64
     ensures { TotalsText text.now code.now count litres.old litres.new result }
 {
-    let loaded = load(text);
-    let all = totals(loaded.pattern, code, count);
-    let outcome = all.outcome;
-    let added = all.litres;
-    give_totals(of_totals(outcome), &added, litres)
+    give_totals(&totals(pattern_of(text), code, count), litres)
 }
 
 // Dates are numbers: year × 10000 + month × 100 + day.
@@ -156,17 +150,12 @@ pub extern "C" fn wumbyra_term_totals(
     ensures { TermTotalsText text.now code.now count start first last
         litres.old litres.new result }
 {
-    let loaded = load(text);
-    let from = date_of(first);
-    let upto = date_of(last);
     let term = Term {
-        first: from,
-        last: upto,
+        first: date_of(first),
+        last: date_of(last),
     };
-    let all = term_totals(loaded.pattern, code, count, date_of(start), term);
-    let outcome = all.outcome;
-    let added = all.litres;
-    give_totals(of_term_totals(outcome), &added, litres)
+    let totals = term_totals(pattern_of(text), code, count, date_of(start), term);
+    give_totals(&totals, litres)
 }
 
 // A page desk is 31 bytes: the count, and behind it the 30 lengths. One of another length is 13, at opening after 6.
@@ -174,15 +163,14 @@ pub extern "C" fn wumbyra_term_totals(
 pub extern "C" fn wumbyra_desk_open(text: &[u8], desk: &mut [u8], words: &mut [u64]) -> u64
     ensures { DeskOpensText text.now desk.old desk.new words.old words.new result }
 {
-    let loaded = load(text);
+    let pattern = pattern_of(text);
     if desk.len() != DESK_BYTES {
-        return of_other_length(loaded.pattern, words.len());
+        return of_other_length(pattern, words.len());
     }
-    let held = desk_of(desk);
-    let changed = open_desk(held, loaded.pattern, words);
-    let answer = changed.answer;
-    put_desk(changed.desk, desk);
-    of_desk_answer(answer)
+    let mut held = desk_of(desk);
+    let answer = open(&mut held, pattern, words);
+    put_desk(held, desk);
+    of_answer(answer)
 }
 
 #[unsafe(no_mangle)]
@@ -196,22 +184,18 @@ pub extern "C" fn wumbyra_desk_put(
     ensures { DeskPutsText text.now desk.old desk.new page.now
         letters.old letters.new words.old words.new result }
 {
-    let loaded = load(text);
-    let held = desk_of(desk);
-    let changed = put_page(held, loaded.pattern, page, letters, words);
-    let answer = changed.answer;
-    put_desk(changed.desk, desk);
-    of_desk_answer(answer)
+    let mut held = desk_of(desk);
+    let answer = put(&mut held, pattern_of(text), page, letters, words);
+    put_desk(held, desk);
+    of_answer(answer)
 }
 
 #[unsafe(no_mangle)]
 pub extern "C" fn wumbyra_desk_withdraw(text: &[u8], desk: &mut [u8], letters: &[u8]) -> u64
     ensures { DeskWithdrawsText text.now desk.old desk.new letters.now result }
 {
-    let loaded = load(text);
-    let held = desk_of(desk);
-    let changed = withdraw_page(held, loaded.pattern, letters);
-    let answer = changed.answer;
-    put_desk(changed.desk, desk);
-    of_desk_answer(answer)
+    let mut held = desk_of(desk);
+    let answer = withdraw(&mut held, pattern_of(text), letters);
+    put_desk(held, desk);
+    of_answer(answer)
 }

@@ -3,4 +3,4 @@ use Rattle.wumbyra.specs.PackedLaws.{flatten_packed}
 use Rattle.wumbyra.proofs.wumbyra_flatten.Goals as goal
 
 pub returns : goal.returns
-returns c = flatten_packed _ _ c.load-loaded.ensures _ _ _ _ _ c.flatten-flattened.ensures _ c.of_flattened.ensures
+returns c = flatten_packed _ _ c.pattern_of.ensures _ _ _ _ _ c.flatten.ensures _ c.of_answer.ensures
