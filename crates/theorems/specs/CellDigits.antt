@@ -1,6 +1,6 @@
 -- NO LITRE IS LOST: where a call for totals answers 0, the lent cells add up to the digits, of the tape or of the letters within the term. 01: the
 -- totals "add up to the tape's digits".
-use Rattle.std.specs.Prelude.{◌≡◌, refl, cond, List, ℕ, ◌+◌, take}
+use Rattle.std.specs.Prelude.{◌≡◌, refl, cond, List, ℕ, ◌+◌, take, Ok}
 use Rattle.std.proofs.Math.Path.{sym, ap}
 use Rattle.std.proofs.Common.{◌∙◌, arith, eq-eqb}
 use Rattle.syntax.specs.declared.Pattern.{Pattern}
@@ -17,7 +17,6 @@ use Rattle.entries.specs.Gather.{entries_of}
 use Rattle.totals.specs.Totals.{totals_answer, totals_litres, no_litres}
 use Rattle.totals.specs.TotalsLaws.{sum_list, totals_add_up}
 use Rattle.calendar.specs.Dates.{date_of}
-use Rattle.terms.specs.declared.TermOutcome.TheVariants.{Added}
 use Rattle.terms.specs.Terms.{term_of, within, term_refused, terms_order, terms_answer, terms_litres}
 use Rattle.terms.specs.TermLaws.{tape_dated, term_digits}
 use Rattle.terms.specs.Unique.{term_number_positive}
@@ -61,5 +60,5 @@ module _ (text code : List ℕ) (count : ℕ) (cells cells_now : List ℕ) (r : 
         let said = sym (ap (λ a. a.number) (given-totals t other).0) ∙ zero in
         let litres = terms_litres p code count (date_of start) (term_of first last) in
         term_cells_sum text code count start first last cells cells_now r t other
-        ∙ term_digits p code count (date_of start) (term_of first last) (record { outcome = Added; litres = litres })
+        ∙ term_digits p code count (date_of start) (term_of first last) (Ok litres)
         (record { answers = added said; gives = refl }) refl

@@ -1,25 +1,25 @@
 -- 02, Job 7: "An old pattern text loads to the same nodes with the same accounts, and its totals are the old ten followed by zeros." Said of a text that
 -- loads by 01's rule of accounts, for the services on its table and for the calls from C. The old ten are by the table of before.
-use Rattle.std.specs.Prelude.{◌≡◌, refl, List, ◌++◌, ℕ, ◌+◌, ◌-◌, ◌≤◌, length, get_or}
+use Rattle.std.specs.Prelude.{◌≡◌, refl, List, ◌++◌, ℕ, ◌+◌, ◌-◌, ◌≤◌, length, get_or, Result}
 use Rattle.std.proofs.Common.{sym, ◌∙◌, arith, length-append}
 use Rattle.std.proofs.Math.Path.{ap}
 use Rattle.std.proofs.lemmas.List.{length-replicate}
 use Rattle.syntax.specs.declared.Pattern.{Pattern}
+use Rattle.refusals.specs.declared.Refusal.{Refusal}
 use Rattle.refusals.specs.Refusals.{Answer, answer}
 use Rattle.syntax.specs.Table.{account_limit, one_digit_limit}
 use Rattle.loading.specs.Load.{load_table}
 use Rattle.loading.specs.LoadForms.{forms_answer, forms_table}
 use Rattle.loading.specs.OldAccounts.{old_forms}
 use Rattle.loading.specs.OldTexts.{old_table, old_accounts}
-use Rattle.totals.specs.declared.Totalled.{Totalled}
-use Rattle.totals.specs.Totals.{totals_answer, totals_litres, Totals}
+use Rattle.totals.specs.Totals.{totals_answer, totals_litres, totalled_litres, Totals}
 use Rattle.totals.specs.TotalsLaws.{litres_many}
 use Rattle.totals.specs.OldTotals.{old_litres, new_accounts, litres_old}
 use Rattle.calendar.specs.declared.Date.{Date}
 use Rattle.calendar.specs.Dates.{date_of}
 use Rattle.terms.specs.declared.Term.{Term}
-use Rattle.terms.specs.declared.TermTotalled.{TermTotalled}
-use Rattle.terms.specs.Terms.{term_of, terms_answer, terms_litres, TermTotals}
+use Rattle.terms.specs.declared.TermRefusal.{TermRefusal}
+use Rattle.terms.specs.Terms.{term_of, terms_answer, terms_litres, term_litres, TermTotals}
 use Rattle.terms.specs.TermLaws.{term_litres_many}
 use Rattle.terms.specs.OldTerms.{old_term_litres, term_litres_old}
 use Rattle.packing.specs.Packing.{unpacked, in_cells}
@@ -43,11 +43,12 @@ module _ (text : List ℕ) (h : (forms_answer (old_forms text)).number ≡ 0) (c
       ∙ ap (λ p. old_term_litres p code count start term ++ new_accounts) (old_table text h)
 
   -- ── the services on the text's table ──
-  pub old_text_totals : (r : Totalled) → Totals (load_table text) code count r → r.litres ≡ old_litres before code count ++ new_accounts
+  pub old_text_totals : (r : Result (List ℕ) Refusal) → Totals (load_table text) code count r
+      → totalled_litres r ≡ old_litres before code count ++ new_accounts
   old_text_totals r t = t.gives ∙ text_litres
 
-  pub old_text_term_totals : (start : Date) (term : Term) (r : TermTotalled) → TermTotals (load_table text) code count start term r
-      → r.litres ≡ old_term_litres before code count start term ++ new_accounts
+  pub old_text_term_totals : (start : Date) (term : Term) (r : Result (List ℕ) TermRefusal) → TermTotals (load_table text) code count start term r
+      → term_litres r ≡ old_term_litres before code count start term ++ new_accounts
   old_text_term_totals start term r t = t.gives ∙ term_text_litres start term
 
   -- ── the calls from C ──
