@@ -4,19 +4,20 @@
 // word `located` and the two positions that `reach::locate` gives, or the line of its refusal.
 #![tactic(auto)]
 
-ghost use Rattle.std.specs.Prelude.{◌≤◌, IfOk, length};
+ghost use Rattle.std.specs.Prelude.{◌≤◌, IfOk, IfSome, length};
 ghost use Rattle.text.specs.Text.{Puts};
-ghost use Rattle.tapelist.specs.Printing.{text_least, tape_least, Held, Prints, located_line, Tells};
+ghost use Rattle.tapelist.specs.Printing.{text_least, tape_least, Prints, located_line, Tells};
 
-use listing::{Listed, MAX_LISTING, letters_of, list};
+use listing::{MAX_LISTING, letters_of, list};
 use loading::load;
-use reach::{Located, locate};
-use refusals::{number_of, value_of};
+use reach::{Positions, locate};
+use refusals::Refusal;
 use std::env::{Env, FillError};
 use std::fs::File;
 use std::io;
 use std::io::Read;
 use std::rt::Files;
+use syntax::Pattern;
 use text::{put_line, put_refused};
 
 // Bytes held of each file. The first `text_bytes` bytes of a pattern's text, 1,025, and the first 3,602 of a tape give the listing
@@ -25,17 +26,6 @@ const MAX_TEXT: usize = 4096;
 
 const MAX_TAPE: usize = 4096;
 
-// What stands for a file that cannot be read: no buffer holds so many bytes.
-const FAILED: usize = usize::MAX;
-
-// One read: how many bytes it put at the start of the part, none at the file's end. The only error is that of the read, behind which
-// nothing is said of the part's bytes.
-fn read_part(file: &mut impl Read, part: &mut [u8]) -> io::Result<usize>
-    ensures { IfOk result (λ got. got ≤ length part.old) }
-{
-    file.read(part)
-}
-
 // Reads until the file ends or the buffer is full: how many bytes are held. The only error is that of a read, behind which nothing
 // is said of the buffer's bytes.
 fn read_all(file: &mut impl Read, buf: &mut [u8]) -> io::Result<usize>
@@ -43,11 +33,10 @@ fn read_all(file: &mut impl Read, buf: &mut [u8]) -> io::Result<usize>
 {
     let mut at = 0;
     while at < buf.len() {
-        let got = read_part(file, &mut buf[at..])?;
-        if got == 0 {
-            break;
+        match file.read(&mut buf[at..])? {
+            0 => break,
+            got => at += got,
         }
-        at += got;
     }
     Ok(at)
 }
@@ -64,16 +53,23 @@ fn fail(rt: &impl Eprint, what: &str, why: io::Error) {
     let _ = eprintln!(rt; "{what}: {why}");
 }
 
-// Reads the file of this name, and says on standard error why it cannot.
-fn read_file<R: Files + Eprint>(rt: &R, name: &str, buf: &mut [u8]) -> usize
-    ensures { Held (length buf.old) result }
+// Reads the file of this name: how many bytes are held, or none where it cannot be read, which is said on standard error.
+fn read_file<R: Files + Eprint>(rt: &R, name: &str, buf: &mut [u8]) -> Option<usize>
+    ensures { IfSome result (λ held. held ≤ length buf.old) }
 {
     match read_open(rt, name, buf) {
-        Ok(held) => held,
+        Ok(held) => Some(held),
         Err(why) => {
             fail(rt, name, why);
-            FAILED
+            None
         }
+    }
+}
+
+// Hands bytes to standard output. Only `print` and `tell` call it, whose contracts say which bytes.
+fn write<R: Print + Eprint>(rt: &R, bytes: &[u8]) {
+    if let Err(why) = rt.write_all(bytes) {
+        fail(rt, "standard output", why);
     }
 }
 
@@ -82,17 +78,13 @@ fn read_file<R: Files + Eprint>(rt: &R, name: &str, buf: &mut [u8]) -> usize
 fn print<R: Print + Eprint>(rt: &R, text: &[u8], tape: &[u8], bytes: &[u8])
     requires { Prints text.now tape.now bytes.now }
 {
-    if let Err(why) = rt.write_all(bytes) {
-        fail(rt, "standard output", why);
-    }
+    write(rt, bytes);
 }
 
+// The buffer has room for every listing.
 fn print_listing<R: Print + Eprint>(rt: &R, text: &[u8], tape: &[u8]) {
     let mut out = [0u8; MAX_LISTING];
-    let Listed::Bytes(size) = list(text, tape, &mut out) else {
-        return;
-    };
-    let n = size as usize;
+    let n = list(text, tape, &mut out).unwrap();
     print(rt, text, tape, &out[..n]);
 }
 
@@ -103,31 +95,30 @@ const MAX_LINE: usize = 32;
 fn tell<R: Print + Eprint>(rt: &R, text: &[u8], tape: &[u8], bytes: &[u8])
     requires { Tells text.now tape.now bytes.now }
 {
-    if let Err(why) = rt.write_all(bytes) {
-        fail(rt, "standard output", why);
-    }
+    write(rt, bytes);
 }
 
-fn put_located(located: Located, out: &mut [u8]) -> usize
+fn put_located(located: Result<Positions, Refusal>, out: &mut [u8]) -> usize
     ensures puts { Puts out.old 0 (located_line located) out.new result }
     ensures located_len_bound { length (located_line located) ≤ 30 }
 {
     match located {
-        Located::Positions(reach, resume) => put_line(
+        // Kept: `as` tells that a position has 16 bits, on which the line's length rests; what `u64::from` promises does not.
+        Ok(Positions { reach, resume }) => put_line(
             out,
             0,
             b"located",
             reach as u64,
             resume as u64,
         ),
-        Located::Refused(why) => put_refused(out, 0, number_of(why), value_of(why)),
+        Err(why) => put_refused(out, 0, why),
     }
 }
 
+// A text that does not load has a table of no lines, which locating refuses.
 fn print_break<R: Print + Eprint>(rt: &R, text: &[u8], tape: &[u8]) {
-    let loaded = load(text);
-    let n = letters_of(tape);
-    let located = locate(loaded.pattern, &tape[..n]);
+    let p = load(text).unwrap_or(Pattern::new());
+    let located = locate(p, letters_of(tape));
     let mut out = [0u8; MAX_LINE];
     let size = put_located(located, &mut out);
     tell(rt, text, tape, &out[..size]);
@@ -142,14 +133,12 @@ fn has_argument(rt: &impl Env) -> bool {
 fn list_files<R: Files + Env + Print + Eprint>(rt: &R, text: &mut [u8], tape: &mut [u8])
     requires { (text_least ≤ length text.old) × (tape_least ≤ length tape.old) }
 {
-    let m = read_file(rt, "pattern.tsv", text);
-    if text.len() < m {
+    let Some(m) = read_file(rt, "pattern.tsv", text) else {
         return;
-    }
-    let n = read_file(rt, "tape.txt", tape);
-    if tape.len() < n {
+    };
+    let Some(n) = read_file(rt, "tape.txt", tape) else {
         return;
-    }
+    };
     print_listing(rt, &text[..m], &tape[..n]);
     if has_argument(rt) {
         print_break(rt, &text[..m], &tape[..n]);

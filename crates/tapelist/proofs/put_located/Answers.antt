@@ -1,15 +1,10 @@
--- `tapelist::put_located` meets its contract: a line of two positions, or of a refusal.
-use native.Mathlib.Omega.{arith}
-use Rattle.tapelist.specs.PrintLaws.{puts_positions, puts_refusal}
+-- `tapelist::put_located` meets its contract: a line of two positions is short.
+use Rattle.std.proofs.Common.{ap, length, arith}
+use Rattle.text.specs.Lengths.{line-length}
+use Rattle.tapelist.specs.Printing.{located_word, located_line}
 use Rattle.tapelist.proofs.put_located.Goals as goal
 
-pub returns-in-Positions : goal.returns-in-Positions
-returns-in-Positions c =
-    let told = puts_positions _ _ _ _ _ _ c.in-Positions.is (omega arith) (omega arith) c.put_line.ensures in
-    record { puts = told.0; located_len_bound = told.1 }
-
-pub returns-in-Refused : goal.returns-in-Refused
-returns-in-Refused c =
-    let told = puts_refusal _ _ _ _ _ _ _ c.in-Refused.is c.number_of.ensures c.value_of.ensures c.put_refused.ensures.puts
-    c.put_refused.ensures.value_len_bound in
-    record { puts = told.0; located_len_bound = told.1 }
+pub returns-in-Ok-clause-located_len_bound : goal.returns-in-Ok-clause-located_len_bound
+returns-in-Ok-clause-located_len_bound c =
+    let x = c.in-Ok.field-0 in
+    omega (arith, ap (λ l. length (located_line l)) c.in-Ok.is, line-length located_word x.reach x.resume (omega arith) (omega arith))

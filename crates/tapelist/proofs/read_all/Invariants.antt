@@ -1,7 +1,5 @@
 -- `tapelist::read_all` is safe and ends. The length of `buf` stays; the measure is what is left of it.
-use mathlib.Core.Path.{◌≡◌}
-use Prim.Native.Nat.{◌-◌, ◌≤◌}
-use lib.ListN.{length}
+use Rattle.std.proofs.Common.{◌≡◌, ◌-◌, ◌≤◌, length}
 use Rattle.tapelist.proofs.read_all.Given as goal
 
 abbrev pub invariant-loop-at : goal.invariant-loop-at
