@@ -16,6 +16,7 @@ use refusals::{Cause, Refusal};
 use syntax::Pattern;
 
 // The one cause that is the calls' own: an account without a cell has litres.
+// Kept: a number and no enum, since it is a cause of the C interface alone, where causes are numbers.
 pub const CELLS_TOO_FEW: u32 = 20;
 
 // A cause of any enum is packed by its number and value.

@@ -1,5 +1,6 @@
 // What a C program calls: each call of crate wumbyra, exported, with its contract. A static library exports its own functions alone, and no crate
 // can stand on one, so the services and their laws are in crate wumbyra and the calls are here. include/wumbyra.h declares them.
+// Kept: the calls stand twice, here and in crate wumbyra, since the C interface has to export functions of this crate.
 #![tactic(auto)]
 
 ghost use Rattle.std.specs.Prelude.{◌≡◌};
