@@ -66,15 +66,3 @@ impl Cause for Refusal {
         }
     }
 }
-
-pub fn number_of(why: Refusal) -> u32
-    ensures { result ≡ number why }
-{
-    why.number()
-}
-
-pub fn value_of(why: Refusal) -> u32
-    ensures { result ≡ value why }
-{
-    why.value()
-}
