@@ -22,6 +22,10 @@ numbered c = line_numbered c.args.text.now c.args.at c.args.i c.in_ok-place.ensu
     (placed c.in_ok-place.place.bytes.now c.in_ok-place_of.ensures c.from.ensures c.if-from-i.false)
     c.in_ok-kind.ensures c.in_ok-number.ensures
 
+pub returns : goal.returns
+returns c = line_good (numbered (goal.at.returns c).After-account_of)
+    c.in_ok-single_of.ensures c.in_ok-account.ensures c.in_ok-node.ensures
+
 pub returns-in_err-kind : goal.returns-in_err-kind
 returns-in_err-kind c = c.from_residual-in_err-kind.ensures
     ∙ line_no_kind_field c.args.text.now c.args.at c.args.i c.in_ok-place.ensures c.in_err-kind.ensures
@@ -43,7 +47,3 @@ returns-in_err-single_of c = c.from_residual-in_err-single_of.ensures
 pub returns-in_err-node : goal.returns-in_err-node
 returns-in_err-node c = c.from_residual-in_err-node.ensures
     ∙ line_no_node (numbered (goal.at.returns-in_err-node c).After-account_of) c.in_ok-single_of.ensures c.in_err-node.ensures
-
-pub returns : goal.returns
-returns c = line_good (numbered (goal.at.returns c).After-account_of)
-    c.in_ok-single_of.ensures c.in_ok-account.ensures c.in_ok-node.ensures
