@@ -186,7 +186,7 @@ module _ {k : ℕ} {s : List ℕ} {at : ℕ} {x : List ℕ} {next : ℕ} {t : Op
   pub room : {last : Bool} → t ≡ Some last → at + length x < length s
   room {last = last} h = omega (arith, (position-Some stops (drop at s) (length x) 0 (found last h).size).0, length-drop at s)
 
--- two ways to say the same of what follows
+-- two ways to say the same of what fields say
 pub scan_same : {A : Type 0} (f g : Says A) (at : ℕ) (w : List ℕ) → ((fs : List (List ℕ)) → f fs ≡ g fs) → scan_by f at w ≡ scan_by g at w
 unfolding scan_by
 scan_same f g at w h = ap (λ o. cond (first_closed w) (scan_of o (at + suc (first_size w))) None) (h (first_fields w))
