@@ -28,14 +28,14 @@ use walks::{side_at, stops_at};
 #[derive(Clone, Copy)]
 pub struct Entered {
     pub at: u32,
-    pub n: usize,
+    pub n: u32,
 }
 
 // Stands for every number of letters above `Pattern::MAX_LETTERS`: a letter takes no bit, so that a short code may spell very many.
-const MANY: usize = Pattern::MAX_LETTERS + 1;
+const MANY: u32 = Pattern::MAX_LETTERS as u32 + 1;
 
 // The cell behind, up to `MANY`.
-fn next_cell(n: usize) -> usize
+fn next_cell(n: u32) -> u32
     requires { n ≤ letter_limit + 1 }
     ensures { result ≡ cap (n + 1) }
 {
@@ -62,12 +62,13 @@ fn bits_in(code: &[u8]) -> u32
 }
 
 // A cell that was not lent is not written.
-fn put_cell(cells: &mut [u8], n: usize, value: u8)
+fn put_cell(cells: &mut [u8], n: u32, value: u8)
     ensures { cells.new ≡ set cells.old n value }
 {
     // Kept: an index, since of a slice's `get_mut` a proof knows the length alone, and no cell.
-    if n < cells.len() {
-        cells[n] = value;
+    let i = n as usize;
+    if i < cells.len() {
+        cells[i] = value;
     }
 }
 
@@ -75,7 +76,7 @@ fn put_cell(cells: &mut [u8], n: usize, value: u8)
 fn put_entry(
     letters: &mut [u8],
     accounts: &mut [u8],
-    n: usize,
+    n: u32,
     c: u8,
     account: u8,
     at: u32,
@@ -101,7 +102,7 @@ fn put_range(
     at: u32,
     letters: &mut [u8],
     accounts: &mut [u8],
-    n: usize,
+    n: u32,
 ) -> Option<Entered>
     requires { Ready code.now letters.old accounts.old at n }
     ensures { Enters code.now (leaf_tree (range_node low high)) account at n
@@ -125,7 +126,7 @@ fn put_leaf(
     at: u32,
     letters: &mut [u8],
     accounts: &mut [u8],
-    n: usize,
+    n: u32,
 ) -> Option<Entered>
     requires { Ready code.now letters.old accounts.old at n }
     ensures { Enters code.now (leaf_tree leaf) account at n
@@ -148,7 +149,7 @@ fn put_entries(
     at: u32,
     letters: &mut [u8],
     accounts: &mut [u8],
-    n: usize,
+    n: u32,
 ) -> Option<Entered>
     requires good { Good table.now × (l < 64) }
     requires ready { Ready code.now letters.old accounts.old at n }
@@ -212,7 +213,7 @@ pub fn enter(
     if entered.at != count {
         return None;
     }
-    Some(entered.n as u32)
+    Some(entered.n)
 }
 
 // Tests the table and the code, and lays the code's letters in front of one buffer and their accounts in front of another. Refused, the
