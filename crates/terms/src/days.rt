@@ -4,7 +4,7 @@ ghost use Rattle.terms.specs.Terms.{after_letter, in_term, is_term};
 ghost use Rattle.terms.specs.Days.{date_behind, day_of};
 
 use crate::Term;
-use calendar::{Date, is_after, is_date, next_date};
+use calendar::{Date, is_date, next_date};
 
 // The letter that ends a day.
 pub(crate) const DAY_END: u8 = b'D';
@@ -30,19 +30,19 @@ pub(crate) fn last_date(letters: &[u8], n: usize, start: Date) -> Date
 }
 
 // Whether a date lies in a term, first and last date included.
-#[tactic(auto, unfolding(crate::specs::Terms::in_term))]
+#[tactic(auto, unfolding(crate::specs::Terms::in_term, calendar::specs::Dates::is_after))]
 fn in_term(term: Term, date: Date) -> bool
     ensures { result ≡ in_term term date }
 {
-    !is_after(term.first, date) && !is_after(date, term.last)
+    (term.first..=term.last).contains(&date)
 }
 
 // Whether there is such a term: two dates, the last one not before the first.
-#[tactic(auto, unfolding(crate::specs::Terms::is_term))]
+#[tactic(auto, unfolding(crate::specs::Terms::is_term, calendar::specs::Dates::is_after))]
 pub(crate) fn is_term(term: Term) -> bool
     ensures { result ≡ is_term term }
 {
-    is_date(term.first) && is_date(term.last) && !is_after(term.first, term.last)
+    is_date(term.first) && is_date(term.last) && term.first <= term.last
 }
 
 // A date, and whether it lies in the term: asked once a day, not once a letter.
