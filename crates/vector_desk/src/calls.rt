@@ -50,7 +50,13 @@ fn put_lent(
     let cells = (number(field(line)) as usize).min(letters.len());
     let lent = (number(field(last)) as usize).min(words.len());
     let mut held = desk_of(desk);
-    let answer = put(&mut held, loaded(text), page, &mut letters[..cells], &mut words[..lent]);
+    let answer = put(
+        &mut held,
+        loaded(text),
+        page,
+        &mut letters[..cells],
+        &mut words[..lent],
+    );
     put_desk(held, desk);
     print_call(rt, answer, desk, letters, words)?;
     Ok(rest(last).len())

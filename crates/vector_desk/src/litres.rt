@@ -36,8 +36,7 @@ fn run_cells(rt: &impl Print, text: &[u8], code: &[u8], count: u32, line: &[u8])
     let first = number(field(behind));
     let last = number(rest(behind));
     let mut dated = [CELL_BEFORE; ALL_CELLS];
-    let answer =
-        wumbyra_term_totals(text, code, count, start, first, last, &mut dated[..lent]);
+    let answer = wumbyra_term_totals(text, code, count, start, first, last, &mut dated[..lent]);
     print_litres(rt, answer, &dated)
 }
 
