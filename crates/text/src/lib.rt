@@ -9,4 +9,4 @@ mod put; // put.rt: bytes as they are
 
 pub use digits::{put_decimal, put_hex};
 pub use lines::{put_answer, put_entry, put_line, put_pair, put_parted, put_refusal, put_refused};
-pub use put::{least, put_byte, put_bytes};
+pub use put::{put_byte, put_bytes};

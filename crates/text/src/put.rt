@@ -1,5 +1,5 @@
 // Bytes as they are.
-ghost use Rattle.std.specs.Prelude.{◌≡◌, [], ◌∷◌, min};
+ghost use Rattle.std.specs.Prelude.{[], ◌∷◌};
 ghost use Rattle.text.specs.Text.{Puts};
 
 pub fn put_byte(out: &mut [u8], at: usize, byte: u8) -> usize
@@ -11,12 +11,6 @@ pub fn put_byte(out: &mut [u8], at: usize, byte: u8) -> usize
     } else {
         out.len()
     }
-}
-
-pub fn least(a: usize, b: usize) -> usize
-    ensures { result ≡ min a b }
-{
-    a.min(b)
 }
 
 pub fn put_bytes(out: &mut [u8], at: usize, bytes: &[u8]) -> usize
