@@ -17,12 +17,12 @@ use Rattle.bits.specs.Bits.{bit, test_bit}
 use Rattle.bits.specs.Numbers.{test_small}
 use Rattle.bits.specs.Lowest.{lowest_lt, lowest_on, lowest_cleared, lowest_out}
 use Rattle.semantics.proofs.Basics.{eqb_self}
-use Rattle.table.specs.HandDown.{first_part, second_part, Stores, equal}
+use Rattle.table.specs.HandDown.{first_part, second_part, equal}
 use Rattle.masks.specs.declared.firsts.First.{First}
 use Rattle.masks.specs.declared.follows.Follow.{Follow}
 use Rattle.masks.specs.Leaves.{letter_cells, letter_cell, entry}
 use Rattle.masks.specs.Firsts.{first_at, first_line, first_here, Firsts}
-use Rattle.masks.specs.Follows.{follow_at, Down}
+use Rattle.masks.specs.Follows.{Down}
 use Rattle.masks.specs.Masks.{Filled, leaf_takes, node_takes}
 use Rattle.masks.specs.Scatter.{Marked, Marking, marking-next, marking-end, Scattered, line_takes}
 

@@ -1,6 +1,6 @@
 -- What single steps of the memo come to: a pair that is found or not, that gets a number or none, a column that is claimed, a step that is noted. No answer
 -- needs these laws, since Options and the check itself take the steps; they say what each of the definitions does in each of its cases.
-use Rattle.std.specs.Prelude.{◌≡◌, refl, Bool, true, false, ◌&&◌, List, ℕ, ◌+◌, ◌≤◌, ◌<◌, eqb, length, take, set, Option, Some, None}
+use Rattle.std.specs.Prelude.{◌≡◌, refl, Bool, true, false, ◌&&◌, List, ℕ, ◌+◌, ◌≤◌, ◌<◌, eqb, length, set, Option, Some, None}
 use Rattle.std.proofs.Common.{sym, ap, ap₂, ◌∙◌, arith, length-set, get_or-set_same, get_or-set_other, ne_eqb}
 use Rattle.semantics.proofs.Basics.{eqb_self, eqb_eq}
 use Rattle.steps.specs.declared.Words.{Words}
