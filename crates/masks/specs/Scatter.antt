@@ -228,8 +228,7 @@ pub leaf_range :
     (leaf : Leaf) (i : ℕ) (before now : List ℕ) (a b : ℕ) → leaf ≡ Range a b → Marked (in_range a b) i before now → Marked (leaf_takes leaf) i before now
 leaf_range leaf i before now a b e m = rw e (marked_same (in_range a b) (leaf_takes (Range a b)) i before now (λ c. refl) m)
 
--- the letters of a good leaf have their cells
--- and a range's ends are letters
+-- the ends of a good leaf that is a range are letters
 pub range_ends : (leaf : Leaf) (a b : ℕ) → leaf_good leaf ≡ true → leaf ≡ Range a b → (is_letter a ≡ true) × (is_letter b ≡ true)
 range_ends leaf a b g e =
     let h = and_fst (is_letter a && is_letter b) (leb a b) (rw e at g) in

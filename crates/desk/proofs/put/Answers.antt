@@ -34,8 +34,7 @@ overflow_sub-total c =
 
 pub put_on-requires : goal.put_on-requires
 put_on-requires c =
-    let t = clear_at (goal.at.put_on-requires c).In_ok-held in
-    (
+    let t = clear_at (goal.at.put_on-requires c).In_ok-held in (
       put-room c.args.desk.now c.args.p c.args.page.now c.args.letters.now _ t.0,
       put-page_upto c.args.desk.now c.args.p c.args.page.now c.args.letters.now _ t.0,
     )
