@@ -1,2 +1,3 @@
 pub mod Demanded
 pub mod Rejected
+pub mod StepLaws
