@@ -3,3 +3,4 @@ pub mod Orders
 pub mod WordLaws
 pub mod Untouched
 pub mod StackLaws
+pub mod StepLaws
