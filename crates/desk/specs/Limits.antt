@@ -166,7 +166,7 @@ module _ (d : Desk) (letters : List ℕ) (r : Option ℕ) (e : r ≡ desk_limits
           ap length (part_held part q l) ∙ length-slice (letter_limit - held d) letter_limit letters l
           ∙ (let e : letter_limit - (letter_limit - held d) ≡ n = omega (arith, t.1, held_upto) in e)
 
-      held-bad : bad < n → None ≡ held_limits d letters
+      pub held-bad : bad < n → None ≡ held_limits d letters
       unfolding held_limits desk_good
       held-bad h =
           let bad_letters : every is_letter (letters_held d letters) ≡ false =
@@ -174,7 +174,7 @@ module _ (d : Desk) (letters : List ℕ) (r : Option ℕ) (e : r ≡ desk_limits
           sym (ap (λ b. cond (limits_kept d && b) (Some (held d)) None) bad_letters
           ∙ ap (λ b. cond (b && false) (Some (held d)) None) (limits_told n k).0)
 
-      held-good : n ≤ bad → Some n ≡ held_limits d letters
+      pub held-good : n ≤ bad → Some n ≡ held_limits d letters
       unfolding held_limits desk_good
       held-good h =
           let good : every is_letter (letters_held d letters) ≡ true =

@@ -103,8 +103,8 @@ module _ (p : Pattern) (tape ws code : List ℕ) (count : ℕ) (h : Read p tape 
       let none : totals_answer p code count ≡ answer 0 0 = ap₂ (totals_answer p) h.coded h.counted ∙ own_answer in
       absurd (omega (arith, number_positive why, ap (λ a. a.number) (t.answers ∙ none)))
 
-  litres_are : (ns : List ℕ) → Totals p code count (Ok ns) → ns ≡ totals (entries_by (root p) (value_of (root p) (greedy (root p) tape)))
-  litres_are ns t = t.gives ∙ ap₂ (totals_litres p) h.coded h.counted ∙ own-litres
+  pub litres_are : (r : Result (List ℕ) Refusal) → Totals p code count r → totalled_litres r ≡ totals (entries_by (root p) (value_of (root p) (greedy (root p) tape)))
+  litres_are r t = t.gives ∙ ap₂ (totals_litres p) h.coded h.counted ∙ own-litres
 
   listing_is : (n : ℕ) → n ≡ length tape → (ns : List ℕ) → ns ≡ totals (entries_by (root p) (value_of (root p) (greedy (root p) tape)))
       → tape_line n count code ++ (account_lines 0 ns ++ open_lines ws 0 (suc n)) ≡ listing p tape (greedy (root p) tape)
@@ -131,7 +131,7 @@ module _ (p : Pattern) (tape ws code : List ℕ) (count : ℕ) (h : Read p tape 
       → Shows old (listing p tape (greedy (root p) tape)) now end
   listed n e r t ns f old m₁ m₂ now e₁ e₂ end a (b, l) c =
       let given = subst (Totals p code count) f t in
-      shows_as old _ _ now end (listing_is n e ns (litres_are ns given))
+      shows_as old _ _ now end (listing_is n e ns (litres_are (Ok ns) given))
       (record { puts = puts_then _ _ _ _ _ _ _ _ a (puts_then _ _ _ _ _ _ _ _ b c); fits = fits_room n e ns (totalled_many p code count (Ok ns) given) l })
 
 -- ── what reading answers ──

@@ -13,7 +13,7 @@ use listing_lines::{put_accounts, put_open, put_tape};
 use loading::load;
 use parser::parse;
 use syntax::Pattern;
-use text::put_refused;
+use text::put_cause;
 use totals::totals;
 
 // Bytes that hold every listing: at most 131,100 for the first line, 30 for each of 201 accounts, 27 for each of 3,601 positions.
@@ -51,7 +51,7 @@ fn list_with(p: Pattern, tape: &[u8], words: &mut [u64], code: &mut [u8], out: &
             let n = bytes_for(count);
             list_read(p, tape, words, &code[..n], count, out)
         }
-        Err(why) => put_refused(out, 0, why),
+        Err(why) => put_cause(out, 0, why),
     }
 }
 
@@ -77,7 +77,7 @@ fn list_text(text: &[u8], tape: &[u8], out: &mut [u8]) -> usize
 {
     match load(text) {
         Ok(p) => list_tape(p, letters_of(tape), out),
-        Err(why) => put_refused(out, 0, why),
+        Err(why) => put_cause(out, 0, why),
     }
 }
 

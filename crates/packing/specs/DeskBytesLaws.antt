@@ -142,11 +142,11 @@ module _ (bytes : List ℕ) (h : length bytes ≡ desk_bytes → ⊥) (p : Patte
 
 -- ── `of_other_length` ──
 module _ (p : Pattern) (words : ℕ) where
-  other_first : (why : DeskRefusal) → First why (open_order p words) → desk_refused why ≡ other_opened p words
+  pub other_first : (why : DeskRefusal) → First why (open_order p words) → desk_refused why ≡ other_opened p words
   unfolding other_opened
   other_first why f = sym (first_said desk_refused f (desk_refused DeskLimits))
 
-  other_13 : Clear (open_order p words) → desk_refused DeskLimits ≡ other_opened p words
+  pub other_13 : Clear (open_order p words) → desk_refused DeskLimits ≡ other_opened p words
   unfolding other_opened
   other_13 c = sym (clear_said desk_refused (open_order p words) (desk_refused DeskLimits) c)
 

@@ -93,19 +93,25 @@ fn no_totals(cells: &mut [u32])
 }
 
 // Totals of all accounts, handed out in the cells that are lent. If there is no cell for an account with litres, the answer is 20 and the
-// cells are 0: no litre is left out in silence. They are 0 too if the totals are refused.
-pub fn give_totals<E: Cause>(totals: &Result<[u32; Pattern::ACCOUNTS], E>, cells: &mut [u32]) -> u64
+// cells are 0: no litre is left out in silence.
+pub fn give_totals(answer: u64, totals: &[u32], cells: &mut [u32]) -> u64
+    ensures { Gives (unpacked answer) totals.now cells.old cells.new result }
+{
+    if litres_beyond(totals, cells.len()) {
+        no_totals(cells);
+        packed(CELLS_TOO_FEW, 0)
+    } else {
+        put_totals(totals, cells);
+        answer
+    }
+}
+
+// The same of what a service answers. The cells are 0 too if the totals are refused.
+pub fn give_litres<E: Cause>(totals: &Result<[u32; Pattern::ACCOUNTS], E>, cells: &mut [u32]) -> u64
     ensures { Gives (outcome_by (λ why. answer (E.number_of why) (E.value_of why)) totals.now) (litres_by totals.now) cells.old cells.new result }
 {
     match totals {
-        Ok(litres) if litres_beyond(litres, cells.len()) => {
-            no_totals(cells);
-            packed(CELLS_TOO_FEW, 0)
-        }
-        Ok(litres) => {
-            put_totals(litres, cells);
-            packed(0, 0)
-        }
+        Ok(litres) => give_totals(packed(0, 0), litres, cells),
         Err(why) => {
             no_totals(cells);
             of_cause(why)

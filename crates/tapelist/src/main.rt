@@ -18,7 +18,7 @@ use std::io;
 use std::io::Read;
 use std::rt::Files;
 use syntax::Pattern;
-use text::{put_line, put_refused};
+use text::{put_cause, put_line};
 
 // Bytes held of each file. The first `text_bytes` bytes of a pattern's text, 1,025, and the first 3,602 of a tape give the listing
 // of the whole files: law `listing_short` of crate listing.
@@ -111,7 +111,7 @@ fn put_located(located: Result<Positions, Refusal>, out: &mut [u8]) -> usize
             reach as u64,
             resume as u64,
         ),
-        Err(why) => put_refused(out, 0, why),
+        Err(why) => put_cause(out, 0, why),
     }
 }
 

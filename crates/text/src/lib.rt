@@ -8,5 +8,7 @@ mod lines; // lines.rt: fields, lines and refusals
 mod put; // put.rt: bytes as they are
 
 pub use digits::{put_decimal, put_hex};
-pub use lines::{put_answer, put_entry, put_line, put_pair, put_parted, put_refusal, put_refused};
+pub use lines::{
+    put_answer, put_cause, put_entry, put_line, put_pair, put_parted, put_refusal, put_refused,
+};
 pub use put::{put_byte, put_bytes};

@@ -58,16 +58,18 @@ pub fn put_answer<C: Cause + Copy>(out: &mut [u8], at: usize, answer: Result<u32
     }
 }
 
-// The line of a refusal. It has at most 30 bytes.
-pub fn put_refused<C: Cause + Copy>(out: &mut [u8], at: usize, why: C) -> usize
+// The line of a refusal, of any enum by its number and value. It has at most 30 bytes.
+pub fn put_refused(out: &mut [u8], at: usize, number: u32, value: u32) -> usize
+    ensures puts { Puts out.old at (refused_line (answer number value)) out.new result }
+    ensures value_len_bound { length (refused_line (answer number value)) ≤ 30 }
+{
+    put_line(out, at, b"refused", u64::from(number), u64::from(value))
+}
+
+// The same of a cause.
+pub fn put_cause<C: Cause + Copy>(out: &mut [u8], at: usize, why: C) -> usize
     ensures puts { Puts out.old at (refused_line (answer (C.number_of why) (C.value_of why))) out.new result }
     ensures value_len_bound { length (refused_line (answer (C.number_of why) (C.value_of why))) ≤ 30 }
 {
-    put_line(
-        out,
-        at,
-        b"refused",
-        u64::from(why.number()),
-        u64::from(why.value()),
-    )
+    put_refused(out, at, why.number(), why.value())
 }

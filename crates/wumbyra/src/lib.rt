@@ -17,7 +17,7 @@ use codes::flatten;
 use desk::{open, put, withdraw};
 use loading::load;
 use packing::{
-    DESK_BYTES, desk_of, give_totals, halves, litres_of, of_answer, of_cause, of_located,
+    DESK_BYTES, desk_of, give_litres, halves, litres_of, of_answer, of_cause, of_located,
     of_other_length, packed, put_desk,
 };
 use parser::parse;
@@ -133,7 +133,7 @@ pub extern "C" fn wumbyra_total(text: &[u8], code: &[u8], count: u32, account: u
 pub extern "C" fn wumbyra_totals(text: &[u8], code: &[u8], count: u32, litres: &mut [u32]) -> u64
     ensures { TotalsText text.now code.now count litres.old litres.new result }
 {
-    give_totals(&totals(pattern_of(text), code, count), litres)
+    give_litres(&totals(pattern_of(text), code, count), litres)
 }
 
 // Dates are numbers: year × 10000 + month × 100 + day.
@@ -155,7 +155,7 @@ pub extern "C" fn wumbyra_term_totals(
         last: date_of(last),
     };
     let totals = term_totals(pattern_of(text), code, count, date_of(start), term);
-    give_totals(&totals, litres)
+    give_litres(&totals, litres)
 }
 
 // A page desk is 31 bytes: the count, and behind it the 30 lengths. One of another length is 13, at opening after 6.

@@ -9,4 +9,4 @@ returns-in-Ok c =
 pub returns-in-Err : goal.returns-in-Err
 returns-in-Err c =
     shows_refused _ _ _ _ c.in-Err.why (load_refused _ c.args.tape.now _ c.load.ensures _ c.in-Err.is)
-    c.put_refused.ensures.puts c.put_refused.ensures.value_len_bound
+    c.put_cause.ensures.puts c.put_cause.ensures.value_len_bound

@@ -29,7 +29,7 @@ returns-in-Err c =
     shows_refused _ _ _ _ c.in-Err.why
     (parse_refused given.p given.tape.now given.words.now _ given.code.now _ c.requires.0 c.requires.1 _ _
     c.in-Err.is c.parse.ensures)
-    c.put_refused.ensures.puts c.put_refused.ensures.value_len_bound
+    c.put_cause.ensures.puts c.put_cause.ensures.value_len_bound
 
 pub returns-in-Ok : goal.returns-in-Ok
 returns-in-Ok c =

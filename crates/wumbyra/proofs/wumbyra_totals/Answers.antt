@@ -3,4 +3,4 @@ use Rattle.wumbyra.specs.PackedLaws.{totals-packed}
 use Rattle.wumbyra.proofs.wumbyra_totals.Goals as goal
 
 pub returns : goal.returns
-returns c = totals-packed _ _ c.pattern_of.ensures _ _ _ c.totals.ensures _ _ _ c.give_totals.ensures
+returns c = totals-packed _ _ c.pattern_of.ensures _ _ _ c.totals.ensures _ _ _ c.give_litres.ensures
