@@ -1,7 +1,7 @@
 // What loading a text answers: the outcome's number and value, and after them the table's nodes, one a line, fields parted
 // by tabs, numbers in decimal. Each `put_` function puts its bytes into `out` from `at` on and answers where they end. What
 // does not fit is left out.
-use loading::{LoadOutcome, Loaded};
+use refusals::Refusal;
 use std::io;
 use syntax::{Leaf, Line, Node, Pattern};
 use text::{put_byte, put_pair, put_parted, put_refusal};
@@ -25,8 +25,7 @@ fn star_kind(again: bool) -> u8 {
 
 fn row_of(line: Line) -> Row {
     let account = line.account;
-    let node = line.node;
-    match node {
+    match line.node {
         Node::Leaf(leaf) => row_of_leaf(account, leaf),
         Node::Sequence(p, q) => Row(b'S', account, p, q),
         Node::Alternative(p, q) => Row(b'A', account, p, q),
@@ -34,16 +33,9 @@ fn row_of(line: Line) -> Row {
     }
 }
 
-fn put_outcome(out: &mut [u8], outcome: LoadOutcome) -> usize {
-    match outcome {
-        LoadOutcome::Lines(count) => put_pair(out, 0, 0, count as u64),
-        LoadOutcome::Refused(why) => put_refusal(out, 0, why),
-    }
-}
-
 // A field that is not the first of its line.
 fn put_field(out: &mut [u8], at: usize, x: u8) -> usize {
-    put_parted(out, at, b'\t', x as u64)
+    put_parted(out, at, b'\t', u64::from(x))
 }
 
 // A node's line, with the byte 10 that ends the line before it.
@@ -55,26 +47,24 @@ fn put_row(out: &mut [u8], at: usize, row: Row) -> usize {
     put_field(out, c, row.3)
 }
 
-fn put_lines(out: &mut [u8], at: usize, p: Pattern) -> usize {
+fn put_lines(out: &mut [u8], at: usize, p: &Pattern) -> usize {
     let mut end = at;
-    let mut i = 0;
-    while i < p.count {
-        if Pattern::MAX_LINES <= i {
-            break;
-        }
-        let line = p.lines[i];
+    for &line in p.lines.iter().take(p.count) {
         end = put_row(out, end, row_of(line));
-        i += 1;
     }
     end
 }
 
-// Prints the outcome, then the table's lines: a refused load's table has none. All take less than 1,024 bytes.
-pub(crate) fn print_loaded(rt: &impl Print, loaded: Loaded) -> io::Result<()> {
-    let outcome = loaded.outcome;
-    let pattern = loaded.pattern;
+// Prints 0 and the line count, or the refusal, then the table's lines: a refused load has none. All take less than 1,024
+// bytes.
+pub(crate) fn print_loaded(rt: &impl Print, loaded: Result<Pattern, Refusal>) -> io::Result<()> {
     let mut out = [0u8; 1024];
-    let head = put_outcome(&mut out, outcome);
-    let end = put_lines(&mut out, head, pattern);
+    let end = match loaded {
+        Ok(p) => {
+            let head = put_pair(&mut out, 0, 0, p.count as u64);
+            put_lines(&mut out, head, &p)
+        }
+        Err(why) => put_refusal(&mut out, 0, why),
+    };
     print_line(rt, &mut out, end)
 }

@@ -13,7 +13,7 @@ mod parse_cases; // parse_cases.rt: reading a tape
 mod table_cases; // table_cases.rt: tables that no text gives
 
 use load_cases::print_loaded;
-use loading::{Loaded, load};
+use loading::load;
 use locate_cases::run_locate;
 use parse_cases::run_parse;
 use std::io;
@@ -22,13 +22,10 @@ use syntax::Pattern;
 use table_cases::with_account;
 use vector_codes::{run_code, run_span, run_term};
 use vector_desk::{run_desk, run_litres};
-use vector_text::{Input, MAX_TEXT, advance, decode, field, no_input, number, rest, say_bad};
+use vector_text::{Input, MAX_TEXT, Step, advance, decode_all, field, number, rest, say_bad};
 
 // Bytes held of a line.
 const MAX_LINE: usize = 20480;
-
-// The greatest account that a table has room for.
-const MAX_STORED: u32 = 255;
 
 // `line` is what stands behind the pattern's text.
 fn run_service(rt: &impl Print, kind: u8, p: Pattern, line: &[u8]) -> io::Result<()> {
@@ -46,19 +43,17 @@ fn run_service(rt: &impl Print, kind: u8, p: Pattern, line: &[u8]) -> io::Result
 fn run_altered(rt: &impl Print, p: Pattern, line: &[u8]) -> io::Result<()> {
     let behind = rest(line);
     let service = rest(behind);
-    let account = number(field(behind));
-    if service.len() == 0 {
+    let (Some(&kind), Ok(account)) = (service.first(), u8::try_from(number(field(behind)))) else {
         return say_bad(rt);
-    }
-    if MAX_STORED < account {
-        return say_bad(rt);
-    }
-    let table = with_account(p, number(field(line)) as usize, account as u8);
-    run_service(rt, service[0], table, rest(service))
+    };
+    let table = with_account(p, number(field(line)) as usize, account);
+    run_service(rt, kind, table, rest(service))
 }
 
-fn run_kind(rt: &impl Print, kind: u8, loaded: Loaded, line: &[u8]) -> io::Result<()> {
-    let p = loaded.pattern;
+// A text that does not load has a table of no lines, which every service refuses.
+fn run_kind(rt: &impl Print, kind: u8, text: &[u8], line: &[u8]) -> io::Result<()> {
+    let loaded = load(text);
+    let p = loaded.unwrap_or(Pattern::new());
     match kind {
         b'l' => print_loaded(rt, loaded),
         b'a' => run_altered(rt, p, line),
@@ -67,55 +62,45 @@ fn run_kind(rt: &impl Print, kind: u8, loaded: Loaded, line: &[u8]) -> io::Resul
 }
 
 fn run_case(rt: &impl Print, line: &[u8]) -> io::Result<()> {
-    if line.len() == 0 {
+    let Some(&kind) = line.first() else {
         return say_bad(rt);
-    }
+    };
     let fields = rest(line);
     let digits = field(fields);
     let mut text = [0u8; MAX_TEXT];
-    let size = decode(digits, &mut text);
-    if size + size != digits.len() {
+    let Some(size) = decode_all(digits, &mut text) else {
         return say_bad(rt);
+    };
+    match kind {
+        b'd' => run_desk(rt, digits, rest(fields)),
+        b'f' => run_litres(rt, &text[..size], rest(fields)),
+        _ => run_kind(rt, kind, &text[..size], rest(fields)),
     }
-    let kind = line[0];
-    if kind == b'd' {
-        return run_desk(rt, digits, rest(fields));
-    }
-    if kind == b'f' {
-        return run_litres(rt, &text[..size], rest(fields));
-    }
-    run_kind(rt, kind, load(&text[..size]), rest(fields))
 }
 
-// Runs the line that is complete, if one is. A size above that of `line` marks one that did not fit.
-fn run_line(rt: &impl Print, line: &[u8], input: Input) -> io::Result<()> {
-    if !input.complete {
-        return Ok(());
+// Runs a line that is complete. A size above that of `line` is that of one that did not fit.
+fn run_line(rt: &impl Print, line: &[u8], size: usize) -> io::Result<()> {
+    match line.get(..size) {
+        Some(case) => run_case(rt, case),
+        None => say_bad(rt),
     }
-    let size = input.size;
-    if line.len() < size {
-        return say_bad(rt);
-    }
-    run_case(rt, &line[..size])
 }
 
-// Nothing says that the input ends, so the loop counts its turns down from a number that no run uses up.
+// Nothing says that the input ends, so the loop has a number of turns that no run uses up.
 fn run_all(
     rt: &impl Print,
     reader: &mut impl Read,
     line: &mut [u8],
     chunk: &mut [u8],
 ) -> io::Result<()> {
-    let mut input = no_input();
-    let mut turns = u64::MAX;
-    while turns > 0 {
-        let next = advance(reader, line, chunk, input);
-        if next.ended {
-            return Ok(());
+    let mut input = Input::new();
+    for _ in 0..u64::MAX {
+        input = advance(reader, line, chunk, input);
+        match input.step {
+            Step::Within => {}
+            Step::Complete => run_line(rt, line, input.size)?,
+            Step::Ended => break,
         }
-        run_line(rt, line, next)?;
-        input = next;
-        turns -= 1;
     }
     Ok(())
 }

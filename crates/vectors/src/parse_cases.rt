@@ -3,13 +3,12 @@
 // lent parts are the starts of larger arrays, whose cells are set before each case. Each `put_` function puts its bytes
 // into `out` from `at` on and answers where they end. What does not fit is left out.
 use parser::parse;
-use refusals::Refusal;
 use std::io;
 use syntax::Pattern;
-use text::{least, put_pair, put_parted, put_refusal};
+use text::put_answer;
 use vector_text::{
-    ALL_BYTES, ALL_WORDS, BYTE_BEFORE, MAX_TAPE, START, WORD_BEFORE, decode, field, number,
-    part_before, print_line, put_left, rest, say_bad,
+    ALL_BYTES, ALL_WORDS, BYTE_BEFORE, MAX_TAPE, START, WORD_BEFORE, decode_all, field, number,
+    print_line, put_left, put_numbers, rest, say_bad,
 };
 
 // The words of tapes up to this many letters are shown, and so many of them.
@@ -17,98 +16,50 @@ const SHOWN_LETTERS: usize = 8;
 
 const SHOWN_WORDS: usize = 20;
 
-// Number and value, from the start of `out`.
-fn put_parsed(out: &mut [u8], parsed: Result<u32, Refusal>) -> usize {
-    match parsed {
-        Ok(count) => put_pair(out, 0, 0, count as u64),
-        Err(why) => put_refusal(out, 0, why),
-    }
-}
-
-fn put_first(out: &mut [u8], at: usize, words: &[u64], count: usize) -> usize {
-    let mut end = at;
-    let mut i = 0;
-    while i < count {
-        if words.len() <= i {
-            break;
-        }
-        end = put_parted(out, end, part_before(i), words[i]);
-        i += 1;
-    }
-    end
-}
-
 // For short tapes the first of the words lent.
-fn put_words(out: &mut [u8], at: usize, words: &[u64], lent: usize, letters: usize) -> usize {
+fn put_words(out: &mut [u8], at: usize, words: &[u64], letters: usize) -> usize {
     if SHOWN_LETTERS < letters {
         return at;
     }
-    if SHOWN_WORDS < lent {
-        return put_first(out, at, words, SHOWN_WORDS);
-    }
-    put_first(out, at, words, lent)
+    let shown = SHOWN_WORDS.min(words.len());
+    put_numbers(out, at, &words[..shown])
 }
 
-// Prints the line of a case, which takes less than 1,024 bytes: `lent` words and `bytes` bytes were lent for a tape of so
-// many letters.
-fn print_parsing(
-    rt: &impl Print,
-    parsed: Result<u32, Refusal>,
-    words: &[u64],
-    lent: usize,
-    code: &[u8],
-    bytes: usize,
-    letters: usize,
-) -> io::Result<()> {
-    let mut out = [0u8; 1024];
-    let a = put_parsed(&mut out, parsed);
-    let b = put_left(&mut out, a, START, words, lent, code, bytes);
-    let c = put_words(&mut out, b, words, lent, letters);
-    print_line(rt, &mut out, c)
-}
-
-// Reads the tape with the first `most_words` words and the first `most_bytes` bytes lent, as far as there are any.
-fn run_parts(
+// Reads the tape with the first `most_words` words and the first `most_bytes` bytes lent, as far as there are any, and prints the
+// line of the case, which takes less than 1,024 bytes.
+fn run_lent(
     rt: &impl Print,
     p: Pattern,
     tape: &[u8],
-    words: &mut [u64],
     most_words: usize,
-    code: &mut [u8],
     most_bytes: usize,
 ) -> io::Result<()> {
-    let lent = least(most_words, words.len());
-    let bytes = least(most_bytes, code.len());
-    let parsed = parse(p, tape, &mut words[..lent], &mut code[..bytes]);
-    print_parsing(rt, parsed, words, lent, code, bytes, tape.len())
-}
-
-fn run_lent(rt: &impl Print, p: Pattern, tape: &[u8], lent: usize, bytes: usize) -> io::Result<()> {
     let mut words = [WORD_BEFORE; ALL_WORDS];
     let mut code = [BYTE_BEFORE; ALL_BYTES];
-    run_parts(rt, p, tape, &mut words, lent, &mut code, bytes)
+    let lent = most_words.min(ALL_WORDS);
+    let bytes = most_bytes.min(ALL_BYTES);
+    let parsed = parse(p, tape, &mut words[..lent], &mut code[..bytes]);
+    let mut out = [0u8; 1024];
+    let a = put_answer(&mut out, 0, parsed);
+    let b = put_left(&mut out, a, START, &words, lent, &code, bytes);
+    let c = put_words(&mut out, b, &words[..lent], tape.len());
+    print_line(rt, &mut out, c)
 }
 
 fn run_sizes(rt: &impl Print, p: Pattern, tape: &[u8], line: &[u8]) -> io::Result<()> {
     let last = rest(line);
-    if last.len() == 0 {
+    if last.is_empty() {
         return say_bad(rt);
     }
-    run_lent(
-        rt,
-        p,
-        tape,
-        number(field(line)) as usize,
-        number(last) as usize,
-    )
+    let words = number(field(line)) as usize;
+    let bytes = number(last) as usize;
+    run_lent(rt, p, tape, words, bytes)
 }
 
 pub(crate) fn run_parse(rt: &impl Print, p: Pattern, line: &[u8]) -> io::Result<()> {
-    let digits = field(line);
     let mut tape = [0u8; MAX_TAPE];
-    let size = decode(digits, &mut tape);
-    if size + size != digits.len() {
+    let Some(size) = decode_all(field(line), &mut tape) else {
         return say_bad(rt);
-    }
+    };
     run_sizes(rt, p, &tape[..size], rest(line))
 }
