@@ -124,6 +124,7 @@ fn run_call(
     letters: &mut [u8],
     words: &mut [u64],
 ) -> io::Result<usize> {
+    // Kept: the kind is a letter of the input, and a match says plainly what it runs.
     match kind {
         b'o' => run_open(rt, text, line, desk, letters, words),
         b'p' => run_put(rt, text, line, desk, letters, words),

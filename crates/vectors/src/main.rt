@@ -29,6 +29,7 @@ const MAX_LINE: usize = 20480;
 
 // `line` is what stands behind the pattern's text.
 fn run_service(rt: &impl Print, kind: u8, p: Pattern, line: &[u8]) -> io::Result<()> {
+    // Kept: the kind is a letter of the input, and a match says plainly what it runs.
     match kind {
         b'p' => run_parse(rt, p, line),
         b'c' => run_code(rt, p, line),
