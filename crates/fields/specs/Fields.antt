@@ -67,6 +67,25 @@ field_found s at k n e =
     let l : length (take n (drop at s)) ≡ n = length-take-le n (drop at s) (omega (arith, (size_inside k (drop at s) n e).1)) in
     record { size = size_found k (drop at s) n e ∙ ap Some (sym l); bytes = rw l; ends = rw l; behind = rw l }
 
+-- it has fewer bytes than are looked at
+pub found_small : (s : List ℕ) (at k n : ℕ) → field_size k (drop at s) ≡ Some n → length (take n (drop at s)) < k
+found_small s at k n e =
+    let (few, inside) = size_inside k (drop at s) n e in
+    omega (arith, few, length-take-le n (drop at s) (omega (arith, inside)))
+
+-- and no other does: a field of so few bytes that is there is the one that is found
+pub field_only : {s : List ℕ} {at : ℕ} {x : List ℕ} {last : Bool} {next : ℕ} (k : ℕ) → FieldAt s at x last next → length x < k
+    → field_size k (drop at s) ≡ Some (length x)
+unfolding field_size
+field_only {s = s} {at = at} {x = x} k f l =
+    let w = drop at s in
+    let (inside, ends, before) = position-Some stops w (length x) 0 f.size in
+    let m : length x < length (take k w) = omega (arith, l, inside, length-take k w) in
+    let t : stops (get_or (take k w) (length x) 0) ≡ true = ap stops (get_or-take k w (length x) 0 l) ∙ ends in
+    let i : position_or_len stops (take k w) ≡ length x =
+    position_or_len_is stops (take k w) (length x) 0 (omega (arith, m)) (λ j h. ap stops (get_or-take k w j 0 (omega (arith, h, l))) ∙ before j h) (λ h. t) in
+    rw (i, lt-ltb (length x) (length (take k w)) m)
+
 -- ── what fields write ──
 -- the byte of a field of one byte
 abbrev pub one_byte : (field : List ℕ) → Option ℕ

@@ -1,7 +1,7 @@
 // One field of a pattern text, and the values that fields have.
 #![tactic(auto)]
 
-ghost use Rattle.std.specs.Prelude.{◌≡◌, ◌≤◌, length, drop, None, Some, MatchOption};
+ghost use Rattle.std.specs.Prelude.{◌≡◌, ◌≤◌, ◌<◌, length, drop, None, Some, MatchOption};
 ghost use Rattle.fields.specs.Text.{digit, place, no_account, account};
 ghost use Rattle.fields.specs.Fields.{below, field_size, FieldAt, one_byte, longer, number};
 
@@ -42,7 +42,7 @@ fn size_of_field(text: &[u8], within: usize) -> Option<usize>
 pub fn field_from(text: &[u8], at: usize, within: usize) -> Option<Field<'_>>
     requires { at ≤ length text.now }
     ensures { MatchOption result (field_size within (drop at text.now) ≡ None)
-        (λ f. FieldAt text.now at f.bytes.now f.last f.next) }
+        (λ f. FieldAt text.now at f.bytes.now f.last f.next × (length f.bytes.now < within)) }
 {
     let rest = &text[at..];
     let size = size_of_field(rest, within)?;

@@ -75,7 +75,8 @@ fn field_behind<'a>(text: &'a [u8], field: Field, within: usize) -> Option<Field
     requires { field.next ≤ length text.now }
     ensures { MatchOption result
         ((field.entry.last ≡ true) ⊎ (field_size within (drop field.entry.next text.now) ≡ None))
-        (λ f. (field.entry.last ≡ false) × FieldAt text.now field.entry.next f.bytes.now f.last f.next) }
+        (λ f. ((field.entry.last ≡ false) × FieldAt text.now field.entry.next f.bytes.now f.last f.next)
+        × (length f.bytes.now < within)) }
 {
     if field.last {
         None

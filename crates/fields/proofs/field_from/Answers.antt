@@ -1,6 +1,6 @@
 use Rattle.std.proofs.Common.{◌≡◌, ◌<◌, sym, ◌∙◌, arith, Some, length, drop, length-take-le, length-drop}
 use Rattle.std.proofs.lemmas.List.{take_rest}
-use Rattle.fields.specs.Fields.{field_size, size_inside, field_found}
+use Rattle.fields.specs.Fields.{field_size, size_inside, field_found, found_small}
 use Rattle.fields.proofs.field_from.Goals as goal
 use Rattle.fields.proofs.field_from.Goals.{In_ok-size}
 
@@ -24,5 +24,6 @@ pub overflow_add-result-2 : goal.overflow_add-result-2
 overflow_add-result-2 c = omega (arith, inside (goal.at.overflow_add-result-2 c).In_ok-size, length-drop c.args.at c.args.text.now)
 
 pub returns : goal.returns
-returns c = rw take_rest
-    (field_found c.args.text.now c.args.at c.args.within _ (size (goal.at.returns c).In_ok-size))
+returns c =
+    let found = size (goal.at.returns c).In_ok-size in
+    rw take_rest (field_found c.args.text.now c.args.at c.args.within _ found, found_small c.args.text.now c.args.at c.args.within _ found)

@@ -18,9 +18,9 @@ use Rattle.scanning.proofs.scan_line.Goals.{After-account_of}
 numbered : (c : After-account_of)
     → Numbered c.args.text.now c.args.at c.args.i c.in_ok-kind.kind.bytes.now c.in_ok-number.number.bytes.now c.in_ok-number.number.last
     c.in_ok-number.number.next
-numbered c = line_numbered c.args.text.now c.args.at c.args.i c.in_ok-place.ensures
+numbered c = line_numbered c.args.text.now c.args.at c.args.i c.in_ok-place.ensures.0
     (placed c.in_ok-place.place.bytes.now c.in_ok-place_of.ensures c.from.ensures c.if-from-i.false)
-    c.in_ok-kind.ensures c.in_ok-number.ensures
+    c.in_ok-kind.ensures.0 c.in_ok-number.ensures.0
 
 pub returns : goal.returns
 returns c = line_good (numbered (goal.at.returns c).After-account_of)
@@ -28,13 +28,13 @@ returns c = line_good (numbered (goal.at.returns c).After-account_of)
 
 pub returns-in_err-kind : goal.returns-in_err-kind
 returns-in_err-kind c = c.from_residual-in_err-kind.ensures
-    ∙ line_no_kind_field c.args.text.now c.args.at c.args.i c.in_ok-place.ensures c.in_err-kind.ensures
+    ∙ line_no_kind_field c.args.text.now c.args.at c.args.i c.in_ok-place.ensures.0 c.in_err-kind.ensures
 
 pub returns-in_err-number : goal.returns-in_err-number
 returns-in_err-number c = c.from_residual-in_err-number.ensures
-    ∙ line_no_account_field c.args.text.now c.args.at c.args.i c.in_ok-place.ensures
+    ∙ line_no_account_field c.args.text.now c.args.at c.args.i c.in_ok-place.ensures.0
     (placed c.in_ok-place.place.bytes.now c.in_ok-place_of.ensures c.from.ensures c.if-from-i.false)
-    c.in_ok-kind.ensures c.in_err-number.ensures
+    c.in_ok-kind.ensures.0 c.in_err-number.ensures
 
 pub returns-in_err-account : goal.returns-in_err-account
 returns-in_err-account c = c.from_residual-in_err-account.ensures
