@@ -16,12 +16,10 @@ use Rattle.refusals.specs.RefusalLaws.{number_positive}
 use Rattle.refusals.specs.Checks.{First, here, Clear}
 use Rattle.refusals.specs.CheckLaws.{first_more, first_behind, clear_both, first_answered, clear_success}
 use Rattle.bits.specs.Bits.{in_front}
-use Rattle.table.specs.Cells.{tree_in, Holds}
 use Rattle.walks.specs.Whole.{whole_code, letters_of}
 use Rattle.codes.specs.Flatten.{room_check, flatten_order, flatten_answer, flatten_tape, Flattens}
 use Rattle.entries.specs.Measures.{Reads, measured_no, measured_yes, measured-letters}
 use Rattle.entries.specs.WholeLaws.{letters-front}
-use Rattle.entries.specs.GatherLaws.{reads-root}
 use Rattle.entries.specs.CodeOrder.{code_order, Sound, first_2, first_8, first_3, sound_clear}
 
 -- ── 9, behind the causes of a code ──
@@ -61,11 +59,7 @@ module _ (p : Pattern) (code : List ℕ) (count : ℕ) (tape : List ℕ) where
   pub flatten_bad : obeys p ≡ false → Flattens p code count tape tape (Err (TreeFault 0))
   flatten_bad o = flatten_no_code (TreeFault 0) (first_2 p code count o)
 
-  module _ (o : obeys p ≡ true) {table : List ℕ} (held : Holds p table) {own ys own' ys' : List ℕ} {m : Option ℕ}
-      (w : Reads code (tree_in table (p.count - 1)) count own ys own' ys' m) where
-    k : Reads code (root p) count own ys own' ys' m
-    k = reads-root p table o held w
-
+  module _ (o : obeys p ≡ true) {own ys own' ys' : List ℕ} {m : Option ℕ} (k : Reads code (root p) count own ys own' ys' m) where
     pub flatten_not : m ≡ None → Flattens p code count tape tape (Err NotACode)
     flatten_not f = flatten_no_code NotACode (first_8 p code count o (measured_no (root p) code count m k.is f))
 

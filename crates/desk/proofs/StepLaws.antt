@@ -1,12 +1,12 @@
--- What single steps on a desk come to: testing a page's length and the limits of a desk that it is put on, the limits of a count and its lengths,
--- and a page put on or taken off. No answer needs these laws, since `contains`, `then_some` and `?` make the cases, and a desk is changed where it lies.
-use Rattle.std.specs.Prelude.{◌≡◌, Bool, true, false, ◌&&◌, cond, List, ℕ, suc, ◌+◌, ◌-◌, ◌≤◌, ◌<◌, leb, get_or, take, set, Option, Some, None, Result, Ok}
+-- What single steps on a desk come to: testing a page's length, the limits of a count and its lengths, and a page put on or
+-- taken off. No answer needs these laws, since `contains`, `then_some` and `?` make the cases, and a desk is changed where it lies.
+use Rattle.std.specs.Prelude.{◌≡◌, false, List, ℕ, suc, ◌+◌, ◌-◌, ◌≤◌, ◌<◌, leb, get_or, take, set, Option, None, Result, Ok}
 use Rattle.std.proofs.Common.{ap, ◌∙◌, arith, le-leb}
 use Rattle.std.proofs.lemmas.Bool.{lt-leb}
 use Rattle.desk.specs.declared.Desk.{Desk}
 use Rattle.desk.specs.declared.DeskRefusal.{DeskRefusal}
-use Rattle.desk.specs.Desks.{page_limit, page_letters, good_page, every, lengths_held, held, limits_kept, desk_good, with_page, without_page}
-use Rattle.desk.specs.Limits.{pages_limits, desk_limits, held_limits}
+use Rattle.desk.specs.Desks.{page_limit, page_letters, good_page, lengths_held, held, limits_kept, with_page, without_page}
+use Rattle.desk.specs.Limits.{pages_limits, desk_limits}
 use Rattle.desk.specs.Pages.{less-held}
 
 -- ── a page's length ──
@@ -31,19 +31,6 @@ module _ (count : ℕ) (lengths : List ℕ) where
   pub limits_summed : count ≤ page_limit → (r : Option ℕ) → r ≡ pages_limits (take count lengths) → r ≡ desk_limits (desk_of count lengths)
   unfolding desk_limits limits_kept pages_limits held lengths_held
   limits_summed h r e = e ∙ rw (le-leb count page_limit h)
-
--- ── the limits where a page of so many letters is to be put ──
-unfoldable pub put_limits : (letters : ℕ) → Desk → (cells : List ℕ) → Option ℕ
-put_limits n d cells = cond (good_page n && desk_good d cells) (Some (held d)) None
-
-module _ (n : ℕ) (d : Desk) (cells : List ℕ) where
-  pub put-page_wrong : good_page n ≡ false → None ≡ put_limits n d cells
-  unfolding put_limits
-  put-page_wrong e = rw e
-
-  pub put-page-right : good_page n ≡ true → (r : Option ℕ) → r ≡ held_limits d cells → r ≡ put_limits n d cells
-  unfolding put_limits held_limits
-  put-page-right e r f = f ∙ rw e
 
 -- ── a page put on, and a page taken off ──
 pub with_page-made : (d : Desk) (n : ℕ) → record { count = d.count + 1; lengths = set d.lengths d.count n } ≡ with_page d n

@@ -4,7 +4,7 @@ use Rattle.std.proofs.Common.{sym, ap, subst, ◌∙◌, arith, lt-ltb, le-ltb, 
 use Rattle.std.proofs.Math.Bool.{not}
 use Rattle.std.proofs.lemmas.Bool.{lt-leb, eqb-false, not-false}
 use Rattle.syntax.specs.declared.Pattern.{Pattern}
-use Rattle.syntax.specs.Bools.{and_intro, and_fst, and_snd}
+use Rattle.syntax.specs.Bools.{and_fst, and_snd}
 use Rattle.syntax.specs.Letter.{first_bad, letter_limit}
 use Rattle.syntax.specs.Table.{obeys}
 use Rattle.refusals.specs.declared.Refusal.TheVariants.{Tree as TreeFault, TapeByte, WordsTooShort, TapeTooShort}
@@ -15,7 +15,7 @@ use Rattle.desk.specs.declared.DeskRefusal.{DeskRefusal}
 use Rattle.desk.specs.declared.DeskRefusal.TheVariants.{Base, DeskLimits, DeskFull, DeskEmpty}
 use Rattle.desk.specs.Desks.{page_limit, page_letters, good_page, held, limits_kept, desk_good, desk_refused, DeskTest, words_for}
 use Rattle.desk.specs.Desks.{open_order, lent_order, page_order, put_order, held_order, withdraw_order}
-use Rattle.desk.specs.Limits.{held_limits, by_kept, by_broken, page_upto, limits_few}
+use Rattle.desk.specs.Limits.{held_limits, put_limits, by_kept, by_broken, page_upto, limits_few}
 
 -- ── the numbers of the orders, laid beside 02's lines ──
 module _ (p : Pattern) (words : ℕ) where
@@ -100,24 +100,26 @@ checks_behind order more n (Err why) c x = first_behind order c x
 
 -- ── putting ──
 module _ (d : Desk) (page letters : List ℕ) (words : ℕ) where
+  -- a page of a wrong length, whatever the desk holds
   pub put_13_page : good_page (length page) ≡ false → First DeskLimits (page_order d page letters words)
   put_13_page e = here (ap (λ b. not (b && desk_good d letters)) e)
 
-  module _ (g : good_page (length page) ≡ true) (r : Option ℕ) (e : r ≡ held_limits d letters) where
+  module _ (r : Option ℕ) (e : r ≡ put_limits (length page) d letters) where
     pub put_13 : r ≡ None → First DeskLimits (page_order d page letters words)
-    unfolding held_limits
-    put_13 k =
-        here (ap not (ap (λ b. b && desk_good d letters) g ∙ by_broken (desk_good d letters) (held d) r e k))
+    unfolding put_limits
+    put_13 k = here (ap not (by_broken (good_page (length page) && desk_good d letters) (held d) r e k))
 
     module _ (h : ℕ) (k : r ≡ Some h) where
       right : ((good_page (length page) && desk_good d letters) ≡ true) × (h ≡ held d)
-      unfolding held_limits
-      right = let t = by_kept (desk_good d letters) (held d) r e h k in (and_intro g t.0, t.1)
+      unfolding put_limits
+      right = by_kept (good_page (length page) && desk_good d letters) (held d) r e h k
 
       -- the bounds that the sums need
       pub put_few : (h ≤ letter_limit) × (length page ≤ page_letters)
       put_few =
-          let f = good_few d letters (and_snd (good_page (length page)) (desk_good d letters) right.0) in
+          let t = right.0 in
+          let g = and_fst (good_page (length page)) (desk_good d letters) t in
+          let f = good_few d letters (and_snd (good_page (length page)) (desk_good d letters) t) in
           (omega (arith, f.0, right.1), page_upto (length page) g)
 
       pub put_14 : page_limit ≤ d.count → First DeskFull (page_order d page letters words)

@@ -24,6 +24,10 @@ desk_limits d = cond (limits_kept d) (Some (held d)) None
 unfoldable pub held_limits : Desk → (letters : List ℕ) → Option ℕ
 held_limits d letters = cond (desk_good d letters) (Some (held d)) None
 
+-- the same, where a page of so many letters is to be put
+unfoldable pub put_limits : (letters : ℕ) → Desk → (cells : List ℕ) → Option ℕ
+put_limits n d cells = cond (good_page n && desk_good d cells) (Some (held d)) None
+
 kept_broken : (n : ℕ) → Some n ≡ None → ⊥
 kept_broken n e = let z : ◌≡◌ {A = ℕ} 0 1 = ap (λ l. told l) e in omega arith
   where
@@ -188,3 +192,13 @@ module _ (d : Desk) (letters : List ℕ) (r : Option ℕ) (e : r ≡ desk_limits
           go : Dec (n ≤ bad) → then_some (leb n bad) n ≡ held_limits d letters
           go (yes h) = ap (λ b. then_some b n) (le-leb n bad h) ∙ held-good h
           go (no h) = ap (λ b. then_some b n) (lt-leb n bad (omega arith)) ∙ held-bad (omega arith)
+
+-- ── a page of so many letters, behind the test of its length ──
+module _ (n : ℕ) (d : Desk) (cells : List ℕ) where
+  pub put-page_wrong : good_page n ≡ false → None ≡ put_limits n d cells
+  unfolding put_limits
+  put-page_wrong e = rw e
+
+  pub put-page-right : good_page n ≡ true → (r : Option ℕ) → r ≡ held_limits d cells → r ≡ put_limits n d cells
+  unfolding put_limits held_limits
+  put-page-right e r f = f ∙ rw e

@@ -8,7 +8,7 @@ use Rattle.std.specs.List.{push}
 use Rattle.std.specs.Int.Bits.{bit_or, bit_and}
 use Rattle.syntax.specs.declared.Pattern.{Pattern}
 use Rattle.syntax.specs.Letter.{is_letter, letter_limit}
-use Rattle.syntax.specs.Trees.{root, tree_of}
+use Rattle.syntax.specs.Trees.{root}
 use Rattle.syntax.specs.TreeLaws.{Rules}
 use Rattle.bits.specs.Bits.{bit, test_bit}
 use Rattle.bits.specs.Joining.{Joining, joining_next, joining_end}
@@ -17,10 +17,9 @@ use Rattle.bits.specs.Unions.{pick, union, union_same}
 use Rattle.semantics.specs.Begins.{Reach, Resumes}
 use Rattle.semantics.specs.Sweeps.{at_end}
 use Rattle.semantics.specs.Every.{All}
-use Rattle.table.specs.Cells.{follower_in, line_in, Holds}
-use Rattle.masks.specs.Leaves.{entry, letter_cells}
-use Rattle.masks.specs.Making.{masks-of-pattern}
-use Rattle.masks.specs.Masks.{Filled, LeafMasks, MasksOf, line_takers}
+use Rattle.table.specs.Cells.{follower_in, Holds}
+use Rattle.masks.specs.Leaves.{entry}
+use Rattle.masks.specs.Masks.{MasksOf}
 use Rattle.masks.specs.Scatter.{shifted}
 use Rattle.steps.specs.declared.Words.{Words}
 use Rattle.steps.specs.Steps.{step_of}
@@ -169,12 +168,7 @@ every_letter : (w : List ℕ) → ((i : ℕ) → i < length w → is_letter (get
 every_letter [] h = tt
 every_letter (c ∷ w) h = (h 0 (omega arith), every_letter w (λ j k. h (suc j) (omega arith)))
 
-module _ {p : Pattern} {tape zs os ts ks : List ℕ} {e : ℕ} (f : Locatable p tape) (h : Holds p ts)
-    (leaves : LeafMasks (tree_of (line_in ts) (p.count - 1)) p.count zs os e)
-    (letters : Filled 0 (λ c. line_takers (line_in ts) c p.count) letter_cells letter_cells ks) where
-  m : MasksOf (root p) p.count zs os ks e
-  m = masks-of-pattern p f.rules ts h zs os ks e leaves letters
-
+module _ {p : Pattern} {tape zs os ts ks : List ℕ} {e : ℕ} (f : Locatable p tape) (h : Holds p ts) (m : MasksOf (root p) p.count zs os ks e) where
   pub reached : (k : ℕ) → k ≡ reach_words os ts ks p.count tape → Reach (root p) tape k
   reached k q = rw q (reach_words-reach p f.rules zs os ts ks e h m tape (every_letter tape f.letters))
 

@@ -16,7 +16,7 @@ use Rattle.fields.specs.Text.{place, single, no_account, account, when, star_of,
 use Rattle.fields.specs.Fields.{stops, below, below_none, below_some, FieldAt, field_size, field_found}
 use Rattle.scanning.specs.Scans.{first_fields, first_closed, first_size, scan_of, scan_by, behind, scanned, parts_say, account_says}
 use Rattle.scanning.specs.Cuts.{some-field}
-use Rattle.scanning.specs.Scanning.{Says, NoLong, scan_none, scan_no_field, scan_field, behind_nothing, account_no_big, account_no_long, parts_no_long, parts_no_second, parts_no_more, line_alone, line_no_long, line_short, line_no_kind, line-account}
+use Rattle.scanning.specs.Scanning.{Says, NoLong, scan_none, scan_no_field, scan_field, behind_nothing, account_no_big, account_no_long, parts_no_long, parts_no_second, parts_no_more, line_no_place, line_alone, line_no_long, line_short, line_no_kind, line-account}
 
 -- ── a kind and its fields ──
 pub big_no_letter : (c : ℕ) → 255 < c → is_letter c ≡ false
@@ -303,6 +303,9 @@ module _ (s : List ℕ) (at : ℕ) {x : List ℕ} {next : ℕ} {t : Option Bool}
   module _ (i : ℕ) (l : i < 64) where
     pub line_no_tab : (t ≡ Some false → ⊥) → None ≡ scanned i at (drop at s)
     line_no_tab h = fault_not_tab (line_of i) r h (line_alone i) (line_no_long i l)
+
+    pub line_misplaced : (place x ≡ i → ⊥) → None ≡ scanned i at (drop at s)
+    line_misplaced h = fault_field (line_of i) r (line_no_place i x h) (line_no_long i l)
 
     module _ (e : t ≡ Some false) {y : List ℕ} {end : ℕ} {u : Option Bool} (q : Reads s next y end u) where
       pub line-no_account : (u ≡ Some false → ⊥) → None ≡ scanned i at (drop at s)

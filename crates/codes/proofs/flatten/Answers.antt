@@ -3,6 +3,7 @@ use Rattle.std.proofs.lemmas.Result.{err_from_is_err_and}
 use Rattle.syntax.specs.TreeLaws.{obeys_iff}
 use Rattle.table.specs.CellLaws.{holds_good}
 use Rattle.entries.specs.Measures.{unmeasured}
+use Rattle.entries.specs.GatherLaws.{reads-root}
 use Rattle.codes.specs.FlattenLaws.{flatten_bad, flatten_not, flatten_long, flatten_short, flatten_done}
 use Rattle.std.proofs.Common.{refl, sym, ◌∙◌, arith}
 use Rattle.codes.proofs.flatten.Goals as goal
@@ -25,22 +26,26 @@ enter-measured-requires-clause-good c =
 pub returns-in_err-letters : goal.returns-in_err-letters
 returns-in_err-letters c =
     let o = sym c.obeys_rules.ensures ∙ c.if-not-obeys_rules.false in
+    let read = reads-root _ _ o c.table_of-table.ensures c.enter-measured.ensures in
     let none = unmeasured _ _ _ c.in_err-letters.ensures.value in
     let p = err_from_is_err_and c.from_residual.result c.from_residual.ensures.1 in
-    rw (p.1, p.2, none.1) (flatten_not _ _ _ _ o c.table_of-table.ensures c.enter-measured.ensures none.0)
+    rw (p.1, p.2, none.1) (flatten_not _ _ _ _ o read none.0)
 
 pub returns-then-n-gt-MAX_LETTERS : goal.returns-then-n-gt-MAX_LETTERS
 returns-then-n-gt-MAX_LETTERS c =
     let o = sym c.obeys_rules.ensures ∙ c.if-not-obeys_rules.false in
-    flatten_long _ _ _ _ o c.table_of-table.ensures c.enter-measured.ensures c.in_ok-letters.ensures.ok_part c.if-n-gt-MAX_LETTERS.true
+    let read = reads-root _ _ o c.table_of-table.ensures c.enter-measured.ensures in
+    flatten_long _ _ _ _ o read c.in_ok-letters.ensures.ok_part c.if-n-gt-MAX_LETTERS.true
 
 pub returns-then-tape-n : goal.returns-then-tape-n
 returns-then-tape-n c =
     let o = sym c.obeys_rules.ensures ∙ c.if-not-obeys_rules.false in
-    flatten_short _ _ _ _ o c.table_of-table.ensures c.enter-measured.ensures c.in_ok-letters.ensures.ok_part c.if-n-gt-MAX_LETTERS.false c.if-tape-n.true
+    let read = reads-root _ _ o c.table_of-table.ensures c.enter-measured.ensures in
+    flatten_short _ _ _ _ o read c.in_ok-letters.ensures.ok_part c.if-n-gt-MAX_LETTERS.false c.if-tape-n.true
 
 pub returns : goal.returns
 returns c =
     let o = sym c.obeys_rules.ensures ∙ c.if-not-obeys_rules.false in
-    flatten_done _ _ _ _ o c.table_of-table.ensures c.enter-measured.ensures c.in_ok-letters.ensures.ok_part c.if-n-gt-MAX_LETTERS.false c.if-tape-n.false refl
+    let read = reads-root _ _ o c.table_of-table.ensures c.enter-measured.ensures in
+    flatten_done _ _ _ _ o read c.in_ok-letters.ensures.ok_part c.if-n-gt-MAX_LETTERS.false c.if-tape-n.false refl
     _ c.copy_from_slice.ensures.after

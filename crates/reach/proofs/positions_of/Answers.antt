@@ -1,7 +1,7 @@
 -- `reach::positions_of` meets its contract.
 use native.Mathlib.Omega.{arith}
 use Rattle.masks.specs.Leaves.{letter_cells}
-use Rattle.masks.specs.Making.{none_marked, holds_maskable}
+use Rattle.masks.specs.Making.{none_marked, holds_maskable, masks-of-pattern}
 use Rattle.reach.specs.Reaching.{told, reach_fits, resume_fits}
 use Rattle.reach.proofs.positions_of.Goals as goal
 
@@ -13,10 +13,20 @@ put_takers-requires c = let table = holds_maskable _ c.requires.0.rules _ c.requ
     (table.whole.few, table.good, none_marked letter_cells)
 
 pub overflow_cast-result : goal.overflow_cast-result
-overflow_cast-result c = omega (arith, reach_fits c.requires.0 c.requires.1 c.put_masks-end.ensures c.put_takers.ensures _ c.reach_over-reach.ensures)
+overflow_cast-result c = omega (
+  arith,
+  reach_fits c.requires.0 c.requires.1
+      (masks-of-pattern _ c.requires.0.rules _ c.requires.1 _ _ _ _ c.put_masks-end.ensures c.put_takers.ensures) _ c.reach_over-reach.ensures,
+)
 
 pub overflow_cast-result-2 : goal.overflow_cast-result-2
-overflow_cast-result-2 c = omega (arith, resume_fits c.requires.0 c.requires.1 c.put_masks-end.ensures c.put_takers.ensures _ c.resume_over-resume.ensures)
+overflow_cast-result-2 c = omega (
+  arith,
+  resume_fits c.requires.0 c.requires.1
+      (masks-of-pattern _ c.requires.0.rules _ c.requires.1 _ _ _ _ c.put_masks-end.ensures c.put_takers.ensures) _ c.resume_over-resume.ensures,
+)
 
 pub returns : goal.returns
-returns c = told c.requires.0 c.requires.1 c.put_masks-end.ensures c.put_takers.ensures _ _ c.reach_over-reach.ensures c.resume_over-resume.ensures
+returns c = told c.requires.0 c.requires.1
+    (masks-of-pattern _ c.requires.0.rules _ c.requires.1 _ _ _ _ c.put_masks-end.ensures c.put_takers.ensures) _ _
+    c.reach_over-reach.ensures c.resume_over-resume.ensures
