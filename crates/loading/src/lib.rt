@@ -3,7 +3,8 @@
 // scanning reads a line, crate fields a field.
 #![tactic(auto)]
 
-ghost use Rattle.loading.specs.Load.{Loads};
+ghost use Rattle.std.specs.Prelude.{◌≡◌};
+ghost use Rattle.loading.specs.Load.{Loads, load_table};
 
 mod lines; // lines.rt: the lines of a text
 
@@ -23,5 +24,15 @@ pub fn load(text: &[u8]) -> Result<Pattern, Refusal>
     match tree_fault_of(pattern) {
         Some(line) => Err(Refusal::Tree(line as u32)),
         None => Ok(pattern),
+    }
+}
+
+// The table of a text, whatever text it is. One that is refused has a table of no lines, which every service refuses.
+pub fn pattern_of(text: &[u8]) -> Pattern
+    ensures { result ≡ load_table text.now }
+{
+    match load(text) {
+        Ok(pattern) => pattern,
+        Err(_) => Pattern::new(),
     }
 }

@@ -7,7 +7,7 @@ ghost use Rattle.std.specs.Prelude.{◌≡◌, ◌≤◌, length};
 ghost use Rattle.syntax.specs.Letter.{letter_limit};
 ghost use Rattle.entries.specs.Gather.{pairs, Owned};
 ghost use Rattle.terms.specs.declared.TermRefusal.TheVariants.{Base};
-ghost use Rattle.terms.specs.Terms.{term_number, term_value, DatesTotals, TermTotals};
+ghost use Rattle.terms.specs.Terms.{term_number, term_value, term_litres, DatesTotals, TermTotals};
 
 mod days; // days.rt: the dates of letters, and which of them lie in a term
 mod selection; // selection.rt: selecting the entries of a term
@@ -100,4 +100,13 @@ pub fn term_totals(
     let mut accounts = [0; Pattern::MAX_LETTERS];
     let n = gather(p, code, count, &mut letters, &mut accounts)?;
     total_dates(&mut letters, &mut accounts, n, start, term)
+}
+
+// The litres of all accounts within a term, 0 of each where totalling is refused.
+pub fn term_litres(
+    totalled: Result<[u32; Pattern::ACCOUNTS], TermRefusal>,
+) -> [u32; Pattern::ACCOUNTS]
+    ensures { result ≡ term_litres totalled }
+{
+    totalled.unwrap_or([0; Pattern::ACCOUNTS])
 }

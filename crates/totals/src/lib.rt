@@ -5,7 +5,7 @@ ghost use Rattle.std.specs.Prelude.{◌≡◌, ◌≤◌, length};
 ghost use Rattle.syntax.specs.Letter.{letter_limit};
 ghost use Rattle.semantics.specs.Accounts.{litres, totals};
 ghost use Rattle.entries.specs.Gather.{pairs, Owned};
-ghost use Rattle.totals.specs.Totals.{Totals};
+ghost use Rattle.totals.specs.Totals.{totalled_litres, Totals};
 
 use entries::gather;
 use refusals::Refusal;
@@ -41,4 +41,13 @@ pub fn totals(p: Pattern, code: &[u8], count: u32) -> Result<[u32; Pattern::ACCO
     let mut accounts = [0; Pattern::MAX_LETTERS];
     let n = gather(p, code, count, &mut letters, &mut accounts)?;
     Ok(add_up(&letters, &accounts, n))
+}
+
+// The litres of all accounts, 0 of each where totalling is refused.
+pub fn totalled_litres(
+    totalled: Result<[u32; Pattern::ACCOUNTS], Refusal>,
+) -> [u32; Pattern::ACCOUNTS]
+    ensures { result ≡ totalled_litres totalled }
+{
+    totalled.unwrap_or([0; Pattern::ACCOUNTS])
 }

@@ -1,4 +1,4 @@
--- Parts of a case's line: the totals of a code, the piece of a visit, and the dates that a case hands over.
+-- Parts of a case's line: what a service answers, the totals of a code, the piece of a visit, and the dates that a case hands over.
 use Rattle.std.specs.Prelude.{◌≡◌, cond, List, [], ◌∷◌, ◌++◌, ℕ, ◌+◌, ◌-◌, ◌≤◌, ◌<◌, min, eqb, length, take, drop, get_or}
 use Rattle.std.proofs.Common.{sym, ap, ap₂, subst, ◌∙◌, arith}
 use Rattle.std.proofs.Math.Decide.{dec_le}
@@ -6,9 +6,14 @@ use Rattle.calendar.specs.declared.Date.{Date}
 use Rattle.calendar.specs.Dates.{date}
 use Rattle.std.proofs.Math.ListN.{get_or-eq_default}
 use Rattle.syntax.specs.Table.{one_digit_limit}
-use Rattle.text.specs.Text.{Puts, field}
+use Rattle.refusals.specs.Refusals.{Answer}
+use Rattle.text.specs.Text.{Puts, field, pair}
 use Rattle.vector_text.specs.Cases.{part, bytes_digest, shown_text, left_text, numbers_text, number_of_text, before_byte, behind_byte}
 use Rattle.vector_codes.specs.declared.code_cases.Lent.{Lent}
+
+-- number and value, parted by a tab
+abbrev pub answer_text : Answer → List ℕ
+answer_text a = pair a.number a.value
 
 -- start and length of a piece, the length of what is returned, and its letters, each behind a tab
 abbrev pub piece_text : (start size : ℕ) → (piece : List ℕ) → List ℕ
@@ -87,3 +92,7 @@ date-made line {d = d} from-month from-day at-year year at-month month at-day da
     let m = month ∙ ap number_of_text (at-month ∙ ap (before_byte 32) from-month) in
     let e = day ∙ ap number_of_text (at-day ∙ ap (before_byte 32) (from-day ∙ ap (behind_byte 32) from-month)) in
     ap₂ (λ x z. date x z d) (year ∙ ap number_of_text at-year) m ∙ ap (date _ _) e
+
+-- one law for every way of answering
+pub puts_answer : {out after : List ℕ} {r : ℕ} (a b : Answer) → b ≡ a → Puts out 0 (answer_text b) after r → Puts out 0 (answer_text a) after r
+puts_answer {out} {after} {r} a b e h = subst (λ x. Puts out 0 (answer_text x) after r) e h

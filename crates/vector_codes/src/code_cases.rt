@@ -3,16 +3,17 @@
 // cells, words and code bytes are lent, in decimal. The lent parts are the starts of larger arrays, whose cells are
 // set before each call. Each `put_` function puts its bytes into `out` from `at` on and answers where they end. What does
 // not fit is left out.
+ghost use Rattle.totals.specs.Totals.{totals_outcome};
 ghost use Rattle.text.specs.Text.{Puts};
-ghost use Rattle.vector_codes.specs.Answers.{Shown, PutsTotals, letters_text, settled_text};
+ghost use Rattle.vector_codes.specs.Answers.{answer_text, Shown, PutsTotals, letters_text, settled_text};
 
 use canonical::canonicalize;
 use codes::flatten;
 use refusals::Refusal;
 use std::io;
 use syntax::Pattern;
-use text::put_answer;
-use totals::totals;
+use text::{put_answer, put_pair, put_refusal};
+use totals::{totalled_litres, totals};
 use vector_text::{
     ALL_BYTES, ALL_WORDS, BYTE_BEFORE, MAX_CODE, START, WORD_BEFORE, decode_all, digest_of, field,
     number, print_line, put_digest, put_left, put_numbers, rest, say_bad,
@@ -95,15 +96,24 @@ fn run_spelling(
     print_line(rt, &mut out, b)
 }
 
-// The line of totalling. An accepted call has value 0, and a refused one 0 litres for each account.
+// Number and value, from the start of `out`: an accepted call has value 0.
+fn put_outcome(out: &mut [u8], totalled: Result<[u32; Pattern::ACCOUNTS], Refusal>) -> usize
+    ensures { Puts out.old 0 (answer_text (totals_outcome totalled)) out.new result }
+{
+    match totalled {
+        Ok(_) => put_pair(out, 0, 0, 0),
+        Err(why) => put_refusal(out, 0, why),
+    }
+}
+
+// The line of totalling.
 fn print_totals(
     rt: &impl Print,
     totalled: Result<[u32; Pattern::ACCOUNTS], Refusal>,
 ) -> io::Result<()> {
     let mut out = [0u8; 1024];
-    let a = put_answer(&mut out, 0, totalled.map(|_| 0));
-    let litres = totalled.unwrap_or([0; Pattern::ACCOUNTS]);
-    let b = put_totals(&mut out, a, &litres);
+    let a = put_outcome(&mut out, totalled);
+    let b = put_totals(&mut out, a, &totalled_litres(totalled));
     print_line(rt, &mut out, b)
 }
 

@@ -1,17 +1,39 @@
 // Showing a visit's piece: what the services answer, one line a case, fields parted by tabs. Behind the pattern's text a
 // case has the tape and the code's bytes, both in hexadecimal, and the code's bit count, the node and the visit, in
 // decimal.
+ghost use Rattle.std.specs.Prelude.{◌≡◌};
+ghost use Rattle.spans.specs.Spans.{span_outcome, span_given};
 ghost use Rattle.text.specs.Text.{Puts};
-ghost use Rattle.vector_codes.specs.Answers.{piece_text};
+ghost use Rattle.vector_codes.specs.Answers.{answer_text, piece_text};
 
 use refusals::Refusal;
 use spans::{Span, piece, span};
 use std::io;
 use syntax::Pattern;
-use text::{put_answer, put_parted};
+use text::{put_pair, put_parted, put_refusal};
 use vector_text::{
     MAX_CODE, MAX_TAPE, decode_all, field, number, print_line, put_shown, rest, say_bad,
 };
+
+// Number and value, from the start of `out`: an accepted call has value 0.
+fn put_outcome(out: &mut [u8], spanned: Result<Span, Refusal>) -> usize
+    ensures { Puts out.old 0 (answer_text (span_outcome spanned)) out.new result }
+{
+    match spanned {
+        Ok(_) => put_pair(out, 0, 0, 0),
+        Err(why) => put_refusal(out, 0, why),
+    }
+}
+
+// Where the piece starts and how long it is: 0 and 0 where the call is refused.
+fn shown_of(spanned: Result<Span, Refusal>) -> Span
+    ensures { result ≡ span_given spanned }
+{
+    spanned.unwrap_or(Span {
+        start: 0,
+        length: 0,
+    })
+}
 
 // Where the piece starts and how long it is, and the piece with its own length.
 fn put_piece(out: &mut [u8], at: usize, start: u32, length: u32, piece: &[u8]) -> usize
@@ -24,15 +46,12 @@ fn put_piece(out: &mut [u8], at: usize, start: u32, length: u32, piece: &[u8]) -
 }
 
 // Prints the line of a case, which takes less than 1,024 bytes: number, value, start, length, and the piece with its own
-// length. An accepted call has value 0, and a refused one start and length 0.
+// length.
 fn print_spanned(rt: &impl Print, spanned: Result<Span, Refusal>, piece: &[u8]) -> io::Result<()> {
     let mut out = [0u8; 1024];
-    let a = put_answer(&mut out, 0, spanned.map(|_| 0));
-    let Span { start, length } = spanned.unwrap_or(Span {
-        start: 0,
-        length: 0,
-    });
-    let b = put_piece(&mut out, a, start, length, piece);
+    let a = put_outcome(&mut out, spanned);
+    let shown = shown_of(spanned);
+    let b = put_piece(&mut out, a, shown.start, shown.length, piece);
     print_line(rt, &mut out, b)
 }
 

@@ -2,26 +2,36 @@
 // pattern's text a case has the code's bytes in hexadecimal, and in decimal the code's bit count and nine numbers: year,
 // month and day of the tape's start, of the term's first date and of its last.
 ghost use Rattle.std.specs.Prelude.{◌≡◌};
-ghost use Rattle.vector_codes.specs.Answers.{date_read, behind_date};
+ghost use Rattle.terms.specs.Terms.{term_outcome};
+ghost use Rattle.text.specs.Text.{Puts};
+ghost use Rattle.vector_codes.specs.Answers.{answer_text, date_read, behind_date};
 
 use crate::code_cases::put_totals;
 use calendar::Date;
 use std::io;
 use syntax::Pattern;
-use terms::{Term, TermRefusal, term_totals};
-use text::put_answer;
+use terms::{Term, TermRefusal, term_litres, term_totals};
+use text::{put_pair, put_refusal};
 use vector_text::{MAX_CODE, decode_all, field, number, print_line, rest, say_bad};
 
-// Prints the line of a case, which takes less than 1,024 bytes: number, value, and the totals that are shown. An
-// accepted call has value 0, and a refused one 0 litres for each account.
+// Number and value, from the start of `out`: an accepted call has value 0.
+fn put_outcome(out: &mut [u8], totalled: Result<[u32; Pattern::ACCOUNTS], TermRefusal>) -> usize
+    ensures { Puts out.old 0 (answer_text (term_outcome totalled)) out.new result }
+{
+    match totalled {
+        Ok(_) => put_pair(out, 0, 0, 0),
+        Err(why) => put_refusal(out, 0, why),
+    }
+}
+
+// Prints the line of a case, which takes less than 1,024 bytes: number, value, and the totals that are shown.
 fn print_totalled(
     rt: &impl Print,
     totalled: Result<[u32; Pattern::ACCOUNTS], TermRefusal>,
 ) -> io::Result<()> {
     let mut out = [0u8; 1024];
-    let a = put_answer(&mut out, 0, totalled.map(|_| 0));
-    let litres = totalled.unwrap_or([0; Pattern::ACCOUNTS]);
-    let b = put_totals(&mut out, a, &litres);
+    let a = put_outcome(&mut out, totalled);
+    let b = put_totals(&mut out, a, &term_litres(totalled));
     print_line(rt, &mut out, b)
 }
 

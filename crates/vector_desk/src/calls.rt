@@ -2,10 +2,9 @@
 // there are, a step lends all of them. A text that does not load has a table that every call refuses with 2, as from C.
 use crate::shown::print_call;
 use desk::{open, put, withdraw};
-use loading::load;
+use loading::pattern_of;
 use packing::{DESK_BYTES, desk_of, put_desk};
 use std::io;
-use syntax::Pattern;
 use text::{put_byte, put_bytes};
 use vector_text::{MAX_TAPE, decode, field, number, rest, say_bad};
 
@@ -14,10 +13,6 @@ use vector_text::{MAX_TAPE, decode, field, number, rest, say_bad};
 pub(crate) struct Next {
     pub(crate) left: usize,
     pub(crate) size: usize,
-}
-
-fn loaded(text: &[u8]) -> Pattern {
-    load(text).unwrap_or(Pattern::new())
 }
 
 fn run_open(
@@ -30,7 +25,7 @@ fn run_open(
 ) -> io::Result<usize> {
     let lent = (number(field(line)) as usize).min(words.len());
     let mut held = desk_of(desk);
-    let answer = open(&mut held, loaded(text), &mut words[..lent]);
+    let answer = open(&mut held, pattern_of(text), &mut words[..lent]);
     put_desk(held, desk);
     print_call(rt, answer, desk, letters, words)?;
     Ok(rest(line).len())
@@ -52,7 +47,7 @@ fn put_lent(
     let mut held = desk_of(desk);
     let answer = put(
         &mut held,
-        loaded(text),
+        pattern_of(text),
         page,
         &mut letters[..cells],
         &mut words[..lent],
@@ -85,7 +80,7 @@ fn run_withdraw(
 ) -> io::Result<usize> {
     let cells = (number(field(line)) as usize).min(letters.len());
     let mut held = desk_of(desk);
-    let answer = withdraw(&mut held, loaded(text), &letters[..cells]);
+    let answer = withdraw(&mut held, pattern_of(text), &letters[..cells]);
     put_desk(held, desk);
     print_call(rt, answer, desk, letters, words)?;
     Ok(rest(line).len())

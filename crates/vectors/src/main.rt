@@ -13,7 +13,7 @@ mod parse_cases; // parse_cases.rt: reading a tape
 mod table_cases; // table_cases.rt: tables that no text gives
 
 use load_cases::print_loaded;
-use loading::load;
+use loading::{load, pattern_of};
 use locate_cases::run_locate;
 use parse_cases::run_parse;
 use std::io;
@@ -53,12 +53,10 @@ fn run_altered(rt: &impl Print, p: Pattern, line: &[u8]) -> io::Result<()> {
 
 // A text that does not load has a table of no lines, which every service refuses.
 fn run_kind(rt: &impl Print, kind: u8, text: &[u8], line: &[u8]) -> io::Result<()> {
-    let loaded = load(text);
-    let p = loaded.unwrap_or(Pattern::new());
     match kind {
-        b'l' => print_loaded(rt, loaded),
-        b'a' => run_altered(rt, p, line),
-        _ => run_service(rt, kind, p, line),
+        b'l' => print_loaded(rt, load(text)),
+        b'a' => run_altered(rt, pattern_of(text), line),
+        _ => run_service(rt, kind, pattern_of(text), line),
     }
 }
 

@@ -5,7 +5,7 @@
 #![tactic(auto)]
 
 ghost use Rattle.std.specs.Prelude.{◌≡◌};
-ghost use Rattle.loading.specs.Load.{load_answer, load_table};
+ghost use Rattle.loading.specs.Load.{load_answer};
 ghost use Rattle.packing.specs.Packing.{unpacked};
 ghost use Rattle.wumbyra.specs.Packed.{version_number, ParsesText, FlattensText, CanonicalizesText, LocatesText};
 ghost use Rattle.wumbyra.specs.Packed.{span_text, total_text, TotalsText, TermTotalsText};
@@ -15,7 +15,7 @@ use calendar::date_of;
 use canonical::canonicalize;
 use codes::flatten;
 use desk::{open, put, withdraw};
-use loading::load;
+use loading::{load, pattern_of};
 use packing::{
     DESK_BYTES, desk_of, give_litres, halves, litres_of, of_answer, of_cause, of_located,
     of_other_length, packed, put_desk,
@@ -24,7 +24,6 @@ use parser::parse;
 use reach::locate;
 use refusals::Cause;
 use spans::span;
-use syntax::Pattern;
 use terms::{Term, term_totals};
 use totals::totals;
 
@@ -42,13 +41,6 @@ pub extern "C" fn wumbyra_version() -> u32
     ensures { result ≡ version_number }
 {
     VERSION_NUMBER
-}
-
-// The table of a text. One that does not load has a table of no lines, which every service refuses.
-fn pattern_of(text: &[u8]) -> Pattern
-    ensures { result ≡ load_table text.now }
-{
-    load(text).unwrap_or_else(|_| Pattern::new())
 }
 
 #[unsafe(no_mangle)]
