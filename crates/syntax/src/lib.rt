@@ -86,12 +86,13 @@ impl Pattern {
     }
 }
 
-// Whether a byte is a letter.
+// Whether a byte is a letter. Both ranges are asked, with no branch between: this is asked of each letter of a tape, and at each call of all that a desk holds.
 #[tactic(auto, unfolding(crate::specs::Letter::is_letter))]
 pub fn is_letter(c: u8) -> bool
     ensures { result ≡ is_letter c }
 {
-    matches!(c, Pattern::FIRST_LETTER..=Pattern::LAST_LETTER | Pattern::FIRST_HOT_LETTER..=Pattern::LAST_HOT_LETTER)
+    matches!(c, Pattern::FIRST_LETTER..=Pattern::LAST_LETTER)
+        | matches!(c, Pattern::FIRST_HOT_LETTER..=Pattern::LAST_HOT_LETTER)
 }
 
 // Whether a byte is a letter of a range. A range may run across the gap, so that what lies between its ends is not always a letter.
